@@ -1,0 +1,78 @@
+// Little-endian numbers and runs of bytes in a buffer.
+ghost use mathlib.Core.Path.{_≡_};
+ghost use Prim.Native.Nat.{_+_, _≤_, _<_};
+ghost use lib.ListN.{length, getD};
+ghost use Rattle.buffer.specs.Bytes.{part, fromBytes, toBytes, over};
+
+// The byte at i, as a wide number.
+pub fn byte(t: &[u8], i: usize) -> u64
+    requires { ⌜ i < length (now t) ⌝ }
+    ensures { λ r. ⌜ (r ≡ getD (now (t .entry)) i 0) × (r < 256) ⌝ }
+{
+    t[i] as u64
+}
+
+// The number of two bytes at `at`.
+pub fn get16(t: &[u8], at: usize) -> u64
+    requires { ⌜ at + 2 ≤ length (now t) ⌝ }
+    ensures { λ r. ⌜ r ≡ fromBytes (part (now (t .entry)) at 2) ⌝ }
+{
+    byte(t, at) + 256 * byte(t, at + 1)
+}
+
+// Writes the two lowest bytes of v at `at`.
+pub fn put16(t: &mut [u8], at: usize, v: u64)
+    requires { ⌜ at + 2 ≤ length (now t) ⌝ }
+    ensures { λ _. ⌜ now (t .exit) ≡ over (now (t .entry)) at (toBytes 2 v) ⌝ }
+{
+    t[at] = (v % 256) as u8;
+    t[at + 1] = (v / 256 % 256) as u8;
+}
+
+// The number of eight bytes at `at`.
+pub fn get64(t: &[u8], at: usize) -> u64
+    requires { ⌜ at + 8 ≤ length (now t) ⌝ }
+    ensures { λ r. ⌜ r ≡ fromBytes (part (now (t .entry)) at 8) ⌝ }
+{
+    get16(t, at)
+        + 65536 * get16(t, at + 2)
+        + 4294967296 * get16(t, at + 4)
+        + 281474976710656 * get16(t, at + 6)
+}
+
+// Writes the eight bytes of v at `at`.
+pub fn put64(t: &mut [u8], at: usize, v: u64)
+    requires { ⌜ at + 8 ≤ length (now t) ⌝ }
+    ensures { λ _. ⌜ now (t .exit) ≡ over (now (t .entry)) at (toBytes 8 v) ⌝ }
+{
+    put16(t, at, v);
+    put16(t, at + 2, v / 65536);
+    put16(t, at + 4, v / 4294967296);
+    put16(t, at + 6, v / 281474976710656);
+}
+
+// The 64 bytes at `at`.
+pub fn get_row(t: &[u8], at: usize) -> [u8; 64]
+    requires { ⌜ at + 64 ≤ length (now t) ⌝ }
+    ensures { λ r. ⌜ r ≡ part (now (t .entry)) at 64 ⌝ }
+{
+    let mut row = [0u8; 64];
+    let mut i: usize = 0;
+    while i < 64 {
+        row[i] = t[at + i];
+        i += 1;
+    }
+    row
+}
+
+// Writes 64 bytes at `at`.
+pub fn put_row(t: &mut [u8], at: usize, row: [u8; 64])
+    requires { ⌜ at + 64 ≤ length (now t) ⌝ }
+    ensures { λ _. ⌜ now (t .exit) ≡ over (now (t .entry)) at row ⌝ }
+{
+    let mut i: usize = 0;
+    while i < 64 {
+        t[at + i] = row[i];
+        i += 1;
+    }
+}

@@ -1,0 +1,267 @@
+//! The three calls on numbers and byte buffers.
+
+use crate::item::ToSessions;
+use crate::layout::{mail_length, table_length, within, MOST, MOST_CAPACITY};
+use crate::mailbox::{Direction, Mailbox, Message, Route};
+use crate::misreading::Misreading;
+use crate::session::{Stage, ToItems};
+use crate::table::Table;
+use crate::waits::cycle_members;
+
+/// What a step answers.
+#[derive(Clone, Copy, PartialEq, Eq, Debug, Default)]
+pub struct Answer {
+    pub refusal: u8,
+    pub sent: u8,
+    pub closed: u8,
+    pub victim: u8,
+    pub initiator: u8,
+}
+
+/// What a report answers (01: the length of the ring).
+#[derive(Clone, Copy, PartialEq, Eq, Debug, Default)]
+pub struct Cycle {
+    pub refusal: u8,
+    pub length: u8,
+}
+
+/// Why a call is refused (01: turned back), in the order of the causes.
+#[derive(Clone, Copy, PartialEq, Eq, Debug)]
+#[repr(u8)]
+pub enum Refusal {
+    /// "verb not 1 to 4 (step)"
+    Verb = 1,
+    /// "S, M or C beyond its bounds, or a length not matching"
+    Size = 2,
+    /// "table not in form"
+    Table = 3,
+    /// "mail not in form"
+    Mail = 4,
+    /// "session or item number 0 or above S, M"
+    Number = 5,
+    /// "request outside stage 1, release outside 1 and 3"
+    Stage = 6,
+    /// "request for an item in T's own mask, release of one not in it"
+    Mask = 7,
+    /// "delivery with no entry on that route"
+    NoMessage = 8,
+    /// "count after the step would pass C"
+    Full = 9,
+}
+
+/// The refusal of an accepted call.
+pub const ACCEPTED: u8 = 0;
+
+/// "1 request", "2 release", "3 deliver from T to X. 4 deliver from X to T."
+#[derive(Clone, Copy, PartialEq, Eq, Debug)]
+#[repr(u8)]
+pub enum Verb {
+    Request = 1,
+    Release = 2,
+    DeliverToItem = 3,
+    DeliverToSession = 4,
+}
+
+impl Verb {
+    const ALL: [Verb; 4] = [
+        Verb::Request,
+        Verb::Release,
+        Verb::DeliverToItem,
+        Verb::DeliverToSession,
+    ];
+
+    fn decode(number: u64) -> Option<Verb> {
+        Verb::ALL.into_iter().find(|verb| *verb as u64 == number)
+    }
+}
+
+fn number(given: u64, most: usize) -> Result<u8, Refusal> {
+    let given = within(given, most).ok_or(Refusal::Number)?;
+    Ok(given as u8)
+}
+
+pub fn start(sessions: u64, items: u64, capacity: u64, table: &mut [u8], mail: &mut [u8]) -> u8 {
+    match try_start(sessions, items, capacity, table, mail) {
+        Ok(()) => ACCEPTED,
+        Err(refusal) => refusal as u8,
+    }
+}
+
+fn try_start(
+    sessions: u64,
+    items: u64,
+    capacity: u64,
+    table: &mut [u8],
+    mail: &mut [u8],
+) -> Result<(), Refusal> {
+    let sessions = within(sessions, MOST).ok_or(Refusal::Size)?;
+    let items = within(items, MOST).ok_or(Refusal::Size)?;
+    let capacity = within(capacity, MOST_CAPACITY).ok_or(Refusal::Size)?;
+    // "(start: against its arguments)"
+    if table.len() != table_length(sessions, items) || mail.len() != mail_length(capacity) {
+        return Err(Refusal::Size);
+    }
+    Table::fresh(sessions, items).encode(table);
+    Mailbox::empty(capacity).encode(mail);
+    Ok(())
+}
+
+pub fn step(verb: u64, session: u64, item: u64, table: &mut [u8], mail: &mut [u8]) -> Answer {
+    step_as(Misreading::None, verb, session, item, table, mail)
+}
+
+/// A step by the rules, or by one misreading of them.
+pub fn step_as(
+    misreading: Misreading,
+    verb: u64,
+    session: u64,
+    item: u64,
+    table: &mut [u8],
+    mail: &mut [u8],
+) -> Answer {
+    // A refused step returns "number, zeros".
+    try_step(misreading, verb, session, item, table, mail).unwrap_or_else(|refusal| Answer {
+        refusal: refusal as u8,
+        ..Answer::default()
+    })
+}
+
+/// Causes in order, then the rule. The buffers are written last, so a refused
+/// step leaves them as they were.
+fn try_step(
+    misreading: Misreading,
+    verb: u64,
+    session: u64,
+    item: u64,
+    table: &mut [u8],
+    mail: &mut [u8],
+) -> Result<Answer, Refusal> {
+    let verb = Verb::decode(verb).ok_or(Refusal::Verb)?;
+    let (sessions, items) = Table::size(table).ok_or(Refusal::Size)?;
+    Mailbox::capacity(mail).ok_or(Refusal::Size)?;
+    let mut records = Table::decode(table).ok_or(Refusal::Table)?;
+    let mut mailbox = Mailbox::decode(mail, sessions, items).ok_or(Refusal::Mail)?;
+    let session = number(session, sessions)?;
+    let item = number(item, items)?;
+
+    let mut answer = Answer::default();
+    let sends = match verb {
+        Verb::Request => {
+            let before = records.session(session).clone();
+            if before.stage != Stage::Growing {
+                return Err(Refusal::Stage);
+            }
+            if before.holds(item) {
+                return Err(Refusal::Mask);
+            }
+            let (after, sends) = before.request(item);
+            *records.session_mut(session) = after;
+            from_session(session, sends)
+        }
+        Verb::Release => {
+            let before = records.session(session).clone();
+            if !matches!(before.stage, Stage::Growing | Stage::Shrinking) {
+                return Err(Refusal::Stage);
+            }
+            if !before.holds(item) {
+                return Err(Refusal::Mask);
+            }
+            let (after, sends) = before.release(item);
+            *records.session_mut(session) = after;
+            from_session(session, sends)
+        }
+        Verb::DeliverToItem => {
+            let route = Route {
+                direction: Direction::ToItem,
+                session,
+                item,
+            };
+            let body = mailbox.take(route).ok_or(Refusal::NoMessage)?;
+            let before = records.item(item).clone();
+            let waited = before.queue.contains(&session);
+            let outcome = before.receive(session, body, misreading);
+            let waits = outcome.item.queue.contains(&session);
+            *records.item_mut(item) = outcome.item;
+            // "closed (1 if this step put T in a line and T then lies on a
+            // ring, else 0)"
+            let joined = waits && !waited;
+            if joined && !cycle_members(&records, session).is_empty() {
+                answer.closed = 1;
+            }
+            if let Some((victim, initiator)) = outcome.declared {
+                answer.victim = victim;
+                answer.initiator = initiator;
+            }
+            from_item(item, outcome.sends)
+        }
+        Verb::DeliverToSession => {
+            let route = Route {
+                direction: Direction::ToSession,
+                session,
+                item,
+            };
+            let body = mailbox.take(route).ok_or(Refusal::NoMessage)?;
+            let before = records.session(session).clone();
+            let (after, sends) = before.receive(session, item, body, misreading);
+            *records.session_mut(session) = after;
+            from_session(session, sends)
+        }
+    };
+
+    answer.sent = sends.len() as u8;
+    mailbox.messages.extend(sends);
+    if mailbox.messages.len() > mailbox.capacity {
+        return Err(Refusal::Full);
+    }
+    records.encode(table);
+    mailbox.encode(mail);
+    Ok(answer)
+}
+
+fn from_session(session: u8, sends: ToItems) -> Vec<Message> {
+    let direction = Direction::ToItem;
+    let message = |(item, body)| Message {
+        route: Route {
+            direction,
+            session,
+            item,
+        },
+        body,
+    };
+    sends.into_iter().map(message).collect()
+}
+
+fn from_item(item: u8, sends: ToSessions) -> Vec<Message> {
+    let direction = Direction::ToSession;
+    let message = |(session, body)| Message {
+        route: Route {
+            direction,
+            session,
+            item,
+        },
+        body,
+    };
+    sends.into_iter().map(message).collect()
+}
+
+/// "The report answers the length of the ring on which a session lies, or 0."
+/// It "reads the table alone and gives only 2, 3, 5".
+pub fn report(session: u64, table: &[u8]) -> Cycle {
+    match try_report(session, table) {
+        Ok(length) => Cycle {
+            refusal: ACCEPTED,
+            length,
+        },
+        Err(refusal) => Cycle {
+            refusal: refusal as u8,
+            length: 0,
+        },
+    }
+}
+
+fn try_report(session: u64, table: &[u8]) -> Result<u8, Refusal> {
+    let (sessions, _) = Table::size(table).ok_or(Refusal::Size)?;
+    let records = Table::decode(table).ok_or(Refusal::Table)?;
+    let session = number(session, sessions)?;
+    Ok(cycle_members(&records, session).len() as u8)
+}

@@ -1,0 +1,217 @@
+//! The item record and what an item does.
+
+use crate::layout::{within, ITEM_SIZE, MOST};
+use crate::mailbox::Body;
+use crate::misreading::Misreading;
+use crate::session::senior;
+
+#[derive(Clone, PartialEq, Eq, Debug)]
+pub struct Item {
+    /// The holder, or 0.
+    pub holder: u8,
+    /// The wait queue (01: the line), in order.
+    pub queue: Vec<u8>,
+}
+
+/// Messages to sessions, in order of sending.
+pub type ToSessions = Vec<(u8, Body)>;
+
+/// What an item leaves after a delivery.
+pub struct Outcome {
+    pub item: Item,
+    pub sends: ToSessions,
+    /// Victim and initiator, if the item declares.
+    pub declared: Option<(u8, u8)>,
+}
+
+/// Where the fields of the record stand.
+const HOLDER: usize = 0;
+const LENGTH: usize = 1;
+const QUEUE: usize = 2;
+
+impl Item {
+    pub fn fresh() -> Item {
+        Item {
+            holder: 0,
+            queue: Vec::new(),
+        }
+    }
+
+    /// The record, if it is well-formed: "holders are 0 to S; the sessions of a
+    /// line are distinct, in 1 to S, and none is the holder; what follows the
+    /// line is zero".
+    pub fn decode(bytes: &[u8], sessions: usize) -> Option<Item> {
+        let holder = bytes[HOLDER];
+        let length = usize::from(bytes[LENGTH]);
+        if usize::from(holder) > sessions || length > MOST {
+            return None;
+        }
+        let (queue, unused) = bytes[QUEUE..ITEM_SIZE].split_at(length);
+        let distinct = (1..queue.len()).all(|k| !queue[..k].contains(&queue[k]));
+        let known = queue.iter().all(|&s| within(s.into(), sessions).is_some());
+        let fits =
+            distinct && known && !queue.contains(&holder) && unused.iter().all(|&byte| byte == 0);
+        fits.then(|| Item {
+            holder,
+            queue: queue.to_vec(),
+        })
+    }
+
+    pub fn encode(&self, bytes: &mut [u8]) {
+        bytes.fill(0);
+        bytes[HOLDER] = self.holder;
+        bytes[LENGTH] = self.queue.len() as u8;
+        bytes[QUEUE..QUEUE + self.queue.len()].copy_from_slice(&self.queue);
+    }
+
+    /// The choice of the next holder: its place in the queue, "the first in
+    /// line".
+    fn next_holder(&self) -> Option<usize> {
+        (!self.queue.is_empty()).then_some(0)
+    }
+
+    /// "probe (R, holder) to the holder for each R in line senior to it".
+    fn probes_of_queue(&self) -> ToSessions {
+        self.queue
+            .iter()
+            .filter(|&&waiting| senior(waiting, self.holder))
+            .map(|&waiting| self.probe_of(waiting))
+            .collect()
+    }
+
+    fn probe_of(&self, waiting: u8) -> (u8, Body) {
+        let probe = Body::Probe {
+            initiator: waiting,
+            junior: self.holder,
+        };
+        (self.holder, probe)
+    }
+
+    /// Resend to each in the queue but `except`, in order.
+    fn resends(&self, except: Option<u8>) -> ToSessions {
+        self.queue
+            .iter()
+            .filter(|&&waiting| Some(waiting) != except)
+            .map(|&waiting| (waiting, Body::Resend))
+            .collect()
+    }
+
+    fn gives(self, sends: ToSessions) -> Outcome {
+        Outcome {
+            item: self,
+            sends,
+            declared: None,
+        }
+    }
+
+    fn drops(self) -> Outcome {
+        self.gives(Vec::new())
+    }
+
+    /// "Item on delivery. Each record receives its message and gives back the
+    /// record that follows." The message comes from session `from`.
+    pub fn receive(self, from: u8, body: Body, misreading: Misreading) -> Outcome {
+        match body {
+            Body::Request => self.requested(from),
+            Body::Release => self.released(from),
+            Body::Probe { initiator, junior } => self.probed(from, initiator, junior, misreading),
+            Body::Clean { victim, initiator } => self.cleaned(from, victim, initiator),
+            Body::Rebroadcast => self.rebroadcast(),
+            Body::Withdraw => self.withdraw(from),
+            // Well-formed mail brings an item no other kind.
+            Body::Grant | Body::Resend | Body::Abort { .. } | Body::Withdrawn => self.drops(),
+        }
+    }
+
+    /// "dropped if T is the holder or in line. No holder: T becomes holder,
+    /// grant to T. Else T joins the end; if T is senior to the holder, probe
+    /// (T, holder) to the holder."
+    fn requested(mut self, from: u8) -> Outcome {
+        if from == self.holder || self.queue.contains(&from) {
+            return self.drops();
+        }
+        if self.holder == 0 {
+            self.holder = from;
+            return self.gives(vec![(from, Body::Grant)]);
+        }
+        self.queue.push(from);
+        let sends = if senior(from, self.holder) {
+            vec![self.probe_of(from)]
+        } else {
+            Vec::new()
+        };
+        self.gives(sends)
+    }
+
+    /// "dropped unless T is holder. Empty line: no holder. Else the first in
+    /// line, N, becomes holder and leaves the line; grant to N; then probe
+    /// (R, N) to N for each remaining R senior to N; then resend to each
+    /// remaining R; both in line order."
+    fn released(mut self, from: u8) -> Outcome {
+        if from != self.holder {
+            return self.drops();
+        }
+        let Some(place) = self.next_holder() else {
+            self.holder = 0;
+            return self.gives(Vec::new());
+        };
+        self.holder = self.queue.remove(place);
+        let mut sends = vec![(self.holder, Body::Grant)];
+        sends.extend(self.probes_of_queue());
+        sends.extend(self.resends(None));
+        self.gives(sends)
+    }
+
+    /// "dropped if T is not in line, if no holder, or if the holder is senior
+    /// to i. Holder junior to i: passed on to it. Holder is i: declared, abort
+    /// (j, i) to j."
+    fn probed(self, from: u8, initiator: u8, junior: u8, misreading: Misreading) -> Outcome {
+        let late = !self.queue.contains(&from) && misreading != Misreading::PassesLateProbe;
+        if late || self.holder == 0 || senior(self.holder, initiator) {
+            return self.drops();
+        }
+        if self.holder == initiator {
+            let abort = Body::Abort {
+                victim: junior,
+                initiator,
+            };
+            return Outcome {
+                item: self,
+                sends: vec![(junior, abort)],
+                declared: Some((junior, initiator)),
+            };
+        }
+        let sends = vec![(self.holder, Body::Probe { initiator, junior })];
+        self.gives(sends)
+    }
+
+    /// "dropped if no holder. Else clean to the holder, then probe (R, holder)
+    /// to the holder for each R in line senior to it, then resend to each in
+    /// line but T, both in line order."
+    fn cleaned(self, from: u8, victim: u8, initiator: u8) -> Outcome {
+        if self.holder == 0 {
+            return self.drops();
+        }
+        let mut sends = vec![(self.holder, Body::Clean { victim, initiator })];
+        sends.extend(self.probes_of_queue());
+        sends.extend(self.resends(Some(from)));
+        self.gives(sends)
+    }
+
+    /// "dropped if no holder; the same probes, then resend to all in line, in
+    /// the same order."
+    fn rebroadcast(self) -> Outcome {
+        if self.holder == 0 {
+            return self.drops();
+        }
+        let mut sends = self.probes_of_queue();
+        sends.extend(self.resends(None));
+        self.gives(sends)
+    }
+
+    /// "T leaves the line if there; withdrawn to T."
+    fn withdraw(mut self, from: u8) -> Outcome {
+        self.queue.retain(|&waiting| waiting != from);
+        self.gives(vec![(from, Body::Withdrawn)])
+    }
+}

@@ -1,0 +1,22 @@
+//! A plain model of the lock manager (01: the desk), written from document 01
+//! and the recorded readings of it, without sight of the product's code, to
+//! check the product against.
+//!
+//! A call decodes the lent buffers into records, applies one rule and encodes
+//! what follows. Comments in quotation marks are the words of 01.
+
+pub mod calls;
+pub mod demand3;
+pub mod item;
+pub mod layout;
+pub mod mailbox;
+pub mod misreading;
+pub mod replay;
+pub mod scenario;
+pub mod session;
+pub mod table;
+pub mod waits;
+
+pub use calls::{report, start, step, step_as, Answer, Cycle, Refusal};
+pub use misreading::Misreading;
+pub use replay::replay;

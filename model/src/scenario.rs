@@ -1,0 +1,341 @@
+//! Random runs of the lock manager from its start, each settled by a seed,
+//! with demand 3 checked after every step.
+
+use crate::calls::{start, step_as, Answer, Refusal, Verb, ACCEPTED};
+use crate::demand3::Demand3;
+use crate::layout::{mail_length, table_length};
+use crate::mailbox::{count, Body, Direction, Mailbox, Message, Route};
+use crate::misreading::Misreading;
+use crate::session::Stage;
+use crate::table::Table;
+
+/// A small random number generator (splitmix64).
+pub struct Random(u64);
+
+impl Random {
+    pub fn new(seed: u64) -> Random {
+        Random(seed)
+    }
+
+    pub fn bits(&mut self) -> u64 {
+        self.0 = self.0.wrapping_add(0x9E37_79B9_7F4A_7C15);
+        let mut z = self.0;
+        z = (z ^ (z >> 30)).wrapping_mul(0xBF58_476D_1CE4_E5B9);
+        z = (z ^ (z >> 27)).wrapping_mul(0x94D0_49BB_1331_11EB);
+        z ^ (z >> 31)
+    }
+
+    /// A number from `low` to `high`, both included.
+    pub fn between(&mut self, low: u64, high: u64) -> u64 {
+        low + self.bits() % (high - low + 1)
+    }
+
+    pub fn one_in(&mut self, n: u64) -> bool {
+        self.between(1, n) == 1
+    }
+
+    fn pick<'a, T>(&mut self, list: &'a [T]) -> Option<&'a T> {
+        let last = list.len().checked_sub(1)?;
+        list.get(self.between(0, last as u64) as usize)
+    }
+}
+
+/// Which route is delivered next. No fairness is asked of the mail, so some of
+/// these starve a part of it as long as anything else can move.
+#[derive(Clone, Copy, PartialEq, Eq, Debug)]
+enum Schedule {
+    AnyRoute,
+    OldestMessage,
+    NewestMessage,
+    ProbesFirst,
+    ProbesLast,
+    /// One session's mail comes last.
+    SlowSession(u8),
+    /// One item's mail comes last.
+    SlowItem(u8),
+}
+
+impl Schedule {
+    fn draw(random: &mut Random, sessions: u64, items: u64) -> Schedule {
+        match random.between(1, 8) {
+            1 => Schedule::OldestMessage,
+            2 => Schedule::NewestMessage,
+            3 => Schedule::ProbesFirst,
+            4 => Schedule::ProbesLast,
+            5 => Schedule::SlowSession(random.between(1, sessions) as u8),
+            6 => Schedule::SlowItem(random.between(1, items) as u8),
+            _ => Schedule::AnyRoute,
+        }
+    }
+
+    /// A route, given the earliest message of each route in order of sending.
+    fn choose(self, random: &mut Random, heads: &[Message]) -> Option<Route> {
+        let is_probe = |m: &Message| matches!(m.body, Body::Probe { .. });
+        let preferred: Vec<Message> = match self {
+            Schedule::AnyRoute => Vec::new(),
+            Schedule::OldestMessage => heads.iter().take(1).copied().collect(),
+            Schedule::NewestMessage => heads.iter().rev().take(1).copied().collect(),
+            Schedule::ProbesFirst => heads.iter().filter(|m| is_probe(m)).copied().collect(),
+            Schedule::ProbesLast => heads.iter().filter(|m| !is_probe(m)).copied().collect(),
+            Schedule::SlowSession(slow) => heads
+                .iter()
+                .filter(|m| m.route.session != slow)
+                .copied()
+                .collect(),
+            Schedule::SlowItem(slow) => heads
+                .iter()
+                .filter(|m| m.route.item != slow)
+                .copied()
+                .collect(),
+        };
+        let chosen = random.pick(&preferred).or(random.pick(heads))?;
+        Some(chosen.route)
+    }
+}
+
+/// What one run, or many, came to.
+#[derive(Clone, Copy, PartialEq, Eq, Debug, Default)]
+pub struct Counts {
+    pub runs: u64,
+    pub steps: u64,
+    pub refused: u64,
+    /// Steps refused with 9.
+    pub full: u64,
+    pub demand3: Demand3,
+    /// Longest run of deliveries alone until the mail was empty.
+    pub longest_drain: u64,
+    /// Runs whose small mail could take no delivery any more.
+    pub stuck: u64,
+}
+
+impl Counts {
+    pub fn add(&mut self, other: Counts) {
+        self.runs += other.runs;
+        self.steps += other.steps;
+        self.refused += other.refused;
+        self.full += other.full;
+        self.demand3.closed += other.demand3.closed;
+        self.demand3.rolled_back += other.demand3.rolled_back;
+        self.demand3.declared += other.demand3.declared;
+        self.demand3.empty += other.demand3.empty;
+        self.longest_drain = self.longest_drain.max(other.longest_drain);
+        self.stuck += other.stuck;
+    }
+}
+
+/// Sizes drawn for S and M.
+const SMALLEST: u64 = 2;
+const LARGEST: u64 = 8;
+
+/// A capacity that no run of these sizes has filled, and the largest of the
+/// small ones.
+const WIDE: u64 = 512;
+const NARROW: u64 = 16;
+
+/// Deliveries alone that must empty a wide mail, in any order drawn here. It is
+/// a generous bound by experience (see the longest drain in the counts), not a
+/// proved one.
+pub const DRAIN_BOUND: u64 = 5_000;
+
+/// One lock manager with its two buffers and the check of its list of steps.
+struct Desk {
+    misreading: Misreading,
+    sessions: u64,
+    items: u64,
+    wide: bool,
+    table: Vec<u8>,
+    mail: Vec<u8>,
+    random: Random,
+    counts: Counts,
+}
+
+/// One random run. It fails with the first thing that breaks demand 3, or with
+/// mail that deliveries alone do not empty.
+pub fn run(seed: u64, misreading: Misreading) -> Result<Counts, String> {
+    let mut random = Random::new(seed);
+    let sessions = random.between(SMALLEST, LARGEST);
+    let items = random.between(SMALLEST, LARGEST);
+    let wide = !random.one_in(8);
+    let capacity = if wide {
+        WIDE
+    } else {
+        random.between(1, NARROW)
+    };
+    let mut table = vec![0; table_length(sessions as usize, items as usize)];
+    let mut mail = vec![0; mail_length(capacity as usize)];
+    if start(sessions, items, capacity, &mut table, &mut mail) != ACCEPTED {
+        return Err("start is refused".to_string());
+    }
+    let mut desk = Desk {
+        misreading,
+        sessions,
+        items,
+        wide,
+        table,
+        mail,
+        random,
+        counts: Counts {
+            runs: 1,
+            ..Counts::default()
+        },
+    };
+    desk.play()?;
+    Ok(desk.counts)
+}
+
+impl Desk {
+    /// Bursts of mixed steps, now and then all mail delivered, and so at the
+    /// end.
+    fn play(&mut self) -> Result<(), String> {
+        let bursts = self.random.between(3, 12);
+        let deliver_in_ten = self.random.between(2, 9);
+        let release_one_in = self.random.between(3, 40);
+        let drain_one_in = self.random.between(1, 6);
+        for _ in 0..bursts {
+            let schedule = Schedule::draw(&mut self.random, self.sessions, self.items);
+            for _ in 0..self.random.between(5, 60) {
+                if self.random.one_in(50) {
+                    self.any_step()?;
+                } else if self.random.between(1, 10) <= deliver_in_ten {
+                    self.delivery(schedule)?;
+                } else if self.random.one_in(release_one_in) {
+                    self.release()?;
+                } else {
+                    self.request()?;
+                }
+            }
+            if self.random.one_in(drain_one_in) {
+                self.drain()?;
+            }
+        }
+        self.drain()
+    }
+
+    /// One step, then the check.
+    fn step(&mut self, verb: u64, session: u64, item: u64) -> Result<Answer, String> {
+        let before = (self.table.clone(), self.mail.clone());
+        let answer = step_as(
+            self.misreading,
+            verb,
+            session,
+            item,
+            &mut self.table,
+            &mut self.mail,
+        );
+        self.counts.steps += 1;
+        self.counts.refused += u64::from(answer.refusal != ACCEPTED);
+        self.counts.full += u64::from(answer.refusal == Refusal::Full as u8);
+        self.counts.demand3.after_step(
+            answer,
+            (&before.0, &before.1),
+            (&self.table, &self.mail),
+        )?;
+        Ok(answer)
+    }
+
+    fn records(&self) -> Result<Table, String> {
+        let records = Table::decode(&self.table);
+        records.ok_or("the table is not well-formed".to_string())
+    }
+
+    /// The earliest message of each route, in order of sending.
+    fn heads(&self) -> Result<Vec<Message>, String> {
+        let mailbox = Mailbox::decode(&self.mail, self.sessions as usize, self.items as usize)
+            .ok_or("the mail is not well-formed")?;
+        let mut heads: Vec<Message> = Vec::new();
+        for message in mailbox.messages {
+            if heads.iter().all(|head| head.route != message.route) {
+                heads.push(message);
+            }
+        }
+        Ok(heads)
+    }
+
+    /// Any verb, session and item, most of it refused.
+    fn any_step(&mut self) -> Result<(), String> {
+        let verb = self.random.between(0, 5);
+        let session = self.random.between(0, self.sessions + 1);
+        let item = self.random.between(0, self.items + 1);
+        self.step(verb, session, item).map(|_| ())
+    }
+
+    /// A request by a growing session for an item that it does not hold.
+    fn request(&mut self) -> Result<(), String> {
+        self.own_step(Verb::Request, &[Stage::Growing], false)
+    }
+
+    /// A release by a growing or shrinking session of an item that it holds.
+    fn release(&mut self) -> Result<(), String> {
+        self.own_step(Verb::Release, &[Stage::Growing, Stage::Shrinking], true)
+    }
+
+    fn own_step(&mut self, verb: Verb, stages: &[Stage], held: bool) -> Result<(), String> {
+        let records = self.records()?;
+        let mut choices = Vec::new();
+        for session in 1..=self.sessions {
+            let record = records.session(session as u8);
+            for item in 1..=self.items {
+                if stages.contains(&record.stage) && record.holds(item as u8) == held {
+                    choices.push((session, item));
+                }
+            }
+        }
+        if let Some(&(session, item)) = self.random.pick(&choices) {
+            self.step(verb as u64, session, item)?;
+        }
+        Ok(())
+    }
+
+    fn deliver(&mut self, route: Route) -> Result<Answer, String> {
+        let verb = match route.direction {
+            Direction::ToItem => Verb::DeliverToItem,
+            Direction::ToSession => Verb::DeliverToSession,
+        };
+        self.step(verb as u64, route.session.into(), route.item.into())
+    }
+
+    /// The delivery that the schedule chooses, if there is mail.
+    fn delivery(&mut self, schedule: Schedule) -> Result<(), String> {
+        let heads = self.heads()?;
+        if let Some(route) = schedule.choose(&mut self.random, &heads) {
+            self.deliver(route)?;
+        }
+        Ok(())
+    }
+
+    /// Deliveries alone, in the order of some schedule, until the mail is empty.
+    fn drain(&mut self) -> Result<(), String> {
+        let schedule = Schedule::draw(&mut self.random, self.sessions, self.items);
+        let mut deliveries = 0;
+        while count(&self.mail) != 0 {
+            if deliveries == DRAIN_BOUND {
+                return Err(format!(
+                    "mail not empty after {DRAIN_BOUND} deliveries, {schedule:?}"
+                ));
+            }
+            let heads = self.heads()?;
+            let chosen = schedule.choose(&mut self.random, &heads);
+            let route = chosen.ok_or("mail without a route")?;
+            if self.deliver(route)?.refusal != ACCEPTED && !self.deliver_some(&heads)? {
+                if self.wide {
+                    return Err("a wide mail filled up".to_string());
+                }
+                self.counts.stuck += 1;
+                return Ok(());
+            }
+            deliveries += 1;
+        }
+        self.counts.longest_drain = self.counts.longest_drain.max(deliveries);
+        Ok(())
+    }
+
+    /// The first delivery that a full mail still takes; false if there is none.
+    fn deliver_some(&mut self, heads: &[Message]) -> Result<bool, String> {
+        for head in heads {
+            if self.deliver(head.route)?.refusal == ACCEPTED {
+                return Ok(true);
+            }
+        }
+        Ok(false)
+    }
+}

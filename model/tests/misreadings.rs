@@ -1,0 +1,44 @@
+//! Each of 01's plausible misreadings is caught by the check that the rules
+//! themselves pass on the same seeds.
+
+use model::scenario::run;
+use model::Misreading;
+
+/// A misreading, a seed whose run catches it, and what the check then says.
+const CAUGHT: [(Misreading, u64, &str); 10] = [
+    (Misreading::VictimForwards, 5, "who lies on no cycle"),
+    (Misreading::VictimForwards, 6, "not the most junior"),
+    (Misreading::RebuildsFromSenderOnly, 47, "cycles closed"),
+    (Misreading::RebuildsFromSenderOnly, 220, "cycles closed"),
+    (Misreading::ReleasesEarly, 16, "cycles closed"),
+    (Misreading::ReleasesEarly, 35, "cycles closed"),
+    (Misreading::ForwardsUnchanged, 6, "mail not empty after"),
+    (Misreading::ForwardsUnchanged, 31, "mail not empty after"),
+    (Misreading::PassesLateProbe, 283, "who lies on no cycle"),
+    (Misreading::PassesLateProbe, 286, "cycles closed"),
+];
+
+#[test]
+fn each_is_caught() {
+    for (misreading, seed, expected) in CAUGHT {
+        let reason = run(seed, misreading).expect_err("the misreading passes the check");
+        println!("{misreading:?}, seed {seed}: {reason}");
+        assert!(reason.contains(expected), "{misreading:?}: {reason}");
+        assert!(run(seed, Misreading::None).is_ok());
+    }
+    for misreading in Misreading::ALL {
+        assert!(CAUGHT.iter().any(|&(caught, _, _)| caught == misreading));
+    }
+}
+
+#[test]
+fn on_the_same_seeds_only_the_rules_pass() {
+    const SEEDS: u64 = 2_000;
+    let failures = |misreading| (0..SEEDS).filter(|&s| run(s, misreading).is_err()).count();
+    assert_eq!(failures(Misreading::None), 0);
+    for misreading in Misreading::ALL {
+        let failures = failures(misreading);
+        println!("{misreading:?}: caught by {failures} of {SEEDS} runs");
+        assert!(failures > 0);
+    }
+}
