@@ -1,0 +1,106 @@
+-- `Item::probes` meets its contract. The invariant: behind the list given stand the probes for the first i of the queue.
+use mathlib.Core.Path.{_≡_, sym, ap, _∙_}
+use mathlib.Core.List.{List, [], _∷_, _++_, append-assoc, append-nil}
+use Prim.Native.Nat.{_+_, _-_, _≤_}
+use native.Mathlib.Omega.{arith}
+use lib.ListN.{length, take, getD, length-map}
+use Rattle.message.specs.declared.Message.{Message}
+use Rattle.message.specs.declared.Outbox.{Outbox}
+use Rattle.message.specs.Outbox.{message, outboxOf}
+use Rattle.message.specs.Kind
+use Rattle.session.specs.Seniority.{senior}
+use Rattle.buffer.specs.Lists.{only}
+use Rattle.item.specs.Rules.{probes}
+use Rattle.item.proofs.Laws.{push-outbox, probes-more, probes-same}
+use Rattle.item.proofs.Item.probes.Statement.{statement}
+use Rattle.item.proofs.Item.probes.Tie as tie
+
+abbrev Inv-loop : tie.InvT-loop
+Inv-loop holder queue count at₀ n₀ i₀ at n i =
+    (i ≤ count) × (n ≤ n₀ + i)
+    × ((l : List Message) → _≡_ {A = Outbox} (record { n = n₀; at = at₀ }) (outboxOf l) → _≡_ {A = Outbox} (record { n = n; at = at }) (outboxOf (l ++ probes senior holder (take i queue))))
+
+abbrev μ-loop : tie.MeasureT-loop
+μ-loop holder queue count at₀ n₀ i₀ at n i = count - i
+
+cast-count : tie.Need-cast-count Inv-loop μ-loop
+cast-count c = omega arith
+
+loop-holds : tie.Need-loop-holds Inv-loop μ-loop
+unfolding probes only
+loop-holds c = (omega arith, omega arith, λ l e. e ∙ ap outboxOf (sym (append-nil l)))
+
+array-read-r : tie.Need-array-read-r Inv-loop μ-loop
+array-read-r c = omega arith
+
+add-i : tie.Need-add-i Inv-loop μ-loop
+add-i c = omega arith
+
+senior-requires : tie.Need-senior-requires Inv-loop μ-loop
+senior-requires c κs = tt
+
+mul-at : tie.Need-mul-at Inv-loop μ-loop
+mul-at c = omega arith
+
+array-set-from-at : tie.Need-array-set-from-at Inv-loop μ-loop
+array-set-from-at c = omega arith
+
+add-n : tie.Need-add-n Inv-loop μ-loop
+add-n c = omega arith
+
+loop-less : tie.Need-loop-less Inv-loop μ-loop
+loop-less c = omega arith
+
+loop-again : tie.Need-loop-again Inv-loop μ-loop
+loop-again c =
+    let s = c .before .before .before .before .before .before .before in
+    let q = s .args .self .queue in
+    let h = s .args .self .holder in
+    let b = c .before .before .before .loop in
+    let len : length q ≡ 64 = sym (length-map q (λ v. v)) ∙ s .good .0 .1 .1 .1 .1 .0 .1 .0 .1 in
+    let m = message h Kind.probe (getD q (b .i) 0) h in
+    let t = probes-more q (b .i) (omega arith) senior h (sym (c .before .senior .ensures) ∙ c .if1 .taken) in (
+      omega arith,
+      omega arith,
+      λ l e.
+          push-outbox (record { n = b .n; at = b .at }) (l ++ probes senior h (take (b .i) q)) m (omega arith) (b .inv .2 l e)
+          ∙ ap outboxOf (append-assoc l (probes senior h (take (b .i) q)) (m ∷ []) ∙ ap (λ (r : List Message). l ++ r) (sym t)),
+    )
+
+loop-less-2 : tie.Need-loop-less-2 Inv-loop μ-loop
+loop-less-2 c = omega arith
+
+loop-again-2 : tie.Need-loop-again-2 Inv-loop μ-loop
+loop-again-2 c =
+    let s = c .before .before .before .before .before .before .before in
+    let q = s .args .self .queue in
+    let b = c .before .before .before .loop in
+    let len : length q ≡ 64 = sym (length-map q (λ v. v)) ∙ s .good .0 .1 .1 .1 .1 .0 .1 .0 .1 in
+    let t = probes-same q (b .i) (omega arith) senior (s .args .self .holder) (sym (c .before .senior .ensures) ∙ c .if1 .left) in
+    (omega arith, omega arith, λ l e. b .inv .2 l e ∙ ap (λ (r : List Message). outboxOf (l ++ r)) (sym t))
+
+returns : tie.Need-returns Inv-loop μ-loop
+returns c =
+    let a = c .before .before .before .before .before .args in
+    let all : c .before .loop .i ≡ a .self .waiting = omega arith in
+    λ l e. rw (all) at (c .before .loop .inv .2 l e)
+
+pub probes-spec : {M : Type 1} → statement M
+probes-spec =
+    tie.close
+    (tie.spec
+    Inv-loop
+    μ-loop
+    cast-count
+    loop-holds
+    array-read-r
+    add-i
+    senior-requires
+    mul-at
+    array-set-from-at
+    add-n
+    loop-less
+    loop-again
+    loop-less-2
+    loop-again-2
+    returns)

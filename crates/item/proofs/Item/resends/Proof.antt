@@ -1,0 +1,83 @@
+-- `Item::resends` meets its contract. The invariant: behind the list given stand the resends to the first i of the queue.
+use mathlib.Core.Path.{_≡_, sym, ap, _∙_}
+use mathlib.Core.List.{List, [], _∷_, _++_, append-assoc, append-nil}
+use Prim.Native.Nat.{_+_, _-_, _≤_}
+use native.Mathlib.Omega.{arith}
+use lib.ListN.{length, take, getD, length-map}
+use Rattle.message.specs.declared.Message.{Message}
+use Rattle.message.specs.declared.Outbox.{Outbox}
+use Rattle.message.specs.Outbox.{plain, outboxOf}
+use Rattle.message.specs.Kind
+use Rattle.item.specs.Rules.{resends}
+use Rattle.item.proofs.Laws.{push-outbox, resends-more}
+use Rattle.item.proofs.Item.resends.Statement.{statement}
+use Rattle.item.proofs.Item.resends.Tie as tie
+
+abbrev Inv-loop : tie.InvT-loop
+Inv-loop queue count at₀ n₀ i₀ at n i =
+    (i ≤ count) × (n ≡ n₀ + i)
+    × ((l : List Message) → _≡_ {A = Outbox} (record { n = n₀; at = at₀ }) (outboxOf l) → _≡_ {A = Outbox} (record { n = n; at = at }) (outboxOf (l ++ resends (take i queue))))
+
+abbrev μ-loop : tie.MeasureT-loop
+μ-loop queue count at₀ n₀ i₀ at n i = count - i
+
+cast-count : tie.Need-cast-count Inv-loop μ-loop
+cast-count c = omega arith
+
+loop-holds : tie.Need-loop-holds Inv-loop μ-loop
+unfolding resends
+loop-holds c = (omega arith, omega arith, λ l e. e ∙ ap outboxOf (sym (append-nil l)))
+
+array-read-t11 : tie.Need-array-read-t11 Inv-loop μ-loop
+array-read-t11 c = omega arith
+
+mul-at : tie.Need-mul-at Inv-loop μ-loop
+mul-at c = omega arith
+
+array-set-from-at : tie.Need-array-set-from-at Inv-loop μ-loop
+array-set-from-at c = omega arith
+
+add-n : tie.Need-add-n Inv-loop μ-loop
+add-n c = omega arith
+
+add-i : tie.Need-add-i Inv-loop μ-loop
+add-i c = omega arith
+
+loop-less : tie.Need-loop-less Inv-loop μ-loop
+loop-less c = omega arith
+
+loop-again : tie.Need-loop-again Inv-loop μ-loop
+loop-again c =
+    let s = c .before .before .before .before .before in
+    let q = s .args .self .queue in
+    let b = c .before .loop in
+    let len : length q ≡ 64 = sym (length-map q (λ v. v)) ∙ s .good .0 .1 .1 .1 .1 .0 .1 .0 .1 in (
+      omega arith,
+      omega arith,
+      λ l e.
+          push-outbox (record { n = b .n; at = b .at }) (l ++ resends (take (b .i) q)) (plain (getD q (b .i) 0) Kind.resend) (omega arith) (b .inv .2 l e)
+          ∙ ap outboxOf (append-assoc l (resends (take (b .i) q)) (plain (getD q (b .i) 0) Kind.resend ∷ []) ∙ ap (λ (r : List Message). l ++ r) (sym (resends-more q (b .i) (omega arith)))),
+    )
+
+returns : tie.Need-returns Inv-loop μ-loop
+returns c =
+    let a = c .before .before .before .before .before .args in
+    let all : c .before .loop .i ≡ a .self .waiting = omega arith in
+    λ l e. rw (all) at (c .before .loop .inv .2 l e)
+
+pub resends-spec : {M : Type 1} → statement M
+resends-spec =
+    tie.close
+    (tie.spec
+    Inv-loop
+    μ-loop
+    cast-count
+    loop-holds
+    array-read-t11
+    mul-at
+    array-set-from-at
+    add-n
+    add-i
+    loop-less
+    loop-again
+    returns)

@@ -1,0 +1,38 @@
+-- `Item::store` meets its contract: its stores are the record's bytes written over the table.
+use mathlib.Core.Path.{sym, _∙_}
+use native.Mathlib.Omega.{arith}
+use lib.ListN.{length-set, length-map}
+use Rattle.item.proofs.Laws.{store-eq}
+use borrow.Author.Needs.{needs}
+use Rattle.item.proofs.Item.store.Statement.{statement}
+use Rattle.item.proofs.Item.store.Tie as tie
+
+slice-write-t : tie.Need-slice-write-t
+slice-write-t c = search needs
+
+add-t : tie.Need-add-t
+add-t c = search needs
+
+slice-write-t-2 : tie.Need-slice-write-t-2
+slice-write-t-2 c = simp length-set (omega arith)
+
+add-put-row : tie.Need-add-put-row
+add-put-row c = search needs
+
+put-row-requires : tie.Need-put-row-requires
+put-row-requires c κs = simp length-set (omega arith)
+
+same-length : tie.Need-same-length
+same-length c = c .before .before .put-row .kept .0 ∙ simp length-set
+
+returns : tie.Need-returns
+returns c =
+    let s = c .before .before .before .before .before .before in
+    let a = s .args in
+    c .before .before .put-row .ensures
+    ∙ store-eq (a .t .now) (a .at) (a .self) (sym (length-map (a .self .queue) (λ v. v)) ∙ s .good .0 .1 .1 .1 .1 .0 .1 .0 .1) (omega arith)
+
+pub store-spec : {M : Type 1} → statement M
+store-spec =
+    tie.close
+    (tie.spec slice-write-t add-t slice-write-t-2 add-put-row put-row-requires same-length returns)

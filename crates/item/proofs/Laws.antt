@@ -1,0 +1,317 @@
+-- Laws of item records: their bytes, the record as a queue with zeros behind it, and what the loops do one step at a time.
+use mathlib.Core.Path.{_≡_, refl, sym, ap, _∙_}
+use mathlib.Core.Bool.{Bool, true, false, cond, not, _||_}
+use mathlib.Core.List.{List, [], _∷_, _++_, map, map-append, append-nil}
+use Prim.Native.Nat.{ℕ, zero, suc, _+_, _-_, _≤_, _<_, zero-le}
+use native.Mathlib.Nat.{add-zero, zero-add, suc-add}
+use native.Mathlib.Numerals.{add-one}
+use native.Mathlib.Omega.{arith}
+use lib.Dec.{eqb, leb, lit<}
+use borrow.Author.Tests.{eqb-true, leb-true, le-leb}
+use lib.ListN.{length, getD, take, drop, set, replicate, length-append, length-drop, length-replicate, length-map, take-append-drop}
+use lib.Seq.{append-snoc, take-at, take-suc, take-append-seam, take-nil, drop-at, drop-cons, drop-drop, getD-drop, getD-append-add, set-at, length-take-le}
+use Rattle.buffer.specs.Bytes.{part, over, padded}
+use Rattle.buffer.specs.Lists.{between, member, distinct, all, only, place, removeAt}
+use Rattle.buffer.proofs.Laws.{sets-over, over-over, drop-over, part-over-before, part-over-after, getD-part, put-padded}
+use Rattle.buffer.proofs.ListLaws.{only-append, only-length, removeAt-length}
+use Rattle.message.specs.Kind
+use Rattle.message.specs.declared.Message.{Message}
+use Rattle.message.specs.declared.Outbox.{Outbox}
+use Rattle.message.specs.Outbox.{room, message, plain, outboxOf}
+use Rattle.message.proofs.Laws.{push-cells}
+use Rattle.item.specs.declared.Item.{Item}
+use Rattle.item.specs.declared.Event.{Event}
+use Rattle.item.specs.declared.ItemStep.{ItemStep}
+use Rattle.item.specs.Record.{size, Lock, lock, unpacked, packed, itemAt, itemBytes, putItem, wellFormed, Packed}
+use Rattle.item.proofs.Pigeonhole.{and-both, pigeonhole}
+use Rattle.item.specs.Rules.{After, after, stepOf, dropped, resends, without, probes, granted, queued, onRequest, onRelease, onProbe, onClean, onRebroadcast, onWithdraw, handedOver, vacated, received}
+
+module _ (i : Item) (q : length (i .queue) ≡ 64) where
+  pub length-bytes : length (itemBytes i) ≡ size
+  length-bytes = ap (λ (n : ℕ). suc (suc n)) q
+
+  pub waiting-length : i .waiting ≤ 64 → length (unpacked i .queue) ≡ i .waiting
+  waiting-length h = length-take-le (i .waiting) (i .queue) (omega arith)
+
+module _ (t : List ℕ) (at : ℕ) (i : Item) (q : length (i .queue) ≡ 64) (h : at + size ≤ length t) where
+  -- the stores that `store` makes
+  pub store-eq : over (set (set t at (i .holder)) (at + 1) (i .waiting)) (at + 2) (i .queue) ≡ putItem t at i
+  store-eq =
+      let two : set (set t at (i .holder)) (at + 1) (i .waiting) ≡ over t at (i .holder ∷ i .waiting ∷ []) =
+      rw (add-one) (sets-over t at (i .holder ∷ i .waiting ∷ []) (omega arith)) in
+      rw (two) (over-over t at (i .holder ∷ i .waiting ∷ []) (omega arith) (i .queue))
+
+  here : (k : ℕ) → drop (at + k) (putItem t at i) ≡ drop k (itemBytes i ++ drop (at + size) t)
+  here k =
+      let len = length-bytes i q in
+      sym (drop-drop k at (putItem t at i))
+      ∙ ap (drop k) (drop-over t at (itemBytes i) (omega arith) ∙ ap (λ (n : ℕ). itemBytes i ++ drop (at + n) t) len)
+
+  at-here : (k : ℕ) → getD (putItem t at i) (at + k) 0 ≡ getD (itemBytes i ++ drop (at + size) t) k 0
+  at-here k =
+      ap (λ (n : ℕ). getD (putItem t at i) n 0) (sym (add-zero (at + k))) ∙ sym (getD-drop (at + k) (putItem t at i) 0 0)
+      ∙ ap (λ (l : List ℕ). getD l 0 0) (here k) ∙ getD-drop k (itemBytes i ++ drop (at + size) t) 0 0
+      ∙ ap (λ (n : ℕ). getD (itemBytes i ++ drop (at + size) t) n 0) (add-zero k)
+
+  -- a record that was stored is loaded again
+  pub load-store : itemAt (putItem t at i) at ≡ i
+  load-store =
+      let holder : getD (putItem t at i) at 0 ≡ i .holder = ap (λ (n : ℕ). getD (putItem t at i) n 0) (sym (add-zero at)) ∙ at-here 0 in
+      let queue : part (putItem t at i) (at + 2) 64 ≡ i .queue = ap (take 64) (here 2) ∙ take-at (i .queue) (drop (at + size) t) 64 q in
+      rw (holder, at-here 1, queue) refl
+
+module _ {A : Type 0} where
+  drop-take : (k m : ℕ) (l : List A) → drop k (take (k + m) l) ≡ take m (drop k l)
+  drop-take zero m l = rw (zero-add) refl
+  drop-take (suc k) m [] = rw (suc-add, take-nil) refl
+  drop-take (suc k) m (a ∷ l) = rw (suc-add) (drop-take k m l)
+
+-- a record is read from its own part of a table alone
+pub item-part : (t u : List ℕ) (p : ℕ) → part t p size ≡ part u p size → itemAt t p ≡ itemAt u p
+item-part t u p e =
+    let byte : (k : ℕ) → k < size → getD t (p + k) 0 ≡ getD u (p + k) 0 =
+    λ k h. sym (getD-part t p size k h) ∙ ap (λ (l : List ℕ). getD l k 0) e ∙ getD-part u p size k h in
+    let queue : (v : List ℕ) → drop 2 (part v p size) ≡ part v (p + 2) 64 =
+    λ v. drop-take 2 64 (drop p v) ∙ ap (take 64) (drop-drop 2 p v) in
+    let first : getD t p 0 ≡ getD u p 0 = rw (add-zero) at (byte 0 (lit< tt)) in
+    rw (first, byte 1 (lit< tt), ← queue t, e, queue u) refl
+
+module _ (t : List ℕ) (at : ℕ) (l : List ℕ) (h : at + length l ≤ length t) (p : ℕ) where
+  -- what is written elsewhere leaves a record as it was
+  pub item-before : p + size ≤ at → itemAt (over t at l) p ≡ itemAt t p
+  item-before f = item-part (over t at l) t p (part-over-before t at l h p size f)
+
+  pub item-after : at + length l ≤ p → itemAt (over t at l) p ≡ itemAt t p
+  item-after f = item-part (over t at l) t p (part-over-after t at l h p size f)
+
+-- one step of a search
+module _ {A : Type 0} (p : A → Bool) (l : List A) (i : ℕ) (d : A) (h : i < length l) where
+  pub place-here : p (getD l i d) ≡ true → place p (drop i l) ≡ 0
+  unfolding place
+  place-here e = rw (drop-cons l i d h, e) refl
+
+  pub place-next : p (getD l i d) ≡ false → place p (drop i l) ≡ suc (place p (drop (i + 1) l))
+  unfolding place
+  place-next e = rw (drop-cons l i d h, e, add-one) refl
+
+-- the record as a queue with zeros behind it
+pub unpacked-packed : (k : Lock) → unpacked (packed k) ≡ k
+unpacked-packed k = rw (take-append-seam) refl
+
+pub length-packed : (k : Lock) → length (k .queue) ≤ 64 → length (packed k .queue) ≡ 64
+length-packed k h =
+    let n = 64 - length (k .queue) in omega (arith, length-append (k .queue) (replicate n 0), length-replicate {A = ℕ} n 0)
+
+-- a count and an array that hold a list
+pub packed-eq : (h n : ℕ) (q l : List ℕ) → n ≡ length l → q ≡ padded 64 l → _≡_ {A = Item} (record { holder = h; waiting = n; queue = q }) (packed (lock h l))
+packed-eq h n q l e f = rw (e, f) refl
+
+module _ (i : Item) (f : Packed i) where
+  pub queue-length : length (unpacked i .queue) ≡ i .waiting
+  queue-length = sym (ap (λ (j : Item). j .waiting) (f .zeros))
+
+  pub queue-padded : i .queue ≡ padded 64 (unpacked i .queue)
+  queue-padded = ap (λ (j : Item). j .queue) (f .zeros)
+
+  pub queue-put : (t : ℕ) → i .waiting < 64 → set (i .queue) (i .waiting) t ≡ padded 64 (unpacked i .queue ++ (t ∷ []))
+  queue-put t h =
+      let n = queue-length in
+      ap (λ (l : List ℕ). set l (i .waiting) t) queue-padded
+      ∙ ap (λ (k : ℕ). set (padded 64 (unpacked i .queue)) k t) (sym n) ∙ put-padded 64 (unpacked i .queue) t (omega arith)
+
+-- the elements behind place k, up to i, each moved one place to the front
+abbrev pub shifted : ℕ → List ℕ → ℕ → List ℕ
+shifted k q i = removeAt k (take (i + 1) q) ++ drop i q
+
+removeAt-append : (k : ℕ) (l m : List ℕ) → k < length l → removeAt k (l ++ m) ≡ removeAt k l ++ m
+unfolding removeAt
+removeAt-append k [] m h = absurd (omega arith)
+removeAt-append zero (a ∷ l) m h = refl
+removeAt-append (suc k) (a ∷ l) m h = ap (λ (r : List ℕ). a ∷ r) (removeAt-append k l m (omega arith))
+
+removeAt-take : (k : ℕ) (l : List ℕ) → removeAt k (take (suc k) l) ≡ take k l
+unfolding removeAt
+removeAt-take k [] = sym (take-nil k)
+removeAt-take zero (a ∷ l) = refl
+removeAt-take (suc k) (a ∷ l) = ap (λ (r : List ℕ). a ∷ r) (removeAt-take k l)
+
+pub shift-none : (k : ℕ) (q : List ℕ) → q ≡ shifted k q k
+shift-none k q = rw (add-one, removeAt-take) (sym (take-append-drop k q))
+
+module _ (k i : ℕ) (h : k ≤ i) where
+  front-length : (q : List ℕ) → i < length q → length (removeAt k (take (i + 1) q)) ≡ i
+  front-length q f =
+      let l = length-take-le (i + 1) q (omega arith) in omega (arith, removeAt-length k (take (i + 1) q) (omega arith))
+
+  pub shift-step : (q : List ℕ) → i + 1 < length q → set (shifted k q i) i (getD (shifted k q i) (i + 1) 0) ≡ shifted k q (i + 1)
+  shift-step q f =
+      let p = removeAt k (take (i + 1) q) in
+      let l : length p ≡ i = front-length q (omega arith) in
+      let next : getD (shifted k q i) (i + 1) 0 ≡ getD q (i + 1) 0 =
+      ap (λ (n : ℕ). getD (p ++ drop i q) (n + 1) 0) (sym l) ∙ getD-append-add p (drop i q) 1 0 ∙ getD-drop i q 1 0 in
+      let more : removeAt k (take (i + 1 + 1) q) ≡ p ++ (getD q (i + 1) 0 ∷ []) =
+      ap (removeAt k) (rw (add-one (i + 1)) (take-suc q (i + 1) 0 f)) ∙ removeAt-append k (take (i + 1) q) (getD q (i + 1) 0 ∷ []) (omega (arith, length-take-le (i + 1) q (omega arith))) in
+      rw (next, more, drop-cons q i 0 (omega arith)) (set-at p (getD q i 0) (drop (suc i) q) (getD q (i + 1) 0) i l ∙ sym (append-snoc p (getD q (i + 1) 0) (drop (suc i) q)) ∙ ap (λ (n : ℕ). (p ++ (getD q (i + 1) 0 ∷ [])) ++ drop n q) (sym (add-one i)))
+
+  pub shift-last : (m : ℕ) (l : List ℕ) → length l ≡ i + 1 → length l ≤ m → set (shifted k (padded m l) i) i 0 ≡ padded m (removeAt k l)
+  shift-last m l e f =
+      let all : take (i + 1) (padded m l) ≡ l = take-at l (replicate (m - length l) 0) (i + 1) e in
+      let left = removeAt-length k l (omega arith) in
+      let more : m - length (removeAt k l) ≡ suc (m - length l) = omega arith in
+      let zeros : List ℕ = replicate (m - length l) 0 in
+      let rest : drop i (padded m l) ≡ getD (padded m l) i 0 ∷ zeros =
+      drop-cons (padded m l) i 0 (omega (arith, length-append l zeros)) ∙ ap (λ (r : List ℕ). getD (padded m l) i 0 ∷ r) (drop-at l zeros (suc i) (omega arith)) in
+      rw (all, rest, more) (set-at (removeAt k l) (getD (padded m l) i 0) zeros 0 i (omega arith))
+
+-- one message more, as `push` has it
+pub push-outbox : (o : Outbox) (p : List Message) (m : Message) → o .n < room → o ≡ outboxOf p
+    → _≡_ {A = Outbox} (record { n = o .n + 1; at = set (o .at) (o .n) m }) (outboxOf (p ++ (m ∷ [])))
+push-outbox o p m h e =
+    let f : length p < room = omega (arith, ap (λ (b : Outbox). b .n) e) in
+    rw (e, push-cells p m f, length-append p (m ∷ [])) refl
+
+-- a message that was made, and then sent alone
+pub one-of : {o : Outbox} {m k : Message} → o ≡ outboxOf (m ∷ []) → m ≡ k → o ≡ outboxOf (k ∷ [])
+one-of e f = e ∙ ap (λ (m : Message). outboxOf (m ∷ [])) f
+
+module _ (q : List ℕ) (i : ℕ) (h : i < length q) where
+  more : take (i + 1) q ≡ take i q ++ (getD q i 0 ∷ [])
+  more = rw (add-one) (take-suc q i 0 h)
+
+  -- one turn of the loops that send
+  pub resends-more : resends (take (i + 1) q) ≡ resends (take i q) ++ (plain (getD q i 0) Kind.resend ∷ [])
+  unfolding resends
+  resends-more = ap resends more ∙ map-append (λ r. plain r Kind.resend) (take i q) (getD q i 0 ∷ [])
+
+  module _ (senior : ℕ → ℕ → Bool) (n : ℕ) where
+    probes-turn : (b : Bool) → senior (getD q i 0) n ≡ b
+        → probes senior n (take (i + 1) q) ≡ probes senior n (take i q) ++ map (λ r. message n Kind.probe r n) (cond b (getD q i 0 ∷ []) [])
+    unfolding probes only
+    probes-turn b e =
+        let s : ℕ → Bool = λ r. senior r n in
+        ap (λ (l : List ℕ). map (λ r. message n Kind.probe r n) (only s l)) more
+        ∙ ap (map (λ r. message n Kind.probe r n)) (only-append s (take i q) (getD q i 0 ∷ []))
+        ∙ map-append (λ r. message n Kind.probe r n) (only s (take i q)) (only s (getD q i 0 ∷ [])) ∙ rw (e) refl
+
+    pub probes-more : senior (getD q i 0) n ≡ true → probes senior n (take (i + 1) q) ≡ probes senior n (take i q) ++ (message n Kind.probe (getD q i 0) n ∷ [])
+    probes-more = probes-turn true
+
+    pub probes-same : senior (getD q i 0) n ≡ false → probes senior n (take (i + 1) q) ≡ probes senior n (take i q)
+    probes-same e = probes-turn false e ∙ append-nil (probes senior n (take i q))
+
+pub resends-length : (q : List ℕ) → length (resends q) ≡ length q
+unfolding resends
+resends-length q = length-map q (λ r. plain r Kind.resend)
+
+pub probes-length : (senior : ℕ → ℕ → Bool) (n : ℕ) (q : List ℕ) → length (probes senior n q) ≤ length q
+unfolding probes
+probes-length senior n q =
+    let l = length-map (only (λ r. senior r n) q) (λ r. message n Kind.probe r n) in
+    omega (arith, only-length (λ r. senior r n) q)
+
+-- what the code hands back
+pub step-eq : (i : Item) (o : Outbox) (e : Event) (k : Lock) (l : List Message) → i ≡ packed k → o ≡ outboxOf l
+    → _≡_ {A = ItemStep} (record { item = i; outbox = o; event = e }) (stepOf (after k l e))
+step-eq i o e k l f g = rw (f, g) refl
+
+pub removeAt-le : (k : ℕ) (l : List ℕ) → length (removeAt k l) ≤ length l
+unfolding removeAt
+removeAt-le k [] = zero-le
+removeAt-le zero (a ∷ l) = omega arith
+removeAt-le (suc k) (a ∷ l) = omega (arith, removeAt-le k l)
+
+-- a record that holds a list
+module _ (i : Item) (h : ℕ) (l : List ℕ) (e : i ≡ packed (lock h l)) where
+  pub holds-queue : unpacked i .queue ≡ l
+  holds-queue = ap (λ (j : Item). unpacked j .queue) e ∙ ap (λ (k : Lock). k .queue) (unpacked-packed (lock h l))
+
+  pub holds-waiting : i .waiting ≡ length l
+  holds-waiting = ap (λ (j : Item). j .waiting) e
+
+  pub holds-other : (n : ℕ) → _≡_ {A = Item} (record { holder = n; waiting = i .waiting; queue = i .queue }) (packed (lock n l))
+  holds-other n = packed-eq n (i .waiting) (i .queue) l holds-waiting (ap (λ (j : Item). j .queue) e)
+
+  pub holds-packed : length l < 64 → Packed i
+  holds-packed f =
+      rw (e) (record { fits = omega arith; room = λ _. f; zeros = sym (ap packed (unpacked-packed (lock h l))) })
+
+-- room for resends is left behind the probes
+pub probes-fit : (senior : ℕ → ℕ → Bool) (n : ℕ) (q : List ℕ) (l : List Message) (o : Outbox) → length l ≤ 1 → length q ≤ 64
+    → o ≡ outboxOf (l ++ probes senior n q) → o .n ≤ 65
+probes-fit senior n q l o f g e =
+    omega (arith, ap (λ (b : Outbox). b .n) e, length-append l (probes senior n q), probes-length senior n q)
+
+pub vacated-more : (senior : ℕ → ℕ → Bool) (next : List ℕ → ℕ) (q : List ℕ) → 0 < length q → vacated senior next q ≡ handedOver senior (getD q (next q) 0) (removeAt (next q) q)
+unfolding vacated
+vacated-more senior next [] h = absurd (omega arith)
+vacated-more senior next (r ∷ q) h = refl
+
+zeros-all : (l : List ℕ) → all (λ b. eqb b 0) l ≡ true → l ≡ replicate (length l) 0
+unfolding all
+zeros-all [] e = refl
+zeros-all (a ∷ l) e =
+    let both = and-both (eqb a 0) (all (λ b. eqb b 0) l) e in rw (eqb-true a 0 (both .0), ← zeros-all l (both .1)) refl
+
+-- a well-formed record is what the rules ask for, where there are at most 64 sessions
+module _ (S : ℕ) (i : Item) (h : S ≤ 64) (q : length (i .queue) ≡ 64) where
+  pub wellFormed-packed : wellFormed S i ≡ true → Packed i
+  unfolding wellFormed distinct all
+  wellFormed-packed w =
+      let l = unpacked i .queue in
+      let tail = and-both _ (all (λ b. eqb b 0) (drop (i .waiting) (i .queue))) w in
+      let other = and-both _ (not (member (i .holder) l)) (tail .0) in
+      let once = and-both _ (distinct l) (other .0) in
+      let range = and-both _ (all (between 1 S) l) (once .0) in
+      let ends = and-both (leb (i .holder) S) (leb (i .waiting) 64) (range .0) in
+      let fits : i .waiting ≤ 64 = leb-true (i .waiting) 64 (ends .1) in
+      let full = waiting-length i q fits in
+      let left : length (drop (i .waiting) (i .queue)) ≡ 64 - length l = rw (length-drop, full, q) refl in
+      record {
+        fits = fits;
+        room = λ some.
+            let low : leb 1 (i .holder) ≡ true = le-leb 1 (i .holder) (omega arith) in
+            let all-once : distinct (i .holder ∷ l) ≡ true = rw (other .1) (once .1) in
+            let all-range : all (between 1 S) (i .holder ∷ l) ≡ true = rw (low, ends .0) (range .1) in
+            omega (arith, pigeonhole S (i .holder ∷ l) all-once all-range);
+        zeros =
+            packed-eq (i .holder) (i .waiting) (i .queue) l (sym full) (sym (take-append-drop (i .waiting) (i .queue)) ∙ ap (λ (r : List ℕ). l ++ r) (zeros-all (drop (i .waiting) (i .queue)) (tail .1) ∙ ap (λ (n : ℕ). replicate n 0) left));
+      }
+
+-- the number of messages sent at once fits a byte
+abbrev Fits : After → Type 0
+Fits r = length (r .sends) ≤ 129
+
+either : (b : Bool) (r s : After) → Fits r → Fits s → Fits (cond b r s)
+either true r s f g = f
+either false r s f g = g
+
+one-or-none : (b : Bool) (m : Message) → length (cond b (m ∷ []) []) ≤ 129
+one-or-none true m = omega arith
+one-or-none false m = omega arith
+
+module _ (senior : ℕ → ℕ → Bool) (next : List ℕ → ℕ) where
+  vacated-fits : (q : List ℕ) → length q ≤ 64 → Fits (vacated senior next q)
+  unfolding vacated handedOver
+  vacated-fits [] h = omega arith
+  vacated-fits (r ∷ q) h =
+      let k = next (r ∷ q) in
+      let rest = removeAt k (r ∷ q) in
+      simp (length-append, resends-length) (omega (arith, probes-length senior (getD (r ∷ q) k 0) rest, removeAt-le k (r ∷ q)))
+
+  -- a step sends at most 129 messages
+  pub received-fits : (k : Lock) (m : Message) → length (k .queue) ≤ 64 → length (received senior next k m .sends) ≤ 129
+  unfolding received onRequest onRelease onProbe onClean onRebroadcast onWithdraw granted queued without
+  received-fits k m h =
+      let none : Fits (dropped k) = omega arith in
+      let q = k .queue in
+      let fan = probes-length senior (k .holder) q in
+      either (eqb (m .kind) Kind.request) _ _
+      (either (eqb (k .holder) (m .peer) || member (m .peer) q) _ _ none
+      (either (eqb (k .holder) 0) _ _ (omega arith) (one-or-none (senior (m .peer) (k .holder)) (message (k .holder) Kind.probe (m .peer) (k .holder)))))
+      (either (eqb (m .kind) Kind.release) _ _ (either (eqb (k .holder) (m .peer)) _ _ (vacated-fits q h) none)
+      (either (eqb (m .kind) Kind.probe) _ _
+      (either (not (member (m .peer) q) || eqb (k .holder) 0 || senior (k .holder) (m .a)) _ _ none (either (eqb (k .holder) (m .a)) _ _ (omega arith) (omega arith)))
+      (either (eqb (m .kind) Kind.clean) _ _
+      (either (eqb (k .holder) 0) _ _ none (simp (length-append, resends-length) (omega (arith, removeAt-le (place (λ r. eqb r (m .peer)) q) q))))
+      (either (eqb (m .kind) Kind.rebroadcast) _ _
+      (either (eqb (k .holder) 0) _ _ none (simp (length-append, resends-length) (omega arith))) (either (eqb (m .kind) Kind.withdraw) _ _ (omega arith) none)))))

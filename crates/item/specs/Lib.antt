@@ -1,0 +1,3 @@
+pub mod Record
+pub mod NextHolder
+pub mod Rules

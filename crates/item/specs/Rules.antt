@@ -1,0 +1,122 @@
+-- What an item does on each message, by kind. T is the session that sent it.
+use Prim.Native.Nat.{ℕ}
+use mathlib.Core.Bool.{Bool, true, false, cond, not, _||_}
+use mathlib.Core.List.{List, [], _∷_, _++_, map}
+use lib.Dec.{eqb}
+use lib.ListN.{getD}
+use Rattle.buffer.specs.Lists.{member, only, place, removeAt}
+use Rattle.message.specs.Kind
+use Rattle.message.specs.declared.Message.{Message}
+use Rattle.message.specs.Outbox.{message, plain, outboxOf}
+use Rattle.item.specs.declared.Event.{Event}
+use Rattle.item.specs.declared.Event.the-variants.{Nothing, Joined, Declared}
+use Rattle.item.specs.declared.ItemStep.{ItemStep}
+use Rattle.item.specs.Record.{Lock, lock, packed}
+
+-- the record that follows, what is sent, in order of sending, and what happened besides
+pub record After : Type 0 where
+  pub lock : Lock
+  pub sends : List Message
+  pub event : Event
+
+abbrev pub after : Lock → List Message → Event → After
+after k l e = record { lock = k; sends = l; event = e }
+
+-- the same as the code hands it back
+abbrev pub stepOf : After → ItemStep
+stepOf r = record { item = packed (r .lock); outbox = outboxOf (r .sends); event = r .event }
+
+-- the message is dropped
+abbrev pub dropped : Lock → After
+dropped k = after k [] Nothing
+
+-- what an event puts into a step's answer: the session was put in a queue; victim and initiator of a declaration, else 0
+abbrev pub joined : Event → Bool
+joined Nothing = false
+joined Joined = true
+joined (Declared v i) = false
+
+abbrev pub victim : Event → ℕ
+victim Nothing = 0
+victim Joined = 0
+victim (Declared v i) = v
+
+abbrev pub initiator : Event → ℕ
+initiator Nothing = 0
+initiator Joined = 0
+initiator (Declared v i) = i
+
+-- a resend to each of a list of sessions, in order
+unfoldable pub resends : List ℕ → List Message
+resends q = map (λ r. plain r Kind.resend) q
+
+-- the queue without session t, which stands there once at most
+unfoldable pub without : ℕ → List ℕ → List ℕ
+without t q = removeAt (place (λ r. eqb r t) q) q
+
+-- withdraw: T leaves the queue if there; withdrawn to T
+unfoldable pub onWithdraw : ℕ → Lock → After
+onWithdraw t k = after (lock (k .holder) (without t (k .queue))) (plain t Kind.withdrawn ∷ []) Nothing
+
+-- T becomes holder, grant to T
+unfoldable pub granted : ℕ → Lock → After
+granted t k = after (lock t (k .queue)) (plain t Kind.grant ∷ []) Nothing
+
+module _ (senior : ℕ → ℕ → Bool) where
+  -- probe (R, holder) to the holder for each R of a list senior to it, in order
+  unfoldable pub probes : ℕ → List ℕ → List Message
+  probes h q = map (λ r. message h Kind.probe r h) (only (λ r. senior r h) q)
+
+  -- T joins the end; if T is senior to the holder, probe (T, holder) to the holder
+  unfoldable pub queued : ℕ → Lock → After
+  queued t k =
+      after (lock (k .holder) (k .queue ++ (t ∷ []))) (cond (senior t (k .holder)) (message (k .holder) Kind.probe t (k .holder) ∷ []) []) Joined
+
+  -- request: dropped if T is the holder or in the queue. No holder: T becomes holder. Else T joins the end
+  unfoldable pub onRequest : ℕ → Lock → After
+  onRequest t k =
+      cond (eqb (k .holder) t || member t (k .queue)) (dropped k) (cond (eqb (k .holder) 0) (granted t k) (queued t k))
+
+  -- probe (i, j): dropped if T is not in the queue, if no holder, or if the holder is senior to i. Holder is i: declared, abort (j, i)
+  -- to j. Holder junior to i: passed on to it
+  unfoldable pub onProbe : ℕ → ℕ → ℕ → Lock → After
+  onProbe t i j k =
+      cond (not (member t (k .queue)) || eqb (k .holder) 0 || senior (k .holder) i) (dropped k)
+      (cond (eqb (k .holder) i) (after k (message j Kind.abort j i ∷ []) (Declared j i))
+      (after k (message (k .holder) Kind.probe i j ∷ []) Nothing))
+
+  -- clean: dropped if no holder. Else clean to the holder, then probe (R, holder) to the holder for each R in the queue senior to it,
+  -- then resend to each in the queue but T, both in queue order
+  unfoldable pub onClean : ℕ → ℕ → ℕ → Lock → After
+  onClean t a b k =
+      cond (eqb (k .holder) 0) (dropped k)
+      (after k (message (k .holder) Kind.clean a b ∷ (probes (k .holder) (k .queue) ++ resends (without t (k .queue)))) Nothing)
+
+  -- rebroadcast: dropped if no holder; the same probes, then resend to all in the queue, in the same order
+  unfoldable pub onRebroadcast : Lock → After
+  onRebroadcast k = cond (eqb (k .holder) 0) (dropped k) (after k (probes (k .holder) (k .queue) ++ resends (k .queue)) Nothing)
+
+  -- the next holder N, with the queue that it has left: grant to N; then probe (R, N) to N for each remaining R senior to N; then
+  -- resend to each remaining R; both in queue order
+  unfoldable pub handedOver : ℕ → List ℕ → After
+  handedOver n rest = after (lock n rest) (plain n Kind.grant ∷ (probes n rest ++ resends rest)) Nothing
+
+  module _ (next : List ℕ → ℕ) where
+    -- an empty queue: no holder; else the next in the queue
+    unfoldable pub vacated : List ℕ → After
+    vacated [] = after (lock 0 []) [] Nothing
+    vacated (r ∷ q) = handedOver (getD (r ∷ q) (next (r ∷ q)) 0) (removeAt (next (r ∷ q)) (r ∷ q))
+
+    -- release: dropped unless T is holder
+    unfoldable pub onRelease : ℕ → Lock → After
+    onRelease t k = cond (eqb (k .holder) t) (vacated (k .queue)) (dropped k)
+
+    -- what an item does on a message of session m .peer; any other kind is dropped
+    unfoldable pub received : Lock → Message → After
+    received k m =
+        cond (eqb (m .kind) Kind.request) (onRequest (m .peer) k)
+        (cond (eqb (m .kind) Kind.release) (onRelease (m .peer) k)
+        (cond (eqb (m .kind) Kind.probe) (onProbe (m .peer) (m .a) (m .b) k)
+        (cond (eqb (m .kind) Kind.clean) (onClean (m .peer) (m .a) (m .b) k)
+        (cond (eqb (m .kind) Kind.rebroadcast) (onRebroadcast k)
+        (cond (eqb (m .kind) Kind.withdraw) (onWithdraw (m .peer) k) (dropped k))))))

@@ -1,0 +1,77 @@
+-- The bytes of the mailbox: C (2), count (2), then two parallel arrays of C entries, routes and bodies, three bytes each.
+-- Entries stand in order of sending; unused ones are zero.
+use Prim.Native.Nat.{ℕ, _+_, _-_, _*_, _≤_}
+use mathlib.Core.Path.{_≡_}
+use mathlib.Core.Bool.{Bool, _&&_}
+use mathlib.Core.List.{List, [], _∷_, _++_}
+use lib.Dec.{eqb, leb}
+use lib.ListN.{length, getD}
+use Rattle.buffer.specs.Bytes.{part, fromBytes, toBytes, padded}
+use Rattle.buffer.specs.Lists.{between, all, tabulate}
+use Rattle.mailbox.specs.Entry as Entry
+use Rattle.mailbox.specs.Entry.{Entry}
+
+abbrev pub maxCapacity : ℕ
+maxCapacity = 4096
+
+abbrev pub size : ℕ → ℕ
+size C = 4 + 6 * C
+
+-- where the route and the body of entry k stand, k from 0
+abbrev pub routePlace : ℕ → ℕ
+routePlace k = 4 + 3 * k
+
+abbrev pub bodyPlace : ℕ → ℕ → ℕ
+bodyPlace C k = 4 + 3 * C + 3 * k
+
+abbrev pub capacityOf : List ℕ → ℕ
+capacityOf m = fromBytes (part m 0 2)
+
+abbrev pub countOf : List ℕ → ℕ
+countOf m = fromBytes (part m 2 2)
+
+-- C is 1 to 4,096, and the length is that of C
+unfoldable pub sized : List ℕ → Bool
+sized m = between 1 maxCapacity (capacityOf m) && eqb (length m) (size (capacityOf m))
+
+unfoldable pub entryAt : List ℕ → ℕ → Entry
+entryAt m k =
+    record {
+      direction = getD m (routePlace k) 0;
+      session = getD m (routePlace k + 1) 0;
+      item = getD m (routePlace k + 2) 0;
+      kind = getD m (bodyPlace (capacityOf m) k) 0;
+      a = getD m (bodyPlace (capacityOf m) k + 1) 0;
+      b = getD m (bodyPlace (capacityOf m) k + 2) 0;
+    }
+
+-- the entries in order of sending
+unfoldable pub entriesOf : List ℕ → List Entry
+entriesOf m = tabulate (countOf m) (entryAt m)
+
+-- the mailbox is in form when its count is at most C and its entries are; unused ones are zero
+unfoldable pub wellFormed : ℕ → ℕ → List ℕ → Bool
+wellFormed S M m =
+    leb (countOf m) (capacityOf m)
+    && all (Entry.wellFormed S M) (entriesOf m)
+    && all (λ b. eqb b 0) (part m (routePlace (countOf m)) (3 * (capacityOf m - countOf m)))
+    && all (λ b. eqb b 0) (part m (bodyPlace (capacityOf m) (countOf m)) (3 * (capacityOf m - countOf m)))
+
+unfoldable pub routes : List Entry → List ℕ
+routes [] = []
+routes (e ∷ l) = e .direction ∷ e .session ∷ e .item ∷ routes l
+
+unfoldable pub bodies : List Entry → List ℕ
+bodies [] = []
+bodies (e ∷ l) = e .kind ∷ e .a ∷ e .b ∷ bodies l
+
+-- the bytes of a mailbox of capacity C that holds the entries
+unfoldable pub mailBytes : ℕ → List Entry → List ℕ
+mailBytes C l = toBytes 2 C ++ (toBytes 2 (length l) ++ (padded (3 * C) (routes l) ++ padded (3 * C) (bodies l)))
+
+-- what the code that takes and adds entries asks of a mailbox: its bytes are those of its entries. A well-formed mailbox is so
+pub record Kept (m : List ℕ) : Type 0 where
+  pub low : 1 ≤ capacityOf m
+  pub high : capacityOf m ≤ maxCapacity
+  pub fits : countOf m ≤ capacityOf m
+  pub bytes : m ≡ mailBytes (capacityOf m) (entriesOf m)

@@ -1,0 +1,1 @@
+// The mailbox (01: mail) in a lent buffer.

@@ -1,0 +1,19 @@
+-- `Session::probed` meets its contract, by what `junior` and `kept_probe` ensure.
+use mathlib.Core.Path.{refl, _∙_}
+use borrow.Author.Needs.{needs}
+use Rattle.session.specs.Rules.{probed}
+use Rattle.session.proofs.Session.probed.Statement.{statement}
+use Rattle.session.proofs.Session.probed.Tie as tie
+
+junior-requires : tie.Need-junior-requires
+junior-requires c κs = search needs
+
+kept-probe-requires : tie.Need-kept-probe-requires
+kept-probe-requires c κs = search needs
+
+returns : tie.Need-returns
+unfolding probed
+returns c = c .kept-probe .ensures ∙ rw (c .before .junior .ensures) refl
+
+pub probed-spec : {M : Type 1} → statement M
+probed-spec = tie.close (tie.spec junior-requires kept-probe-requires returns)

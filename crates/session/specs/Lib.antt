@@ -1,0 +1,4 @@
+pub mod Stage
+pub mod Seniority
+pub mod Record
+pub mod Rules

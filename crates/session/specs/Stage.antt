@@ -1,0 +1,28 @@
+-- The six stages of a session.
+use Prim.Native.Nat.{ℕ}
+use mathlib.Core.Bool.{Bool, _||_}
+use lib.Dec.{eqb}
+
+abbrev pub growing : ℕ
+growing = 1
+
+abbrev pub waiting : ℕ
+waiting = 2
+
+abbrev pub shrinking : ℕ
+shrinking = 3
+
+-- a victim whose clean is on its way
+abbrev pub victim : ℕ
+victim = 4
+
+-- a victim that withdraws from the queue in which it waits
+abbrev pub withdrawing : ℕ
+withdrawing = 5
+
+abbrev pub rolledBack : ℕ
+rolledBack = 6
+
+-- the stages in which a session awaits an item
+abbrev pub awaits : ℕ → Bool
+awaits stage = eqb stage waiting || eqb stage victim || eqb stage withdrawing

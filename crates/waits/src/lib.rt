@@ -1,0 +1,1 @@
+// Who waits for whom, and the cycles of waits (01: rings).
