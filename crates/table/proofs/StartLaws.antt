@@ -1,0 +1,165 @@
+-- Laws of the table of a lock manager that starts.
+use mathlib.Core.Path.{_≡_, refl, sym, ap, _∙_}
+use mathlib.Core.Bool.{true}
+use mathlib.Core.List.{List, [], _∷_, _++_, append-assoc, append-nil}
+use Prim.Native.Nat.{ℕ, zero, suc, _+_, _-_, _*_, _^_, _≤_, _<_}
+use native.Mathlib.Nat.{add-comm, mul-zero, mul-suc}
+use native.Mathlib.Numerals.{add-one}
+use native.Mathlib.Omega.{arith}
+use borrow.Author.Tests.{lt-ltb, le-leb, eq-eqb}
+use lib.Dec.{eqb, leb, leb·zero}
+use lib.ListN.{length, take, drop, set, replicate, length-append, length-replicate, replicate-append-replicate, take-append-drop}
+use lib.Pow.{pow-pos}
+use lib.Seq.{set-at, take-append-seam, drop-append-add, drop-drop, drop-at}
+use Rattle.buffer.specs.Bytes.{part, over}
+use Rattle.buffer.specs.Lists.{member, distinct, all}
+use Rattle.session.specs.Record as SessionRecord
+use Rattle.session.specs.Stage
+use Rattle.session.proofs.Laws as SessionLaws
+use Rattle.item.specs.Record as ItemRecord
+use Rattle.item.proofs.Laws as ItemLaws
+use Rattle.table.specs.Layout.{most, header, sessionPlace, itemPlace, size, sessionsOf, itemsOf, sized, session, item, wellFormed, repeated, started}
+use Rattle.table.proofs.ListLaws.{all-take, all-drop, all-replicate}
+use Rattle.table.proofs.Laws.{well-formed-intro}
+
+module _ (l : List ℕ) where
+  pub length-repeated : (n : ℕ) → length (repeated n l) ≡ length l * n
+  unfolding repeated
+  length-repeated zero = sym (mul-zero (length l))
+  length-repeated (suc n) = omega (arith, length-append l (repeated n l), length-repeated n, mul-suc (length l) n)
+
+  repeated-suc : (n : ℕ) → repeated (suc n) l ≡ repeated n l ++ l
+  unfolding repeated
+  repeated-suc zero = append-nil l
+  repeated-suc (suc n) = ap (λ (r : List ℕ). l ++ r) (repeated-suc n) ∙ sym (append-assoc l (repeated n l) l)
+
+  repeated-more : (n : ℕ) → repeated (n + 1) l ≡ repeated n l ++ l
+  repeated-more n = rw (add-one n) (repeated-suc n)
+
+  -- what stands behind k of n records
+  part-repeated : (r : List ℕ) (k n : ℕ) → k < n → part (repeated n l ++ r) (length l * k) (length l) ≡ l
+  unfolding repeated
+  part-repeated r k zero h = absurd (omega arith)
+  part-repeated r zero (suc n) h = rw (mul-zero, append-assoc l (repeated n l) r) (take-append-seam l (repeated n l ++ r))
+  part-repeated r (suc k) (suc n) h =
+      rw (mul-suc, add-comm (length l * k) (length l), append-assoc l (repeated n l) r, drop-append-add l (repeated n l ++ r) (length l * k)) (part-repeated r k n (omega arith))
+
+repeated-zeros : (k n : ℕ) → repeated n (replicate k 0) ≡ replicate (k * n) 0
+unfolding repeated
+repeated-zeros k zero = rw (mul-zero) refl
+repeated-zeros k (suc n) =
+    rw (repeated-zeros k n, replicate-append-replicate {A = ℕ} k (k * n) 0, mul-suc, add-comm (k * n) k) refl
+
+-- the bytes of a session and of an item of a lock manager that starts
+abbrev fresh : List ℕ
+fresh = SessionRecord.sessionBytes SessionRecord.fresh
+
+abbrev free : List ℕ
+free = ItemRecord.itemBytes (ItemRecord.packed ItemRecord.free)
+
+-- the table with k of its sessions written, all else zero
+abbrev pub begun : ℕ → ℕ → ℕ → List ℕ
+begun S M k = S ∷ M ∷ (repeated k fresh ++ replicate (SessionRecord.size * (S - k) + ItemRecord.size * M) 0)
+
+module _ (S M : ℕ) where
+  pub begun-none : set (set (replicate (size S M) 0) 0 S) 1 M ≡ begun S M 0
+  unfolding repeated
+  begun-none =
+      let e : size S M ≡ suc (suc (SessionRecord.size * (S - 0) + ItemRecord.size * M)) = omega arith in rw (e) refl
+
+  pub length-begun : (k : ℕ) → k ≤ S → length (begun S M k) ≡ size S M
+  length-begun k h =
+      let R = repeated k fresh in
+      let z = SessionRecord.size * (S - k) + ItemRecord.size * M in
+      omega (arith, length-append R (replicate z 0), length-repeated fresh k, length-replicate {A = ℕ} z 0)
+
+  pub begun-more : (k : ℕ) → k < S → set (begun S M k) (header + SessionRecord.size * k) Stage.growing ≡ begun S M (k + 1)
+  begun-more k h =
+      let R = repeated k fresh in
+      let z = SessionRecord.size * (S - (k + 1)) + ItemRecord.size * M in
+      let e : SessionRecord.size * (S - k) + ItemRecord.size * M ≡ suc (73 + z) = omega arith in
+      let len : length (S ∷ M ∷ R) ≡ header + SessionRecord.size * k = omega (arith, length-repeated fresh k) in
+      rw (e, repeated-more fresh k, append-assoc, ← replicate-append-replicate {A = ℕ} 73 z 0) (set-at (S ∷ M ∷ R) 0 (replicate 73 0 ++ replicate z 0) 1 (header + SessionRecord.size * k) len)
+
+  pub begun-all : begun S M S ≡ started S M
+  unfolding started
+  begun-all =
+      let e : SessionRecord.size * (S - S) + ItemRecord.size * M ≡ ItemRecord.size * M = omega arith in
+      rw (e, ← repeated-zeros ItemRecord.size M) refl
+
+-- writing what stands there already changes nothing
+over-same : (t : List ℕ) (at : ℕ) (l : List ℕ) → part t at (length l) ≡ l → over t at l ≡ t
+unfolding over
+over-same t at l e =
+    let n = length l in
+    let back : l ++ drop (at + n) t ≡ drop at t =
+    ap (λ (r : List ℕ). l ++ r) (sym (drop-drop n at t)) ∙ ap (λ (r : List ℕ). r ++ drop n (drop at t)) (sym e) ∙ take-append-drop n (drop at t) in
+    ap (λ (r : List ℕ). take at t ++ r) back ∙ take-append-drop at t
+
+module _ (S M : ℕ) where
+  pub sessionsOf-started : sessionsOf (started S M) ≡ S
+  unfolding started
+  sessionsOf-started = refl
+
+  pub itemsOf-started : itemsOf (started S M) ≡ M
+  unfolding started
+  itemsOf-started = refl
+
+  pub length-started : length (started S M) ≡ size S M
+  length-started = sym (ap length (begun-all S M)) ∙ length-begun S M S (omega arith)
+
+  pub sized-started : 1 ≤ S → S ≤ most → 1 ≤ M → M ≤ most → sized (started S M) ≡ true
+  unfolding sized
+  sized-started a b c d =
+      rw (sessionsOf-started, itemsOf-started, le-leb 1 S a, le-leb S most b, le-leb 1 M c, le-leb M most d, eq-eqb (length (started S M)) (size S M) length-started) refl
+
+  behind : (n : ℕ) → drop (header + n) (started S M) ≡ drop n (repeated S fresh ++ repeated M free)
+  unfolding started
+  behind n = sym (drop-drop n header (started S M))
+
+  session-part : (k : ℕ) → 1 ≤ k → k ≤ S → part (started S M) (sessionPlace k) SessionRecord.size ≡ fresh
+  session-part k l h =
+      ap (take SessionRecord.size) (behind (SessionRecord.size * (k - 1))) ∙ part-repeated fresh (repeated M free) (k - 1) S (omega arith)
+
+  item-part : (x : ℕ) → 1 ≤ x → x ≤ M → part (started S M) (itemPlace S x) ItemRecord.size ≡ free
+  item-part x l h =
+      let sessions : drop (header + SessionRecord.size * S) (started S M) ≡ repeated M free ++ [] =
+      behind (SessionRecord.size * S) ∙ drop-at (repeated S fresh) (repeated M free) (SessionRecord.size * S) (length-repeated fresh S) ∙ sym (append-nil (repeated M free)) in
+      ap (take ItemRecord.size) (sym (drop-drop (ItemRecord.size * (x - 1)) (header + SessionRecord.size * S) (started S M)) ∙ ap (drop (ItemRecord.size * (x - 1))) sessions)
+      ∙ part-repeated free [] (x - 1) M (omega arith)
+
+  pub session-started : (k : ℕ) → 1 ≤ k → k ≤ S → session (started S M) k ≡ SessionRecord.fresh
+  unfolding session
+  session-started k l h =
+      let t = started S M in
+      let at = sessionPlace k in
+      ap (λ (r : List ℕ). SessionRecord.sessionAt r at) (sym (over-same t at fresh (session-part k l h)))
+      ∙ SessionLaws.load-store t at SessionRecord.fresh (omega (arith, length-started)) refl (omega arith)
+
+  pub item-started : (x : ℕ) → 1 ≤ x → x ≤ M → item (started S M) x ≡ ItemRecord.packed ItemRecord.free
+  unfolding item
+  item-started x l h =
+      let t = started S M in
+      let at = itemPlace S x in
+      rw (sessionsOf-started) (
+      ap (λ (r : List ℕ). ItemRecord.itemAt r at) (sym (over-same t at free (item-part x l h)))
+      ∙ ItemLaws.load-store t at (ItemRecord.packed ItemRecord.free) refl (omega (arith, length-started)))
+
+  fresh-in-form : SessionRecord.wellFormed S M SessionRecord.fresh ≡ true
+  unfolding SessionRecord.wellFormed
+  fresh-in-form =
+      rw (
+        lt-ltb 0 (2 ^ M) (pow-pos M),
+        all-take (λ j. leb j S) S (replicate 64 0) (all-replicate (λ j. leb j S) 64 0 (leb·zero S)),
+        all-drop (λ j. eqb j 0) S (replicate 64 0) (all-replicate (λ j. eqb j 0) 64 0 refl),
+      ) refl
+
+  free-in-form : ItemRecord.wellFormed S (ItemRecord.packed ItemRecord.free) ≡ true
+  unfolding ItemRecord.wellFormed all distinct member
+  free-in-form = rw (leb·zero S) (all-replicate (λ b. eqb b 0) 64 0 refl)
+
+  pub wellFormed-started : wellFormed (started S M) ≡ true
+  wellFormed-started =
+      well-formed-intro (started S M)
+      (λ k l h. rw (sessionsOf-started, itemsOf-started, session-started k l (rw (sessionsOf-started) at h)) fresh-in-form)
+      (λ x l h. rw (sessionsOf-started, item-started x l (rw (itemsOf-started) at h)) free-in-form)

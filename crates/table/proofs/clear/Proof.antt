@@ -1,0 +1,91 @@
+-- `clear` meets its contract. The loop's invariant: so many sessions are written, and all else is zero.
+use mathlib.Core.Path.{_≡_, sym, ap, _∙_}
+use Prim.Native.Nat.{_-_, _≤_}
+use native.Mathlib.Omega.{arith}
+use borrow.Author.Needs.{needs}
+use lib.ListN.{length, length-set}
+use Rattle.table.proofs.StartLaws.{begun, begun-none, begun-more, begun-all, length-begun}
+use Rattle.table.proofs.clear.Statement.{statement}
+use Rattle.table.proofs.clear.Tie as tie
+
+abbrev Inv-loop : tie.InvT-loop
+Inv-loop t₀ sessions items n k₀ t k = (k ≤ sessions) × (t ≡ begun sessions items k)
+
+abbrev μ-loop : tie.MeasureT-loop
+μ-loop t₀ sessions items n k₀ t k = sessions - k
+
+zero-requires : tie.Need-zero-requires Inv-loop μ-loop
+zero-requires c κs = search needs
+
+slice-write-t : tie.Need-slice-write-t Inv-loop μ-loop
+slice-write-t c = omega (arith, c .before .before .zero .kept .0)
+
+slice-write-t-2 : tie.Need-slice-write-t-2 Inv-loop μ-loop
+slice-write-t-2 c = simp length-set (omega (arith, c .before .before .zero .kept .0))
+
+loop-holds : tie.Need-loop-holds Inv-loop μ-loop
+loop-holds c =
+    let a = c .before .before .before .before .before .args in
+    let zeroed = c .before .before .zero .ensures in (
+      omega arith,
+      rw (zeroed, c .before .before .before .before .before .pre .4) (begun-none (a .sessions) (a .items)),
+    )
+
+mul-t : tie.Need-mul-t Inv-loop μ-loop
+mul-t c = search needs
+
+add-t : tie.Need-add-t Inv-loop μ-loop
+add-t c = search needs
+
+slice-write-t-3 : tie.Need-slice-write-t-3 Inv-loop μ-loop
+slice-write-t-3 c =
+    let l = c .before .loop in
+    let a = c .before .before .before .before .before .before .before .args in
+    omega (arith, ap length (l .inv .1), length-begun (a .sessions) (a .items) (l .k) (omega arith))
+
+add-k : tie.Need-add-k Inv-loop μ-loop
+add-k c = search needs
+
+loop-less : tie.Need-loop-less Inv-loop μ-loop
+loop-less c = search needs
+
+loop-again : tie.Need-loop-again Inv-loop μ-loop
+loop-again c =
+    let l = c .before .loop in
+    let a = c .before .before .before .before .before .before .before .args in (
+      omega arith,
+      rw (l .inv .1) (begun-more (a .sessions) (a .items) (l .k) (omega arith)),
+    )
+
+same-length : tie.Need-same-length Inv-loop μ-loop
+same-length c =
+    let l = c .before .loop in
+    let start = c .before .before .before .before .before .before .before in
+    let a = start .args in
+    ap length (l .inv .1) ∙ length-begun (a .sessions) (a .items) (l .k) (omega arith) ∙ sym (start .pre .4)
+
+returns : tie.Need-returns Inv-loop μ-loop
+returns c =
+    let l = c .before .loop in
+    let a = c .before .before .before .before .before .before .before .args in
+    let all : l .k ≡ a .sessions = omega arith in
+    l .inv .1 ∙ ap (begun (a .sessions) (a .items)) all ∙ begun-all (a .sessions) (a .items)
+
+pub clear-spec : {M : Type 1} → statement M
+clear-spec =
+    tie.close
+    (tie.spec
+    Inv-loop
+    μ-loop
+    zero-requires
+    slice-write-t
+    slice-write-t-2
+    loop-holds
+    mul-t
+    add-t
+    slice-write-t-3
+    add-k
+    loop-less
+    loop-again
+    same-length
+    returns)
