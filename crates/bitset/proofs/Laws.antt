@@ -54,7 +54,8 @@ bits-none (suc d) k = bits-none d (suc k)
 pub shift-one : (t : ℕ) → t < 64 → (1 * 2 ^ t) % 2 ^ 64 ≡ 2 ^ t
 shift-one t h = shl-exact {a = 1} 1 t 64 (omega arith) (omega arith) ∙ one-mul (2 ^ t)
 
-room : (m t d : ℕ) → m < 2 ^ (d + 1 + t) → m / 2 ^ t % 2 ≡ 0 → m + 2 ^ t < 2 ^ (d + 1 + t)
+-- a number below a power of 2 has room for a digit that it lacks
+pub room : (m t d : ℕ) → m < 2 ^ (d + 1 + t) → m / 2 ^ t % 2 ≡ 0 → m + 2 ^ t < 2 ^ (d + 1 + t)
 room m t d h e =
     let q : m / 2 ^ t < 2 ^ (d + 1) = shr-lt (d + 1) t h in
     let more : m / 2 ^ t + 1 < 2 ^ (d + 1) = rw (pow-add 2 d 1) (omega (arith, rw (pow-add 2 d 1) at q)) in

@@ -135,19 +135,13 @@ fn entry(m: &[u8], at: usize, to: usize, s: u8, x: u8) -> bool
     requires { ⌜ (at + 3 ≤ length (now m)) × (to + 3 ≤ length (now m)) ⌝ }
     ensures { λ r. ⌜ r ≡ Entry.wellFormed s x (entryFrom (now (m .entry)) at to) ⌝ }
 {
-    let first = cell(
-        m[at],
-        m[at + 1],
-        m[to],
-        m[to + 1],
-        m[to + 2],
-        TO_SESSION,
-        Message::WITHDRAWN,
-        0,
-    );
     let t = m[at + 1];
     let v = m[at + 2];
-    first & ((t >= 1) & (t <= s) & (m[to + 1] <= s)) & ((v >= 1) & (v <= x) & (m[to + 2] <= s))
+    let a = m[to + 1];
+    let b = m[to + 2];
+    cell(m[at], t, m[to], a, b, TO_SESSION, Message::WITHDRAWN, 0)
+        & ((t >= 1) & (t <= s) & (a <= s))
+        & ((v >= 1) & (v <= x) & (b <= s))
 }
 
 // Whether the n entries are well-formed.

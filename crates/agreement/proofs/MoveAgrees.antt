@@ -1,0 +1,318 @@
+-- A step of the lock manager's records, where it is allowed, is the machine's move, and keeps the state well-formed.
+use mathlib.Core.Path.{_≡_, refl, ap, _∙_, fun-ext}
+use mathlib.Core.Bool.{Bool, true, false, cond, not, _&&_, _||_}
+use mathlib.Core.List.{List, [], _++_, map}
+use mathlib.Core.Option.{none}
+use Prim.Native.Nat.{ℕ, _≤_, _<_}
+use native.Mathlib.Omega.{arith}
+use lib.Dec.{eqb}
+use lib.ListN.{length, getD}
+use borrow.Author.Tests.{eqb-true, eqb-false}
+use Rattle.buffer.specs.Lists.{between, all, removeAt}
+use Rattle.buffer.proofs.ListLaws.{place-found, place-length}
+use Rattle.bitset.specs.Bitset.{has}
+use Rattle.message.specs.Kind
+use Rattle.mailbox.specs.Entry as Entry
+use Rattle.mailbox.specs.Entry.{Entry, toItem, toSession, unused, onRoute, earliest, fromSession, fromItem, seenByItem, seenBySession}
+use Rattle.session.specs.Stage
+use Rattle.session.specs.declared.Session.{Session}
+use Rattle.session.specs.Record as SessionRecord
+use Rattle.session.specs.Rules as SessionRules
+use Rattle.item.specs.Record as ItemRecord
+use Rattle.item.specs.Record.{Lock}
+use Rattle.item.specs.Rules as ItemRules
+use Rattle.item.proofs.Pigeonhole.{and-both}
+use Rattle.deadlock.specs.Lists.{updated}
+use Rattle.deadlock.specs.Machine
+use Rattle.agreement.specs.Reading.{readStage, readHolder, readHeld, readSession, readItem, readMessage, readSessionStep, readItemStep, readEntries, readSessions, readItems, readState, directionOf, LockWellFormed, rules}
+use Rattle.agreement.proofs.ReadingLists.{between-low, between-high, all-getD}
+use Rattle.agreement.proofs.ReadingSession.{held-none, stored-none}
+use Rattle.agreement.proofs.Entries.{all-none, all-append, all-map, entry-facts}
+use Rattle.agreement.proofs.ItemAgrees.{item-agrees}
+use Rattle.agreement.proofs.ItemKeeps.{ItemKept, item-kept, removeAt-all, free-lock}
+use Rattle.agreement.proofs.SessionAgrees.{session-agrees, request-agrees, release-agrees, held-read}
+use Rattle.agreement.proofs.SessionKeeps.{fresh-formed, SessionKept, session-kept, request-kept, release-kept}
+use Rattle.agreement.proofs.MailboxAgrees.{takenAt, take-agrees, readEntries-append, from-session, from-item}
+
+-- the kinds are 1 to 10
+carried-range : (direction kind : ℕ) → Entry.carried direction kind ≡ true → (1 ≤ kind) × (kind ≤ 10)
+carried-range direction kind e = go (eqb direction toItem) (eqb direction toSession) e
+  where
+    last : between Kind.grant Kind.withdrawn kind ≡ true → (1 ≤ kind) × (kind ≤ 10)
+    last f = (omega (arith, between-low 7 10 kind f), between-high 7 10 kind f)
+
+    second : (p c : Bool) → eqb kind Kind.probe ≡ p → eqb kind Kind.clean ≡ c → p || c || between Kind.grant Kind.withdrawn kind ≡ true → (1 ≤ kind) × (kind ≤ 10)
+    second true c q r f = (omega (arith, eqb-true kind 3 q), omega (arith, eqb-true kind 3 q))
+    second false true q r f = (omega (arith, eqb-true kind 4 r), omega (arith, eqb-true kind 4 r))
+    second false false q r f = last f
+
+    first : (b : Bool) → between Kind.request Kind.withdraw kind ≡ b → (c : Bool) → b || c && (eqb kind Kind.probe || eqb kind Kind.clean || between Kind.grant Kind.withdrawn kind) ≡ true → (1 ≤ kind) × (kind ≤ 10)
+    first true f c h = (between-low 1 6 kind f, omega (arith, between-high 1 6 kind f))
+    first false f true h = second (eqb kind Kind.probe) (eqb kind Kind.clean) refl refl h
+    first false f false h = let z : _≡_ {A = ℕ} 0 1 = cc in absurd (omega arith)
+
+    go : (a c : Bool) → a && between Kind.request Kind.withdraw kind || c && (eqb kind Kind.probe || eqb kind Kind.clean || between Kind.grant Kind.withdrawn kind) ≡ true → (1 ≤ kind) × (kind ≤ 10)
+    go true c h = first (between Kind.request Kind.withdraw kind) refl c h
+    go false true h = second (eqb kind Kind.probe) (eqb kind Kind.clean) refl refl h
+    go false false h = let z : _≡_ {A = ℕ} 0 1 = cc in absurd (omega arith)
+
+-- of the records 1 to n, the one at k is now a, and the others are as they were
+pub record Replaced {A : Type 0} (n : ℕ) (f g : ℕ → A) (k : ℕ) (a : A) : Type 0 where
+  pub here : g k ≡ a
+  pub elsewhere : (j : ℕ) → between 1 n j ≡ true → (k ≡ j → ⊥) → g j ≡ f j
+
+pub sessions-replaced : (S : ℕ) (f g : ℕ → Session) (t : ℕ) (s : Session) → between 1 S t ≡ true → Replaced S f g t s → readSessions S g ≡ updated (readSessions S f) t (readSession s)
+unfolding readSessions updated
+sessions-replaced S f g t s r h = fun-ext (λ k. go k (eqb t k) refl)
+  where
+    start : Machine.Session
+    start = record { stage = Machine.growing; held = λ (_ : ℕ). false; stored = λ (_ : ℕ). 0 }
+
+    other : (k : ℕ) (b : Bool) → between 1 S k ≡ b → (t ≡ k → ⊥) → cond b (readSession (g k)) start ≡ cond b (readSession (f k)) start
+    other k false e n = refl
+    other k true e n = ap readSession (h .elsewhere k e n)
+
+    go : (k : ℕ) (b : Bool) → eqb t k ≡ b → cond (between 1 S k) (readSession (g k)) start ≡ cond b (readSession s) (cond (between 1 S k) (readSession (f k)) start)
+    go k true e = rw (← eqb-true t k e, r, h .here) refl
+    go k false e = other k (between 1 S k) refl (eqb-false t k e)
+
+pub items-replaced : (M : ℕ) (f g : ℕ → Lock) (x : ℕ) (l : Lock) → between 1 M x ≡ true → Replaced M f g x l → readItems M g ≡ updated (readItems M f) x (readItem l)
+unfolding readItems updated
+items-replaced M f g x l r h = fun-ext (λ k. go k (eqb x k) refl)
+  where
+    start : Machine.Item
+    start = record { holder = none; queue = [] }
+
+    other : (k : ℕ) (b : Bool) → between 1 M k ≡ b → (x ≡ k → ⊥) → cond b (readItem (g k)) start ≡ cond b (readItem (f k)) start
+    other k false e n = refl
+    other k true e n = ap readItem (h .elsewhere k e n)
+
+    go : (k : ℕ) (b : Bool) → eqb x k ≡ b → cond (between 1 M k) (readItem (g k)) start ≡ cond b (readItem l) (cond (between 1 M k) (readItem (f k)) start)
+    go k true e = rw (← eqb-true x k e, r, h .here) refl
+    go k false e = other k (between 1 M k) refl (eqb-false x k e)
+
+-- the place of the earliest entry of a route between session t and item x, that entry, and the others
+abbrev pub placeOf : ℕ → ℕ → List Entry → Bool → ℕ
+placeOf t x l d = earliest (directionOf d) t x l
+
+abbrev pub entryOf : ℕ → ℕ → List Entry → Bool → Entry
+entryOf t x l d = getD l (placeOf t x l d) unused
+
+abbrev pub othersOf : ℕ → ℕ → List Entry → Bool → List Entry
+othersOf t x l d = removeAt (placeOf t x l d) l
+
+-- what item x does on the earliest entry of session t, and session t on the earliest of item x
+abbrev pub itemStep : (ℕ → ℕ → Bool) → (List ℕ → ℕ) → (ℕ → Lock) → ℕ → ℕ → List Entry → ItemRules.After
+itemStep senior next locks t x l = ItemRules.received senior next (locks x) (seenByItem (entryOf t x l true))
+
+abbrev pub sessionStep : (ℕ → ℕ → Bool) → (ℕ → Session) → ℕ → ℕ → List Entry → SessionRules.After
+sessionStep senior sessions t x l = SessionRules.received senior t (sessions t) (seenBySession (entryOf t x l false))
+
+-- every record and every entry is well-formed
+pub record StateWellFormed (S M : ℕ) (sessions : ℕ → Session) (locks : ℕ → Lock) (l : List Entry) : Type 0 where
+  pub session : (t : ℕ) → between 1 S t ≡ true → SessionRecord.wellFormed S M (sessions t) ≡ true
+  pub juniors : (t : ℕ) → between 1 S t ≡ true → length (sessions t .juniors) ≡ 64
+  pub lock : (x : ℕ) → between 1 M x ≡ true → LockWellFormed S (locks x)
+  pub entries : all (Entry.wellFormed S M) l ≡ true
+
+module _ (senior : ℕ → ℕ → Bool) (next : List ℕ → ℕ) (S M : ℕ) (few-sessions : S ≤ 64) (few-items : M ≤ 64)
+    (sessions : ℕ → Session) (locks : ℕ → Lock) (l : List Entry) (w : StateWellFormed S M sessions locks l)
+    (t x : ℕ) (t-range : between 1 S t ≡ true) (x-range : between 1 M x ≡ true) where
+  abbrev R : Machine.Rules
+  R = rules S M senior next
+
+  pub session-at : readSessions S sessions t ≡ readSession (sessions t)
+  unfolding readSessions
+  session-at = rw (t-range) refl
+
+  pub item-at : readItems M locks x ≡ readItem (locks x)
+  unfolding readItems
+  item-at = rw (x-range) refl
+
+  -- a session's step
+  session-state : (rest : List Entry) (r : SessionRules.After) (g : ℕ → Session) → Replaced S sessions g t (r .session)
+      → readState S M g locks (rest ++ map (fromSession t) (r .sends)) ≡ Machine.afterSession (readState S M sessions locks l) t (readEntries rest) (readSessionStep r)
+  unfolding Machine.afterSession
+  session-state rest r g h = rw (sessions-replaced S sessions g t (r .session) t-range h, readEntries-append rest (map (fromSession t) (r .sends)), from-session t (r .sends)) refl
+
+  item-state : (rest : List Entry) (r : ItemRules.After) (g : ℕ → Lock) → Replaced M locks g x (r .lock)
+      → readState S M sessions g (rest ++ map (fromItem x) (r .sends)) ≡ Machine.afterItem (readState S M sessions locks l) x (readEntries rest) (readItemStep r)
+  unfolding Machine.afterItem
+  item-state rest r g h = rw (items-replaced M locks g x (r .lock) x-range h, readEntries-append rest (map (fromItem x) (r .sends)), from-item x (r .sends)) refl
+
+  session-state-kept : (rest : List Entry) → all (Entry.wellFormed S M) rest ≡ true → (r : SessionRules.After) → SessionKept S M t r → (g : ℕ → Session) → Replaced S sessions g t (r .session)
+      → StateWellFormed S M g locks (rest ++ map (fromSession t) (r .sends))
+  session-state-kept rest e r k g h = record {
+    session = λ j f. at j f (eqb t j) refl .0;
+    juniors = λ j f. at j f (eqb t j) refl .1;
+    lock = w .lock;
+    entries = all-append (Entry.wellFormed S M) rest _ e (all-map (Entry.wellFormed S M) (fromSession t) (r .sends) (k .sends));
+  }
+    where
+      at : (j : ℕ) → between 1 S j ≡ true → (b : Bool) → eqb t j ≡ b → (SessionRecord.wellFormed S M (g j) ≡ true) × (length (g j .juniors) ≡ 64)
+      at j f true q = rw (← eqb-true t j q, h .here) (k .session, k .juniors)
+      at j f false q = rw (h .elsewhere j f (eqb-false t j q)) (w .session j f, w .juniors j f)
+
+  item-state-kept : (rest : List Entry) → all (Entry.wellFormed S M) rest ≡ true → (r : ItemRules.After) → ItemKept S M x r → (g : ℕ → Lock) → Replaced M locks g x (r .lock)
+      → StateWellFormed S M sessions g (rest ++ map (fromItem x) (r .sends))
+  item-state-kept rest e r k g h = record {
+    session = w .session;
+    juniors = w .juniors;
+    lock = λ j f. at j f (eqb x j) refl;
+    entries = all-append (Entry.wellFormed S M) rest _ e (all-map (Entry.wellFormed S M) (fromItem x) (r .sends) (k .sends));
+  }
+    where
+      at : (j : ℕ) → between 1 M j ≡ true → (b : Bool) → eqb x j ≡ b → LockWellFormed S (g j)
+      at j f true q = rw (← eqb-true x j q, h .here) (k .lock)
+      at j f false q = rw (h .elsewhere j f (eqb-false x j q)) (w .lock j f)
+
+  abbrev before : Machine.State
+  before = readState S M sessions locks l
+
+  -- what the mask says of item x
+  held-at : readHeld (sessions t .held) x ≡ has x (sessions t .held)
+  held-at = held-read (sessions t .held) x (between-low 1 M x x-range) (omega (arith, between-high 1 M x x-range))
+
+  -- ---- the calls
+  request-answer : Machine.onRequestCall R x (readSession (sessions t)) (readSession (sessions t) .stage)
+      ≡ cond (eqb (sessions t .stage) Stage.growing && not (has x (sessions t .held))) (Machine.accepted (readSessionStep (SessionRules.requested x (sessions t)))) Machine.refused
+  request-answer = rw (← held-at) (request-agrees senior next S M few-sessions few-items (sessions t) (w .session t t-range) (w .juniors t t-range) x)
+
+  release-answer : Machine.onReleaseCall R x (readSession (sessions t)) (readSession (sessions t) .stage)
+      ≡ cond ((eqb (sessions t .stage) Stage.growing || eqb (sessions t .stage) Stage.shrinking) && has x (sessions t .held)) (Machine.accepted (readSessionStep (SessionRules.released x (sessions t)))) Machine.refused
+  release-answer = rw (← held-at) (release-agrees senior next S M few-sessions few-items (sessions t) (w .session t t-range) (w .juniors t t-range) x (between-low 1 M x x-range) (between-high 1 M x x-range))
+
+  -- a request in stage 1 for an item not held
+  pub request-move : eqb (sessions t .stage) Stage.growing && not (has x (sessions t .held)) ≡ true → (g : ℕ → Session) → Replaced S sessions g t (SessionRules.requested x (sessions t) .session)
+      → readState S M g locks (l ++ map (fromSession t) (SessionRules.requested x (sessions t) .sends)) ≡ Machine.move R before (Machine.requestCall t x)
+  unfolding Machine.move Machine.afterAnswer
+  request-move e g h = rw (session-at, request-answer, e) (session-state l (SessionRules.requested x (sessions t)) g h)
+
+  -- a release in stage 1 or 3 of an item held
+  pub release-move : (eqb (sessions t .stage) Stage.growing || eqb (sessions t .stage) Stage.shrinking) && has x (sessions t .held) ≡ true → (g : ℕ → Session) → Replaced S sessions g t (SessionRules.released x (sessions t) .session)
+      → readState S M g locks (l ++ map (fromSession t) (SessionRules.released x (sessions t) .sends)) ≡ Machine.move R before (Machine.releaseCall t x)
+  unfolding Machine.move Machine.afterAnswer
+  release-move e g h = rw (session-at, release-answer, e) (session-state l (SessionRules.released x (sessions t)) g h)
+
+  -- any other request or release is no move
+  pub request-no-move : eqb (sessions t .stage) Stage.growing && not (has x (sessions t .held)) ≡ false → Machine.move R before (Machine.requestCall t x) ≡ before
+  unfolding Machine.move Machine.afterAnswer
+  request-no-move e = rw (session-at, request-answer, e) refl
+
+  pub release-no-move : (eqb (sessions t .stage) Stage.growing || eqb (sessions t .stage) Stage.shrinking) && has x (sessions t .held) ≡ false → Machine.move R before (Machine.releaseCall t x) ≡ before
+  unfolding Machine.move Machine.afterAnswer
+  release-no-move e = rw (session-at, release-answer, e) refl
+
+  pub request-move-kept : (g : ℕ → Session) → Replaced S sessions g t (SessionRules.requested x (sessions t) .session)
+      → StateWellFormed S M g locks (l ++ map (fromSession t) (SessionRules.requested x (sessions t) .sends))
+  request-move-kept g h = session-state-kept l (w .entries) (SessionRules.requested x (sessions t)) (request-kept S M t x t-range x-range (sessions t) (w .session t t-range) (w .juniors t t-range)) g h
+
+  pub release-move-kept : eqb (sessions t .stage) Stage.growing || eqb (sessions t .stage) Stage.shrinking ≡ true → (g : ℕ → Session) → Replaced S sessions g t (SessionRules.released x (sessions t) .session)
+      → StateWellFormed S M g locks (l ++ map (fromSession t) (SessionRules.released x (sessions t) .sends))
+  release-move-kept e g h = session-state-kept l (w .entries) (SessionRules.released x (sessions t)) (release-kept S M t x t-range x-range (sessions t) (w .session t t-range) (w .juniors t t-range) e) g h
+
+  -- ---- the deliveries
+  module _ (d : Bool) (found : eqb (placeOf t x l d) (length l) ≡ false) where
+    inside : placeOf t x l d < length l
+    inside = omega (arith, place-length (onRoute (directionOf d) t x) l, eqb-false (placeOf t x l d) (length l) found)
+
+    pub entry-formed : Entry.wellFormed S M (entryOf t x l d) ≡ true
+    entry-formed = all-getD (Entry.wellFormed S M) l (placeOf t x l d) unused (w .entries) inside
+
+    on-route : onRoute (directionOf d) t x (entryOf t x l d) ≡ true
+    on-route = place-found (onRoute (directionOf d) t x) l unused inside
+
+    pub entry-session : entryOf t x l d .session ≡ t
+    entry-session =
+        let first = and-both (eqb (entryOf t x l d .direction) (directionOf d) && eqb (entryOf t x l d .session) t) (eqb (entryOf t x l d .item) x) on-route .0 in
+        eqb-true (entryOf t x l d .session) t (and-both (eqb (entryOf t x l d .direction) (directionOf d)) (eqb (entryOf t x l d .session) t) first .1)
+
+    entry-item : entryOf t x l d .item ≡ x
+    entry-item = eqb-true (entryOf t x l d .item) x (and-both (eqb (entryOf t x l d .direction) (directionOf d) && eqb (entryOf t x l d .session) t) (eqb (entryOf t x l d .item) x) on-route .1)
+
+    others-formed : all (Entry.wellFormed S M) (othersOf t x l d) ≡ true
+    others-formed = removeAt-all (Entry.wellFormed S M) (placeOf t x l d) l (w .entries)
+
+    pub taken-eq : Machine.take d t x (readEntries l) ≡ Machine.taken (readMessage (entryOf t x l d .kind) (entryOf t x l d .a) (entryOf t x l d .b)) (readEntries (othersOf t x l d))
+    unfolding takenAt
+    taken-eq = take-agrees S M d t x l (w .entries) ∙ rw (found) refl
+
+    pub kind-range : (1 ≤ entryOf t x l d .kind) × (entryOf t x l d .kind ≤ 10)
+    kind-range = carried-range (entryOf t x l d .direction) (entryOf t x l d .kind) (entry-facts S M (entryOf t x l d) entry-formed .kind)
+
+  -- with no entry on the route a delivery is no move
+  pub item-no-move : eqb (placeOf t x l true) (length l) ≡ true → Machine.move R before (Machine.deliverToItem t x) ≡ before
+  unfolding Machine.move Machine.itemTakes takenAt
+  item-no-move e = let none : Machine.take true t x (readEntries l) ≡ Machine.noEntry = take-agrees S M true t x l (w .entries) ∙ rw (e) refl in rw (none) refl
+
+  pub session-no-move : eqb (placeOf t x l false) (length l) ≡ true → Machine.move R before (Machine.deliverToSession t x) ≡ before
+  unfolding Machine.move Machine.sessionTakes takenAt
+  session-no-move e = let none : Machine.take false t x (readEntries l) ≡ Machine.noEntry = take-agrees S M false t x l (w .entries) ∙ rw (e) refl in rw (none) refl
+
+  -- the earliest entry to item x
+  module _ (found : eqb (placeOf t x l true) (length l) ≡ false) (inside-queue : (q : List ℕ) → 0 < length q → next q < length q) where
+    item-step-agrees : readItemStep (itemStep senior next locks t x l) ≡ Machine.itemReceives R t (readItem (locks x)) (readMessage (entryOf t x l true .kind) (entryOf t x l true .a) (entryOf t x l true .b))
+    item-step-agrees =
+        let kind = kind-range true found in
+        let low : 1 ≤ entryOf t x l true .session = rw (entry-session true found) (between-low 1 S t t-range) in
+        item-agrees senior next S M (locks x) (seenByItem (entryOf t x l true)) low (kind .0) (kind .1) (w .lock x x-range) (inside-queue (locks x .queue))
+        ∙ ap (λ (n : ℕ). Machine.itemReceives R n (readItem (locks x)) (readMessage (entryOf t x l true .kind) (entryOf t x l true .a) (entryOf t x l true .b))) (entry-session true found)
+
+    pub item-move : (g : ℕ → Lock) → Replaced M locks g x (itemStep senior next locks t x l .lock)
+        → readState S M sessions g (othersOf t x l true ++ map (fromItem x) (itemStep senior next locks t x l .sends)) ≡ Machine.move R before (Machine.deliverToItem t x)
+    unfolding Machine.move Machine.itemTakes
+    item-move g h = rw (taken-eq true found, item-at, ← item-step-agrees) (item-state (othersOf t x l true) (itemStep senior next locks t x l) g h)
+
+    pub item-move-kept : (g : ℕ → Lock) → Replaced M locks g x (itemStep senior next locks t x l .lock) → StateWellFormed S M sessions g (othersOf t x l true ++ map (fromItem x) (itemStep senior next locks t x l .sends))
+    item-move-kept g h =
+        item-state-kept (othersOf t x l true) (others-formed true found) (itemStep senior next locks t x l)
+        (rw (entry-item true found) at (item-kept senior next S M (entryOf t x l true) (entry-formed true found) (locks x) (w .lock x x-range) (inside-queue (locks x .queue)))) g h
+
+  -- the earliest entry to session t
+  module _ (found : eqb (placeOf t x l false) (length l) ≡ false) where
+    session-step-agrees : readSessionStep (sessionStep senior sessions t x l) ≡ Machine.sessionReceives R t x (readSession (sessions t)) (readMessage (entryOf t x l false .kind) (entryOf t x l false .a) (entryOf t x l false .b))
+    session-step-agrees =
+        let e = entryOf t x l false in
+        let kind = kind-range false found in
+        let facts = entry-facts S M e (entry-formed false found) in
+        let low : 1 ≤ e .item = between-low 1 M (e .item) (facts .item) in
+        let high : e .item ≤ M = between-high 1 M (e .item) (facts .item) in
+        let first : e .kind ≡ Kind.probe → (1 ≤ e .a) × (e .a ≤ S) = λ q. let r = facts .first (ap Kind.carries q) in (between-low 1 S (e .a) r, between-high 1 S (e .a) r) in
+        session-agrees senior next S M few-sessions few-items (sessions t) (w .session t t-range) (w .juniors t t-range) t (seenBySession e) low high (kind .0) (kind .1) first
+        ∙ ap (λ (n : ℕ). Machine.sessionReceives R t n (readSession (sessions t)) (readMessage (e .kind) (e .a) (e .b))) (entry-item false found)
+
+    pub session-move : (g : ℕ → Session) → Replaced S sessions g t (sessionStep senior sessions t x l .session)
+        → readState S M g locks (othersOf t x l false ++ map (fromSession t) (sessionStep senior sessions t x l .sends)) ≡ Machine.move R before (Machine.deliverToSession t x)
+    unfolding Machine.move Machine.sessionTakes
+    session-move g h = rw (taken-eq false found, session-at, ← session-step-agrees) (session-state (othersOf t x l false) (sessionStep senior sessions t x l) g h)
+
+    pub session-move-kept : (g : ℕ → Session) → Replaced S sessions g t (sessionStep senior sessions t x l .session) → StateWellFormed S M g locks (othersOf t x l false ++ map (fromSession t) (sessionStep senior sessions t x l .sends))
+    session-move-kept g h =
+        session-state-kept (othersOf t x l false) (others-formed false found) (sessionStep senior sessions t x l)
+        (rw (entry-session false found) at (session-kept senior S M (entryOf t x l false) (entry-formed false found) (sessions t) (w .session t t-range) (w .juniors t t-range))) g h
+
+-- a lock manager that was just started
+module _ (S M : ℕ) (sessions : ℕ → Session) (locks : ℕ → Lock) (fresh : (t : ℕ) → between 1 S t ≡ true → sessions t ≡ SessionRecord.fresh)
+    (free : (x : ℕ) → between 1 M x ≡ true → locks x ≡ ItemRecord.free) where
+  pub start-agrees : (senior : ℕ → ℕ → Bool) (next : List ℕ → ℕ) → readState S M sessions locks [] ≡ Machine.start (rules S M senior next)
+  unfolding Machine.start readSessions readItems readEntries readStage readHolder
+  start-agrees senior next = λ i. record { session = fun-ext (λ t. one t (between 1 S t) refl) i; item = fun-ext (λ x. other x (between 1 M x) refl) i; mailbox = [] }
+    where
+      start : Machine.Session
+      start = record { stage = Machine.growing; held = λ (_ : ℕ). false; stored = λ (_ : ℕ). 0 }
+
+      one : (t : ℕ) (b : Bool) → between 1 S t ≡ b → cond b (readSession (sessions t)) start ≡ start
+      one t false e = refl
+      one t true e = ap readSession (fresh t e) ∙ (λ i. record { stage = Machine.growing; held = held-none i; stored = stored-none i })
+
+      other : (x : ℕ) (b : Bool) → between 1 M x ≡ b → cond b (readItem (locks x)) (record { holder = none; queue = [] }) ≡ record { holder = none; queue = [] }
+      other x false e = refl
+      other x true e = ap readItem (free x e)
+
+  pub start-kept : StateWellFormed S M sessions locks []
+  start-kept = record {
+    session = λ t r. rw (fresh t r) (fresh-formed S M);
+    juniors = λ t r. ap (λ (s : Session). length (s .juniors)) (fresh t r);
+    lock = λ x r. rw (free x r) (free-lock S);
+    entries = all-none (Entry.wellFormed S M);
+  }

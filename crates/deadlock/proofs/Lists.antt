@@ -1,0 +1,155 @@
+-- Laws of tests, of changed functions and of lists of numbers.
+use mathlib.Core.Path.{_∙_, _≡_, ap, refl, sym}
+use mathlib.Core.Bool.{_&&_, _||_, Bool, cond, false, false≢true, true, true≢false}
+use mathlib.Core.List.{[], _++_, _∷_, List}
+use mathlib.Core.Logic.{_≢_, _⊎_, inl, inr}
+use Prim.Native.Nat.{_+_, _-_, _<_, _≤_, suc, zero, ℕ}
+use native.Mathlib.Omega.{arith}
+use lib.Dec.{eqb}
+use borrow.Author.Tests.{eq-eqb, eqb-false, eqb-true, ne-eqb}
+use Rattle.deadlock.specs.Lists.{bit, member, occurs, oneTo, updated, without}
+
+pub same? : (k j : ℕ) → Dec (k ≡ j)
+same? k j = cases (eqb k j) refl
+  where
+    cases : (b : Bool) → eqb k j ≡ b → Dec (k ≡ j)
+    cases true e = yes (eqb-true k j e)
+    cases false e = no (eqb-false k j e)
+
+pub eqb-self : (k : ℕ) → eqb k k ≡ true
+eqb-self k = eq-eqb k k refl
+
+pub eqb-ne : (k j : ℕ) → k ≢ j → eqb k j ≡ false
+eqb-ne k j h = ne-eqb k j h
+
+-- to prove something of a conditional, prove it of both branches, each with the test's answer
+pub by-test : {A : Type 0} (P : A → Type 0) (b : Bool) (x y : A) → (b ≡ true → P x) → (b ≡ false → P y) → P (cond b x y)
+by-test P true x y f g = f refl
+by-test P false x y f g = g refl
+
+module _ {A : Type 0} where
+  pub updated-same : (f : ℕ → A) (k : ℕ) (v : A) → updated f k v k ≡ v
+  unfolding updated
+  updated-same f k v = rw eqb-self
+
+  pub updated-other : (f : ℕ → A) (k : ℕ) (v : A) (j : ℕ) → k ≢ j → updated f k v j ≡ f j
+  unfolding updated
+  updated-other f k v j h = rw (eqb-ne k j h)
+
+-- a value written back where it was
+pub updated-unchanged : {A : Type 0} (f : ℕ → A) (k j : ℕ) → updated f k (f k) j ≡ f j
+updated-unchanged f k j = elim (same? k j) [ yes q ↦ rw (← q, updated-same) | no q ↦ updated-other f k (f k) j q ]
+
+pub occurs-append : (a : ℕ) (l m : List ℕ) → occurs a (l ++ m) ≡ occurs a l + occurs a m
+unfolding occurs
+occurs-append a [] m = omega arith
+occurs-append a (b ∷ l) m = omega (arith, occurs-append a l m)
+
+pub occurs-last-same : (a : ℕ) (l : List ℕ) → occurs a (l ++ a ∷ []) ≡ suc (occurs a l)
+unfolding occurs
+occurs-last-same a l = rw (occurs-append, eqb-self) (omega arith)
+
+pub occurs-last-other : (a b : ℕ) (l : List ℕ) → b ≢ a → occurs a (l ++ b ∷ []) ≡ occurs a l
+unfolding occurs
+occurs-last-other a b l h = rw (occurs-append, eqb-ne b a h) (omega arith)
+
+pub member-occurs : (a : ℕ) (l : List ℕ) → member a l ≡ true → 1 ≤ occurs a l
+unfolding member occurs
+member-occurs a [] e = absurd (false≢true e)
+member-occurs a (b ∷ l) e = cases (eqb b a) (member-occurs a l) e
+  where
+    cases : (t : Bool) → (member a l ≡ true → 1 ≤ occurs a l) → t || member a l ≡ true → 1 ≤ bit t + occurs a l
+    cases true f e = omega arith
+    cases false f e = omega (arith, f e)
+
+pub not-member-occurs : (a : ℕ) (l : List ℕ) → member a l ≡ false → occurs a l ≡ 0
+unfolding member occurs
+not-member-occurs a [] e = refl
+not-member-occurs a (b ∷ l) e = cases (eqb b a) (not-member-occurs a l) e
+  where
+    cases : (t : Bool) → (member a l ≡ false → occurs a l ≡ 0) → t || member a l ≡ false → bit t + occurs a l ≡ 0
+    cases true f e = absurd (true≢false e)
+    cases false f e = omega (arith, f e)
+
+pub occurs-without-same : (a : ℕ) (l : List ℕ) → occurs a (without a l) ≡ occurs a l - 1
+unfolding without occurs
+occurs-without-same a [] = refl
+occurs-without-same a (b ∷ l) = cases (eqb b a) refl (occurs-without-same a l)
+  where
+    cases : (t : Bool) → eqb b a ≡ t → occurs a (without a l) ≡ occurs a l - 1 → occurs a (cond t l (b ∷ without a l)) ≡ bit t + occurs a l - 1
+    cases true e ih = omega arith
+    cases false e ih = rw e (omega arith)
+
+pub occurs-without-other : (a b : ℕ) (l : List ℕ) → b ≢ a → occurs a (without b l) ≡ occurs a l
+unfolding without occurs
+occurs-without-other a b [] h = refl
+occurs-without-other a b (c ∷ l) h = cases (eqb c b) refl (occurs-without-other a b l h)
+  where
+    cases : (t : Bool) → eqb c b ≡ t → occurs a (without b l) ≡ occurs a l → occurs a (cond t l (c ∷ without b l)) ≡ bit (eqb c a) + occurs a l
+    cases true e ih = rw (eqb-ne c a (λ q. h (sym (eqb-true c b e) ∙ q))) (omega arith)
+    cases false e ih = omega arith
+
+-- taking a number out makes no number occur more often
+pub occurs-without-le : (a b : ℕ) (l : List ℕ) → occurs a (without b l) ≤ occurs a l
+occurs-without-le a b l = elim (same? b a) [ yes q ↦ rw q (omega (arith, occurs-without-same a l)) | no q ↦ omega (arith, occurs-without-other a b l q) ]
+
+pub bit-le : (b : Bool) → bit b ≤ 1
+bit-le true = omega arith
+bit-le false = omega arith
+
+pub bit-or : (a b : Bool) → a || b ≡ true → 1 ≤ bit a + bit b
+bit-or true b e = omega arith
+bit-or false true e = omega arith
+bit-or false false e = absurd (false≢true e)
+
+pub bit-member : (a : ℕ) (l : List ℕ) → bit (member a l) ≤ occurs a l
+bit-member a l = cases (member a l) refl
+  where
+    cases : (b : Bool) → member a l ≡ b → bit b ≤ occurs a l
+    cases true e = member-occurs a l e
+    cases false e = omega arith
+
+occurs-oneTo-none : (k a : ℕ) → k < a → occurs a (oneTo k) ≡ 0
+unfolding oneTo occurs
+occurs-oneTo-none zero a h = refl
+occurs-oneTo-none (suc k) a h = omega (arith, occurs-append a (oneTo k) (suc k ∷ []), occurs-oneTo-none k a (omega arith), ap bit (eqb-ne (suc k) a (omega arith)))
+
+pub occurs-oneTo : (k a : ℕ) → 1 ≤ a → a ≤ k → occurs a (oneTo k) ≡ 1
+unfolding oneTo occurs
+occurs-oneTo zero a l h = absurd (omega arith)
+occurs-oneTo (suc k) a l h = cases (same? (suc k) a) (occurs-oneTo k a l)
+  where
+    cases : Dec (suc k ≡ a) → (a ≤ k → occurs a (oneTo k) ≡ 1) → occurs a (oneTo k ++ suc k ∷ []) ≡ 1
+    cases (yes q) ih = omega (arith, occurs-append a (oneTo k) (suc k ∷ []), occurs-oneTo-none k a (omega arith), ap bit (eq-eqb (suc k) a q))
+    cases (no q) ih = omega (arith, occurs-append a (oneTo k) (suc k ∷ []), ih (omega arith), ap bit (eqb-ne (suc k) a q))
+
+pub bit-eqb : (a b : ℕ) → 1 ≤ bit (eqb a b) → a ≡ b
+bit-eqb a b h = cases (eqb a b) refl h
+  where
+    cases : (t : Bool) → eqb a b ≡ t → 1 ≤ bit t → a ≡ b
+    cases true e k = eqb-true a b e
+    cases false e k = absurd (omega arith)
+
+pub bit-one : (b : Bool) → 1 ≤ bit b → b ≡ true
+bit-one true h = refl
+bit-one false h = absurd (omega arith)
+
+pub and-left : (a b : Bool) → a && b ≡ true → a ≡ true
+and-left true b e = refl
+and-left false b e = e
+
+pub and-right : (a b : Bool) → a && b ≡ true → b ≡ true
+and-right true b e = e
+and-right false b e = absurd (false≢true e)
+
+pub and-true : (a : Bool) → a && true ≡ a
+and-true true = refl
+and-true false = refl
+
+pub and-false : (a : Bool) → a && false ≡ false
+and-false true = refl
+and-false false = refl
+
+pub zero-or-more : (k : ℕ) → (k ≡ 0) ⊎ (1 ≤ k)
+zero-or-more zero = inl refl
+zero-or-more (suc k) = inr (omega arith)

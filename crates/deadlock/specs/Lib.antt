@@ -1,0 +1,11 @@
+pub mod Lists
+pub mod Waits
+pub mod Machine
+pub mod Kind
+pub mod Counts
+pub mod Links
+pub mod Walks
+pub mod World
+pub mod Coverage
+pub mod Invariant
+pub mod Statement

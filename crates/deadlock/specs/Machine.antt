@@ -1,0 +1,480 @@
+-- The abstract lock manager: sessions, items and a mailbox between them. Any seniority, any choice of the next holder, any policy that refuses calls.
+use mathlib.Core.Path.{_≡_}
+use mathlib.Core.Bool.{_&&_, _||_, Bool, Bool·beq, cond, false, not, true}
+use mathlib.Core.List.{[], _++_, _∷_, List, map}
+use mathlib.Core.Option.{none, Option, some}
+use Prim.Native.Nat.{_+_, ℕ}
+use lib.Dec.{eqb, leb}
+use Rattle.deadlock.specs.Lists.{bit, member, oneTo, only, updated, without}
+use Rattle.deadlock.specs.Waits
+
+-- S sessions, numbered from 1, and M items, numbered from 1; who is senior to whom; the next holder when the queue is x ∷ xs
+pub record Rules : Type 0 where
+  pub S : ℕ
+  pub M : ℕ
+  pub senior : ℕ → ℕ → Bool
+  pub next : ℕ → List ℕ → ℕ
+
+-- seniority is a strict total order, and the next holder comes from the queue
+pub record Laws (R : Rules) : Type 0 where
+  pub irreflexive : (a : ℕ) → R .senior a a ≡ false
+  pub transitive : (a b c : ℕ) → R .senior a b ≡ true → R .senior b c ≡ true → R .senior a c ≡ true
+  pub total : (a b : ℕ) → R .senior a b ≡ false → R .senior b a ≡ false → a ≡ b
+  pub next-member : (x : ℕ) (xs : List ℕ) → member (R .next x xs) (x ∷ xs) ≡ true
+
+-- probe (initiator, junior), clean (victim, initiator), abort (victim, initiator)
+pub data Message : Type 0 where
+  request release rebroadcast withdraw grant resend withdrawn : Message
+  probe clean abort : ℕ → ℕ → Message
+
+-- the stages that await an item carry it
+pub data Stage : Type 0 where
+  growing shrinking rolledBack : Stage
+  waiting victim withdrawing : ℕ → Stage
+
+-- its stage, the items that it holds, and for each initiator the junior of the stored probe, or 0
+pub record Session : Type 0 where
+  pub stage : Stage
+  pub held : ℕ → Bool
+  pub stored : ℕ → ℕ
+
+pub record Item : Type 0 where
+  pub holder : Option ℕ
+  pub queue : List ℕ
+
+-- a message between a session and an item: to the item or to the session
+pub record Entry : Type 0 where
+  pub toItem : Bool
+  pub session : ℕ
+  pub item : ℕ
+  pub message : Message
+
+pub record State : Type 0 where
+  pub session : ℕ → Session
+  pub item : ℕ → Item
+  pub mailbox : List Entry
+
+-- messages with the item or session to which each is sent
+abbrev pub Sends : Type 0
+Sends = List (ℕ × Message)
+
+-- what an item or a session does on a message: the record that follows, and what it sends, in order
+pub record ItemStep : Type 0 where
+  pub after : Item
+  pub sends : Sends
+
+pub record SessionStep : Type 0 where
+  pub after : Session
+  pub sends : Sends
+
+-- what a session does on a call
+pub data Answer : Type 0 where
+  refused : Answer
+  accepted : SessionStep → Answer
+
+-- the message is dropped
+abbrev pub itemDrops : Item → ItemStep
+itemDrops i = record { after = i; sends = [] }
+
+abbrev pub sessionDrops : Session → SessionStep
+sessionDrops r = record { after = r; sends = [] }
+
+unfoldable pub heldBy : Option ℕ → ℕ → Bool
+heldBy none t = false
+heldBy (some h) t = eqb h t
+
+unfoldable pub isHeld : Option ℕ → Bool
+isHeld none = false
+isHeld (some h) = true
+
+-- the holder's number, or 0 for none
+abbrev pub holderOr0 : Option ℕ → ℕ
+holderOr0 none = 0
+holderOr0 (some h) = h
+
+-- a resend to each of a list of sessions
+unfoldable pub resends : List ℕ → Sends
+resends l = map (λ (a : ℕ). (a, resend)) l
+
+-- what is stored, as probes to item x, by rising initiator
+unfoldable pub probesFrom : (ℕ → ℕ) → ℕ → List ℕ → Sends
+probesFrom f x [] = []
+probesFrom f x (i ∷ l) = cond (eqb (f i) 0) (probesFrom f x l) ((x, probe i (f i)) ∷ probesFrom f x l)
+
+-- a message to each item of a list that passes the test
+unfoldable pub toEach : Message → (ℕ → Bool) → List ℕ → Sends
+toEach m f [] = []
+toEach m f (x ∷ l) = cond (f x) ((x, m) ∷ toEach m f l) (toEach m f l)
+
+module _ (R : Rules) where
+  -- ---- what an item does on a message of session t
+  -- probe (a, holder) to the holder for each session a of a list that is senior to it
+  unfoldable pub probesTo : ℕ → List ℕ → Sends
+  probesTo h l = map (λ (a : ℕ). (h, probe a h)) (only (λ (a : ℕ). R .senior a h) l)
+
+  -- no holder: t becomes holder. Else t joins the end of the queue; if t is senior to the holder, a probe to the holder
+  unfoldable pub grantOrQueue : ℕ → List ℕ → Option ℕ → ItemStep
+  grantOrQueue t l none = record { after = record { holder = some t; queue = l }; sends = (t, grant) ∷ [] }
+  grantOrQueue t l (some h) =
+      record { after = record { holder = some h; queue = l ++ t ∷ [] }; sends = cond (R .senior t h) ((h, probe t h) ∷ []) [] }
+
+  unfoldable pub onRequest : ℕ → Item → ItemStep
+  onRequest t r = cond (heldBy (r .holder) t || member t (r .queue)) (itemDrops r) (grantOrQueue t (r .queue) (r .holder))
+
+  -- to the next holder: grant, then a probe for each remaining session senior to it; then a resend to each remaining session
+  unfoldable pub handOver : List ℕ → ItemStep
+  handOver [] = record { after = record { holder = none; queue = [] }; sends = [] }
+  handOver (x ∷ xs) =
+      let a = R .next x xs in
+      let rest = without a (x ∷ xs) in
+      record { after = record { holder = some a; queue = rest }; sends = (a, grant) ∷ (probesTo a rest ++ resends rest) }
+
+  unfoldable pub onRelease : ℕ → Item → ItemStep
+  onRelease t r = cond (heldBy (r .holder) t) (handOver (r .queue)) (itemDrops r)
+
+  -- probe (i, j) of a session in the queue: dropped if the holder is senior to i; declared if the holder is i; else passed on
+  unfoldable pub passProbe : ℕ → ℕ → Option ℕ → Sends
+  passProbe i j none = []
+  passProbe i j (some h) = cond (R .senior h i) [] (cond (eqb h i) ((j, abort j i) ∷ []) ((h, probe i j) ∷ []))
+
+  unfoldable pub passClean : ℕ → ℕ → ℕ → List ℕ → Option ℕ → Sends
+  passClean t v i l none = []
+  passClean t v i l (some h) = (h, clean v i) ∷ (probesTo h l ++ resends (without t l))
+
+  unfoldable pub onRebroadcast : List ℕ → Option ℕ → Sends
+  onRebroadcast l none = []
+  onRebroadcast l (some h) = probesTo h l ++ resends l
+
+  unfoldable pub itemReceives : ℕ → Item → Message → ItemStep
+  itemReceives t r request = onRequest t r
+  itemReceives t r release = onRelease t r
+  itemReceives t r (probe i j) = record { after = r; sends = cond (member t (r .queue)) (passProbe i j (r .holder)) [] }
+  itemReceives t r (clean v i) = record { after = r; sends = passClean t v i (r .queue) (r .holder) }
+  itemReceives t r rebroadcast = record { after = r; sends = onRebroadcast (r .queue) (r .holder) }
+  itemReceives t r withdraw = record { after = record { holder = r .holder; queue = without t (r .queue) }; sends = (t, withdrawn) ∷ [] }
+  itemReceives t r grant = itemDrops r
+  itemReceives t r resend = itemDrops r
+  itemReceives t r withdrawn = itemDrops r
+  itemReceives t r (abort v i) = itemDrops r
+
+  -- ---- what session t does on a message of item x
+  unfoldable pub storedProbes : Session → ℕ → Sends
+  storedProbes r x = probesFrom (r .stored) x (oneTo (R .S))
+
+  unfoldable pub onGrant : ℕ → Session → Stage → SessionStep
+  onGrant x r growing = sessionDrops r
+  onGrant x r shrinking = sessionDrops r
+  onGrant x r rolledBack = sessionDrops r
+  onGrant x r (waiting y) =
+      cond (eqb y x) (record { after = record { stage = growing; held = updated (r .held) x true; stored = r .stored }; sends = [] }) (sessionDrops r)
+  onGrant x r (victim y) = sessionDrops r
+  onGrant x r (withdrawing y) = sessionDrops r
+
+  -- the more junior of the two
+  unfoldable pub junior : ℕ → ℕ → ℕ
+  junior j t = cond (R .senior j t) t j
+
+  -- nothing is stored for i, or something senior to j
+  unfoldable pub isNews : (ℕ → ℕ) → ℕ → ℕ → Bool
+  isNews f i j = eqb (f i) 0 || R .senior (f i) j
+
+  unfoldable pub storeProbe : Session → ℕ → ℕ → Sends → SessionStep
+  storeProbe r i j sends =
+      cond (isNews (r .stored) i j)
+      (record { after = record { stage = r .stage; held = r .held; stored = updated (r .stored) i j }; sends = sends })
+      (sessionDrops r)
+
+  unfoldable pub onProbe : ℕ → Session → ℕ → ℕ → Stage → SessionStep
+  onProbe t r i j growing = storeProbe r i (junior j t) []
+  onProbe t r i j shrinking = sessionDrops r
+  onProbe t r i j rolledBack = sessionDrops r
+  onProbe t r i j (waiting y) = storeProbe r i (junior j t) ((y, probe i (junior j t)) ∷ [])
+  onProbe t r i j (victim y) = sessionDrops r
+  onProbe t r i j (withdrawing y) = sessionDrops r
+
+  unfoldable pub onResend : ℕ → Session → Stage → SessionStep
+  onResend x r growing = sessionDrops r
+  onResend x r shrinking = sessionDrops r
+  onResend x r rolledBack = sessionDrops r
+  onResend x r (waiting y) = record { after = r; sends = cond (eqb y x) (storedProbes r x) [] }
+  onResend x r (victim y) = sessionDrops r
+  onResend x r (withdrawing y) = sessionDrops r
+
+  -- a waiting session becomes a victim: its probes are cleared and a clean goes round the cycle
+  unfoldable pub onAbort : Session → ℕ → ℕ → Stage → SessionStep
+  onAbort r v i growing = sessionDrops r
+  onAbort r v i shrinking = sessionDrops r
+  onAbort r v i rolledBack = sessionDrops r
+  onAbort r v i (waiting y) =
+      record { after = record { stage = victim y; held = r .held; stored = λ (_ : ℕ). 0 }; sends = (y, clean v i) ∷ [] }
+  onAbort r v i (victim y) = sessionDrops r
+  onAbort r v i (withdrawing y) = sessionDrops r
+
+  -- the session with its probes cleared
+  unfoldable pub cleared : Session → Session
+  cleared r = record { stage = r .stage; held = r .held; stored = λ (_ : ℕ). 0 }
+
+  -- a rebroadcast to each held item but x
+  unfoldable pub rebroadcasts : ℕ → Session → Sends
+  rebroadcasts x r = toEach rebroadcast (λ (k : ℕ). r .held k && not (eqb k x)) (oneTo (R .M))
+
+  -- probes cleared and rebroadcasts; a waiting session passes the clean on; the victim, back where the clean began, withdraws
+  unfoldable pub onClean : ℕ → ℕ → Session → ℕ → ℕ → Stage → SessionStep
+  onClean t x r v i growing = record { after = cleared r; sends = rebroadcasts x r }
+  onClean t x r v i shrinking = sessionDrops r
+  onClean t x r v i rolledBack = sessionDrops r
+  onClean t x r v i (waiting y) = record { after = cleared r; sends = rebroadcasts x r ++ (y, clean v i) ∷ [] }
+  onClean t x r v i (victim y) =
+      cond (eqb v t)
+      (record { after = record { stage = withdrawing y; held = r .held; stored = r .stored }; sends = (y, withdraw) ∷ [] })
+      (sessionDrops r)
+  onClean t x r v i (withdrawing y) = sessionDrops r
+
+  unfoldable pub onWithdrawn : Session → Stage → SessionStep
+  onWithdrawn r growing = sessionDrops r
+  onWithdrawn r shrinking = sessionDrops r
+  onWithdrawn r rolledBack = sessionDrops r
+  onWithdrawn r (waiting y) = sessionDrops r
+  onWithdrawn r (victim y) = sessionDrops r
+  onWithdrawn r (withdrawing y) =
+      record {
+        after = record { stage = rolledBack; held = λ (_ : ℕ). false; stored = r .stored };
+        sends = toEach release (r .held) (oneTo (R .M));
+      }
+
+  unfoldable pub sessionReceives : ℕ → ℕ → Session → Message → SessionStep
+  sessionReceives t x r grant = onGrant x r (r .stage)
+  sessionReceives t x r (probe i j) = onProbe t r i j (r .stage)
+  sessionReceives t x r resend = onResend x r (r .stage)
+  sessionReceives t x r (abort v i) = onAbort r v i (r .stage)
+  sessionReceives t x r (clean v i) = onClean t x r v i (r .stage)
+  sessionReceives t x r withdrawn = onWithdrawn r (r .stage)
+  sessionReceives t x r request = sessionDrops r
+  sessionReceives t x r release = sessionDrops r
+  sessionReceives t x r rebroadcast = sessionDrops r
+  sessionReceives t x r withdraw = sessionDrops r
+
+  -- ---- what a session does on a call for item x
+  unfoldable pub onRequestCall : ℕ → Session → Stage → Answer
+  onRequestCall x r growing =
+      cond (r .held x) refused
+      (accepted (record { after = record { stage = waiting x; held = r .held; stored = r .stored }; sends = (x, request) ∷ storedProbes r x }))
+  onRequestCall x r shrinking = refused
+  onRequestCall x r rolledBack = refused
+  onRequestCall x r (waiting y) = refused
+  onRequestCall x r (victim y) = refused
+  onRequestCall x r (withdrawing y) = refused
+
+  unfoldable pub releaseHeld : ℕ → Session → Answer
+  releaseHeld x r =
+      cond (r .held x)
+      (accepted (record {
+        after = record { stage = shrinking; held = updated (r .held) x false; stored = λ (_ : ℕ). 0 };
+        sends = (x, release) ∷ [];
+      }))
+      refused
+
+  unfoldable pub onReleaseCall : ℕ → Session → Stage → Answer
+  onReleaseCall x r growing = releaseHeld x r
+  onReleaseCall x r shrinking = releaseHeld x r
+  onReleaseCall x r rolledBack = refused
+  onReleaseCall x r (waiting y) = refused
+  onReleaseCall x r (victim y) = refused
+  onReleaseCall x r (withdrawing y) = refused
+
+-- ---- the mailbox
+unfoldable pub isOnRoute : Bool → ℕ → ℕ → Entry → Bool
+isOnRoute d t x e = Bool·beq d (e .toItem) && (eqb t (e .session) && eqb x (e .item))
+
+-- the messages on the route between session t and item x, to the item (true) or to the session (false), earliest first
+unfoldable pub route : Bool → ℕ → ℕ → List Entry → List Message
+route d t x [] = []
+route d t x (e ∷ es) = cond (isOnRoute d t x e) (e .message ∷ route d t x es) (route d t x es)
+
+-- the earliest message of a route, with the entries that remain
+pub data Taken : Type 0 where
+  noEntry : Taken
+  taken : Message → List Entry → Taken
+
+unfoldable pub putBack : Entry → Taken → Taken
+putBack e noEntry = noEntry
+putBack e (taken m l) = taken m (e ∷ l)
+
+unfoldable pub take : Bool → ℕ → ℕ → List Entry → Taken
+take d t x [] = noEntry
+take d t x (e ∷ es) = cond (isOnRoute d t x e) (taken (e .message) es) (putBack e (take d t x es))
+
+unfoldable pub fromSession : ℕ → Sends → List Entry
+fromSession t [] = []
+fromSession t (p ∷ l) = record { toItem = true; session = t; item = p .0; message = p .1 } ∷ fromSession t l
+
+unfoldable pub fromItem : ℕ → Sends → List Entry
+fromItem x [] = []
+fromItem x (p ∷ l) = record { toItem = false; session = p .0; item = x; message = p .1 } ∷ fromItem x l
+
+-- ---- the step
+-- session, item: a request, a release, delivery of the earliest message to the item or to the session
+pub data Call : Type 0 where
+  requestCall releaseCall deliverToItem deliverToSession : ℕ → ℕ → Call
+
+unfoldable pub afterSession : State → ℕ → List Entry → SessionStep → State
+afterSession s t m o = record { session = updated (s .session) t (o .after); item = s .item; mailbox = m ++ fromSession t (o .sends) }
+
+unfoldable pub afterItem : State → ℕ → List Entry → ItemStep → State
+afterItem s x m o = record { session = s .session; item = updated (s .item) x (o .after); mailbox = m ++ fromItem x (o .sends) }
+
+module _ (R : Rules) where
+  unfoldable pub afterAnswer : State → ℕ → Answer → State
+  afterAnswer s t refused = s
+  afterAnswer s t (accepted o) = afterSession s t (s .mailbox) o
+
+  unfoldable pub itemTakes : State → ℕ → ℕ → Taken → State
+  itemTakes s t x noEntry = s
+  itemTakes s t x (taken m l) = afterItem s x l (itemReceives R t (s .item x) m)
+
+  unfoldable pub sessionTakes : State → ℕ → ℕ → Taken → State
+  sessionTakes s t x noEntry = s
+  sessionTakes s t x (taken m l) = afterSession s t l (sessionReceives R t x (s .session t) m)
+
+  -- the state after a call that is admitted
+  unfoldable pub move : State → Call → State
+  move s (requestCall t x) = afterAnswer s t (onRequestCall R x (s .session t) (s .session t .stage))
+  move s (releaseCall t x) = afterAnswer s t (onReleaseCall R x (s .session t) (s .session t .stage))
+  move s (deliverToItem t x) = itemTakes s t x (take true t x (s .mailbox))
+  move s (deliverToSession t x) = sessionTakes s t x (take false t x (s .mailbox))
+
+  -- a session and an item of the machine
+  unfoldable pub inRange : ℕ → ℕ → Bool
+  inRange t x = (leb 1 t && leb t (R .S)) && (leb 1 x && leb x (R .M))
+
+  unfoldable pub ofMachine : Call → Bool
+  ofMachine (requestCall t x) = inRange t x
+  ofMachine (releaseCall t x) = inRange t x
+  ofMachine (deliverToItem t x) = inRange t x
+  ofMachine (deliverToSession t x) = inRange t x
+
+  -- every session grows and holds nothing, every item is free, the mailbox is empty
+  unfoldable pub start : State
+  start = record {
+    session = λ (_ : ℕ). record { stage = growing; held = λ (_ : ℕ). false; stored = λ (_ : ℕ). 0 };
+    item = λ (_ : ℕ). record { holder = none; queue = [] };
+    mailbox = [];
+  }
+
+  -- ---- who waits for whom in a state
+  unfoldable pub waitsFor : State → ℕ → ℕ
+  waitsFor s t = Waits.waitsFor (R .M) (λ x. holderOr0 (s .item x .holder)) (λ x. s .item x .queue) t
+
+  -- the session reached from t by n waits, or 0
+  abbrev pub reached : State → ℕ → ℕ → ℕ
+  reached s n t = Waits.reached (waitsFor s) n t
+
+  -- the length of the cycle on which t lies, or 0
+  abbrev pub cycleLength : State → ℕ → ℕ
+  cycleLength s t = Waits.cycleLength (waitsFor s) (R .S) t
+
+  abbrev pub onCycle : State → ℕ → Bool
+  onCycle s t = Waits.onCycle (waitsFor s) (R .S) t
+
+-- ---- what happens at a step
+pub record Declaration : Type 0 where
+  pub victim : ℕ
+  pub initiator : ℕ
+
+-- closed: the step put its session in a queue, and that session then lies on a cycle;
+-- declared: a probe (initiator, victim) of a session in the queue came to an item held by the initiator;
+-- rolledBack: a delivery brought its session from another stage to rolledBack
+pub record Event : Type 0 where
+  pub closed : Bool
+  pub declared : Option Declaration
+  pub rolledBack : Bool
+
+abbrev pub nothing : Event
+nothing = record { closed = false; declared = none; rolledBack = false }
+
+abbrev pub isRolledBack : Stage → Bool
+isRolledBack growing = false
+isRolledBack shrinking = false
+isRolledBack rolledBack = true
+isRolledBack (waiting y) = false
+isRolledBack (victim y) = false
+isRolledBack (withdrawing y) = false
+
+-- a request of session t to an item: does it put t in the queue
+unfoldable pub joins : ℕ → Item → Bool
+joins t r = not (heldBy (r .holder) t || member t (r .queue)) && isHeld (r .holder)
+
+-- a probe (i, j) of session t to an item: does it find the initiator as holder
+unfoldable pub declares : ℕ → Item → ℕ → ℕ → Option Declaration
+declares t r i j = cond (member t (r .queue) && heldBy (r .holder) i) (some (record { victim = j; initiator = i })) none
+
+module _ (R : Rules) where
+  -- a delivery of session t to an item, from the item before and the state after
+  unfoldable pub itemEvent : ℕ → Item → State → Message → Event
+  itemEvent t r after request = record { closed = joins t r && onCycle R after t; declared = none; rolledBack = false }
+  itemEvent t r after (probe i j) = record { closed = false; declared = declares t r i j; rolledBack = false }
+  itemEvent t r after release = nothing
+  itemEvent t r after rebroadcast = nothing
+  itemEvent t r after withdraw = nothing
+  itemEvent t r after grant = nothing
+  itemEvent t r after resend = nothing
+  itemEvent t r after withdrawn = nothing
+  itemEvent t r after (clean v i) = nothing
+  itemEvent t r after (abort v i) = nothing
+
+  unfoldable pub takenEvent : ℕ → Item → State → Taken → Event
+  takenEvent t r after noEntry = nothing
+  takenEvent t r after (taken m l) = itemEvent t r after m
+
+  -- a delivery to a session, from its stage before and after
+  unfoldable pub sessionEvent : Stage → Stage → Event
+  sessionEvent before after = record { closed = false; declared = none; rolledBack = not (isRolledBack before) && isRolledBack after }
+
+  -- what happens when an admitted call takes the machine from one state to another
+  unfoldable pub eventOf : State → Call → State → Event
+  eventOf s (requestCall t x) after = nothing
+  eventOf s (releaseCall t x) after = nothing
+  eventOf s (deliverToItem t x) after = takenEvent t (s .item x) after (take true t x (s .mailbox))
+  eventOf s (deliverToSession t x) after = sessionEvent (s .session t .stage) (after .session t .stage)
+
+-- the state after a call, and what happened
+pub record Stepped : Type 0 where
+  pub state : State
+  pub event : Event
+
+-- what a list of calls leaves, and what happened at each of them
+pub record Ran : Type 0 where
+  pub state : State
+  pub events : List Event
+
+-- a policy may refuse any call for any reason; a call that it refuses, or that is not of the machine, is no step
+module _ (R : Rules) (admits : State → Call → Bool) where
+  unfoldable pub step : State → Call → Stepped
+  step s c =
+      cond (ofMachine R c && admits s c)
+      (record { state = move R s c; event = eventOf R s c (move R s c) })
+      (record { state = s; event = nothing })
+
+  unfoldable pub run : State → List Call → Ran
+  run s [] = record { state = s; events = [] }
+  run s (c ∷ cs) =
+      let a = step s c in
+      let r = run (a .state) cs in
+      record { state = r .state; events = a .event ∷ r .events }
+
+-- ---- what is counted over a list of events
+abbrev pub isDeclared : Option Declaration → Bool
+isDeclared none = false
+isDeclared (some d) = true
+
+unfoldable pub countClosed : List Event → ℕ
+countClosed [] = 0
+countClosed (e ∷ es) = bit (e .closed) + countClosed es
+
+unfoldable pub countDeclared : List Event → ℕ
+countDeclared [] = 0
+countDeclared (e ∷ es) = bit (isDeclared (e .declared)) + countDeclared es
+
+unfoldable pub countRolledBack : List Event → ℕ
+countRolledBack [] = 0
+countRolledBack (e ∷ es) = bit (e .rolledBack) + countRolledBack es

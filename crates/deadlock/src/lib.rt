@@ -1,0 +1,1 @@
+// The theorem on deadlocks. No code: the machine and the statement are in specs/, the proofs in proofs/.

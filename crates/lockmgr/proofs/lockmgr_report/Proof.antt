@@ -1,0 +1,42 @@
+-- `lockmgr_report` meets its contract: a report that is not refused names a session of a well-formed table.
+use mathlib.Core.Path.{_≡_, refl, sym, _∙_}
+use native.Mathlib.Omega.{arith}
+use borrow.Author.Tests.{ne-eqb}
+use Rattle.table.proofs.Laws as TableLaws
+use Rattle.lockmgr.specs.Calls.{reportRefusal, report}
+use Rattle.lockmgr.proofs.Judging.{report-zero}
+use borrow.Author.Needs.{needs}
+use Rattle.lockmgr.proofs.lockmgr_report.Statement.{statement}
+use Rattle.lockmgr.proofs.lockmgr_report.Tie as tie
+
+-- the report is not refused
+admitted : (c : tie.Else1) → reportRefusal (c .before .before .before .args .session) (c .before .before .before .args .table .now) ≡ 0
+admitted c = sym (c .before .report-refusal .ensures) ∙ c .if1 .left
+
+report-refusal-requires : tie.Need-report-refusal-requires
+report-refusal-requires c κs = search needs
+
+returns : tie.Need-returns
+unfolding report
+returns c =
+    let a = c .before .before .before .args in
+    let e = c .before .report-refusal .ensures in
+    rw (ne-eqb (reportRefusal (a .session) (a .table .now)) 0 (λ z. c .if1 .taken (e ∙ z)), e) refl
+
+cast-cycle-length : tie.Need-cast-cycle-length
+cast-cycle-length c =
+    let a = c .before .before .before .args in
+    let f = report-zero (a .session) (a .table .now) (admitted c) in
+    omega (arith, TableLaws.sized-facts (a .table .now) (f .0), f .3)
+
+cycle-length-requires : tie.Need-cycle-length-requires
+cycle-length-requires c κs = let a = c .before .before .before .args in report-zero (a .session) (a .table .now) (admitted c)
+
+returns-2 : tie.Need-returns-2
+unfolding report
+returns-2 c = rw (admitted (c .before), c .cycle-length .ensures) refl
+
+pub lockmgr-report-spec : {M : Type 1} → statement M
+lockmgr-report-spec =
+    tie.close
+    (tie.spec report-refusal-requires returns cast-cycle-length cycle-length-requires returns-2)

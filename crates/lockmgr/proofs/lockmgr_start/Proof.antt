@@ -1,0 +1,80 @@
+-- `lockmgr_start` meets its contract: a start that is not refused has what clears both buffers.
+use mathlib.Core.Path.{_≡_, refl, sym, _∙_}
+use Prim.Native.Nat.{ℕ}
+use native.Mathlib.Omega.{arith}
+use borrow.Author.Tests.{ne-eqb}
+use Rattle.lockmgr.specs.Calls.{startRefusal, start}
+use Rattle.lockmgr.proofs.Judging.{Startable, start-zero}
+use borrow.Author.Needs.{needs}
+use Rattle.lockmgr.proofs.lockmgr_start.Statement.{statement}
+use Rattle.lockmgr.proofs.lockmgr_start.Tie as tie
+
+-- what start_refusal judged
+abbrev refusal : tie.Start → ℕ
+refusal s = startRefusal (s .args .sessions) (s .args .items) (s .args .capacity) (s .args .table .now) (s .args .mail .now)
+
+refused : (c : tie.Then1) → refusal (c .before .before .before .before .before .before) ≡ 0 → ⊥
+refused c z = c .if1 .taken (c .before .start-refusal .ensures ∙ z)
+
+admitted : (c : tie.Else1) → refusal (c .before .before .before .before .before .before) ≡ 0
+admitted c = sym (c .before .start-refusal .ensures) ∙ c .if1 .left
+
+abbrev Known : tie.Start → Type 0
+Known s = Startable (s .args .sessions) (s .args .items) (s .args .capacity) (s .args .table .now) (s .args .mail .now)
+
+known : (c : tie.Else1) → Known (c .before .before .before .before .before .before)
+known c = start-zero _ _ _ _ _ (admitted c)
+
+start-refusal-requires : tie.Need-start-refusal-requires
+start-refusal-requires c κs = search needs
+
+same-length : tie.Need-same-length
+same-length c = search needs
+
+same-length-2 : tie.Need-same-length-2
+same-length-2 c = search needs
+
+returns : tie.Need-returns
+unfolding start
+returns c =
+    let s = c .before .before .before .before .before .before in
+    rw (ne-eqb (refusal s) 0 (refused c), c .before .start-refusal .ensures) refl
+
+cast-clear : tie.Need-cast-clear
+cast-clear c = omega (arith, known (c .before))
+
+cast-clear-2 : tie.Need-cast-clear-2
+cast-clear-2 c = omega (arith, known (c .before))
+
+clear-requires : tie.Need-clear-requires
+clear-requires c κs =
+    let f = known (c .before) in (f .some-sessions, f .most-sessions, f .some-items, f .most-items, f .table-whole)
+
+clear-requires-2 : tie.Need-clear-requires-2
+clear-requires-2 c κs = let f = known (c .before .before .before .before .before) in (f .some-room, f .most-room, f .mail-whole)
+
+same-length-3 : tie.Need-same-length-3
+same-length-3 c = search needs
+
+same-length-4 : tie.Need-same-length-4
+same-length-4 c = search needs
+
+returns-2 : tie.Need-returns-2
+unfolding start
+returns-2 c = rw (admitted (c .before .before .before .before .before .before .before .before), c .before .before .before .before .before .before .clear .ensures, c .before .before .clear2 .ensures) refl
+
+pub lockmgr-start-spec : {M : Type 1} → statement M
+lockmgr-start-spec =
+    tie.close
+    (tie.spec
+    start-refusal-requires
+    same-length
+    same-length-2
+    returns
+    cast-clear
+    cast-clear-2
+    clear-requires
+    clear-requires-2
+    same-length-3
+    same-length-4
+    returns-2)

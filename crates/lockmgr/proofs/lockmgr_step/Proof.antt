@@ -1,0 +1,74 @@
+-- A step that is not refused by `judge` has what `act` asks for.
+use mathlib.Core.Path.{_≡_, refl, sym, _∙_}
+use Prim.Native.Nat.{_≤_}
+use native.Mathlib.Omega.{arith}
+use Rattle.lockmgr.specs.Calls.{judged, Judged}
+use Rattle.lockmgr.proofs.Judging.{judged-zero}
+use Rattle.lockmgr.proofs.Stepping.{most-sessions, most-items, step-refused, step-acts}
+use borrow.Author.Needs.{needs}
+use Rattle.lockmgr.proofs.lockmgr_step.Statement.{statement}
+use Rattle.lockmgr.proofs.lockmgr_step.Tie as tie
+
+allowed : (c : tie.Else1) → judged (c .before .before .before .before .before .before .args .verb) (c .before .before .before .before .before .before .args .session) (c .before .before .before .before .before .before .args .item) (c .before .before .before .before .before .before .args .table .now) (c .before .before .before .before .before .before .args .mail .now) ≡ 0
+allowed c = sym (c .before .judge .ensures) ∙ c .if1 .left
+
+known : (c : tie.Else1) → (1 ≤ c .before .before .before .before .before .before .args .verb) × (c .before .before .before .before .before .before .args .verb ≤ 4) × Judged (c .before .before .before .before .before .before .args .session) (c .before .before .before .before .before .before .args .item) (c .before .before .before .before .before .before .args .table .now) (c .before .before .before .before .before .before .args .mail .now)
+known c = let s = c .before .before .before .before .before .before in judged-zero (s .args .verb) (s .args .session) (s .args .item) (s .args .table .now) (s .args .mail .now) (allowed c)
+
+judge-requires : tie.Need-judge-requires
+judge-requires c κs = search needs
+
+refused-requires : tie.Need-refused-requires
+refused-requires c κs = search needs
+
+same-length : tie.Need-same-length
+same-length c = search needs
+
+same-length-2 : tie.Need-same-length-2
+same-length-2 c = search needs
+
+returns : tie.Need-returns
+returns c =
+    let s = c .before .before .before .before .before .before .before in
+    let e = c .before .before .judge .ensures in
+    rw (c .refused .ensures, step-refused (s .args .verb) (s .args .session) (s .args .item) (s .args .table .now) (s .args .mail .now) (λ z. c .before .if1 .taken (e ∙ z)), e) refl
+
+cast-act : tie.Need-cast-act
+cast-act c = omega (arith, known c .1)
+
+cast-act-2 : tie.Need-cast-act-2
+cast-act-2 c = let s = c .before .before .before .before .before .before in let j = known c .2 in omega (arith, j .session-high, most-sessions (s .args .session) (s .args .item) (s .args .table .now) (s .args .mail .now) j)
+
+cast-act-3 : tie.Need-cast-act-3
+cast-act-3 c = let s = c .before .before .before .before .before .before in let j = known c .2 in omega (arith, j .item-high, most-items (s .args .session) (s .args .item) (s .args .table .now) (s .args .mail .now) j)
+
+act-requires : tie.Need-act-requires
+act-requires c κs = known (c .before .before)
+
+same-length-3 : tie.Need-same-length-3
+same-length-3 c = search needs
+
+same-length-4 : tie.Need-same-length-4
+same-length-4 c = search needs
+
+returns-2 : tie.Need-returns-2
+returns-2 c =
+    let s = c .before .before .before .before .before .before .before .before .before .before .before .before .before in
+    c .before .before .before .before .act .ensures ∙ sym (step-acts (s .args .verb) (s .args .session) (s .args .item) (s .args .table .now) (s .args .mail .now) (allowed (c .before .before .before .before .before .before .before)))
+
+pub lockmgr-step-spec : {M : Type 1} → statement M
+lockmgr-step-spec =
+    tie.close
+    (tie.spec
+    judge-requires
+    refused-requires
+    same-length
+    same-length-2
+    returns
+    cast-act
+    cast-act-2
+    cast-act-3
+    act-requires
+    same-length-3
+    same-length-4
+    returns-2)
