@@ -172,12 +172,12 @@ fn commit_session(t: u8, r: SessionStep, table: &mut [u8], mail: &mut [u8]) -> A
 {
     let outbox = r.outbox;
     let session = r.session;
-    let n = outbox.n;
+    let sent = outbox.n;
     table::put_session(table, t, session);
     mailbox::post_from_session(mail, t, outbox);
     Answer {
         refusal: 0,
-        sent: n as u8,
+        sent: sent as u8,
         closed: 0,
         victim: 0,
         initiator: 0,
@@ -258,16 +258,16 @@ fn release(t: u8, x: u8, table: &mut [u8], mail: &mut [u8]) -> Answer
     requires { ⌜ Judged t x (now table) (now mail) ⌝ }
     ensures { λ a. ⌜ stepped a (now (table .exit)) (now (mail .exit)) ≡ acted release t x (now (table .entry)) (now (mail .entry)) ⌝ }
 {
-    let s = table::session(table, t);
-    if s.stage != Session::GROWING {
-        if s.stage != Session::SHRINKING {
+    let session = table::session(table, t);
+    if session.stage != Session::GROWING {
+        if session.stage != Session::SHRINKING {
             return Answer::refused(Answer::STAGE);
         }
     }
-    if !bitset::contains(s.held, x) {
+    if !bitset::contains(session.held, x) {
         return Answer::refused(Answer::HELD);
     }
-    let r = s.release(x);
+    let r = session.release(x);
     let outbox = r.outbox;
     if mailbox::capacity(mail) < mailbox::count(mail) + outbox.n {
         return Answer::refused(Answer::ROOM);
@@ -300,13 +300,13 @@ fn deliver_to_session(t: u8, x: u8, table: &mut [u8], mail: &mut [u8]) -> Answer
     ensures { λ a. ⌜ stepped a (now (table .exit)) (now (mail .exit)) ≡ acted deliverToSession t x (now (table .entry)) (now (mail .entry)) ⌝ }
 {
     let k = mailbox::earliest(mail, 2, t, x);
-    let count = mailbox::count(mail);
-    if k == count {
+    let total = mailbox::count(mail);
+    if k == total {
         return Answer::refused(Answer::ROUTE);
     }
     let r = table::session(table, t).receive(t, mailbox::message_to_session(mail, k));
     let outbox = r.outbox;
-    if mailbox::capacity(mail) < count - 1 + outbox.n {
+    if mailbox::capacity(mail) < total - 1 + outbox.n {
         return Answer::refused(Answer::ROOM);
     }
     mailbox::remove(mail, k);

@@ -1,8 +1,8 @@
 -- A step that is not refused by `judge` has what `act` asks for.
-use mathlib.Core.Path.{_≡_, refl, sym, _∙_}
-use Prim.Native.Nat.{_≤_}
+use mathlib.Core.Path.{_≡_, sym, ap, _∙_}
+use Prim.Native.Nat.{ℕ, _≤_}
 use native.Mathlib.Omega.{arith}
-use Rattle.lockmgr.specs.Calls.{judged, Judged}
+use Rattle.lockmgr.specs.Calls.{judged, Judged, stepped, refusedAnswer}
 use Rattle.lockmgr.proofs.Judging.{judged-zero}
 use Rattle.lockmgr.proofs.Stepping.{most-sessions, most-items, step-refused, step-acts}
 use borrow.Author.Needs.{needs}
@@ -31,7 +31,8 @@ returns : tie.Need-returns
 returns c =
     let s = c .before .before .before .before .before .before .before in
     let e = c .before .before .judge .ensures in
-    rw (c .refused .ensures, step-refused (s .args .verb) (s .args .session) (s .args .item) (s .args .table .now) (s .args .mail .now) (λ z. c .before .if1 .taken (e ∙ z)), e) refl
+    rw (c .refused .ensures)
+    (ap (λ (n : ℕ). stepped (refusedAnswer n) (s .args .table .now) (s .args .mail .now)) e ∙ sym (step-refused (s .args .verb) (s .args .session) (s .args .item) (s .args .table .now) (s .args .mail .now) (λ z. c .before .if1 .taken (e ∙ z))))
 
 cast-act : tie.Need-cast-act
 cast-act c = omega (arith, known c .1)

@@ -1,0 +1,305 @@
+//! Times of one call: the library beside the model, beside one pass over the
+//! bytes, and beside the same rules written for speed. All are measured in
+//! turn in one run, so that the ratios hold where the times do not.
+
+use compare::calls::{Calls, Fast, Library, Model};
+use compare::comparison::Buffers;
+use compare::forge::{well_formed, Shape};
+use model::scenario::Random;
+use std::hint::black_box;
+use std::time::Instant;
+
+/// Turns of each measurement; the median counts.
+const TURNS: usize = 301;
+
+/// Buffers that are measured together, at most this many bytes.
+const TOGETHER: usize = 24 * 1024;
+
+/// Targets for library / floor, library / model, library / fast.
+const FLOOR_FEW_MESSAGES: f64 = 3.0;
+const FLOOR_SMALL: f64 = 6.0;
+const FLOOR_FULL: f64 = 25.0;
+const MODEL: f64 = 1.0;
+const FAST: f64 = 1.5;
+
+#[derive(Clone, Copy)]
+enum Call {
+    Step(u64, u64, u64),
+    Report(u64),
+}
+
+struct Row {
+    name: &'static str,
+    call: Call,
+    buffers: Buffers,
+    floor_target: Option<f64>,
+}
+
+/// How much is in the table.
+#[derive(Clone, Copy, PartialEq, Eq)]
+enum Table {
+    /// Each session holds an item; half of them wait, one in a queue.
+    Light,
+    /// Queues as long as can be, and every probe stored.
+    Full,
+    /// Each session waits for the next, in one cycle.
+    Cycle,
+}
+
+/// S = M = n. Session k holds item k. Session 1 is growing; session n waits
+/// for item 1, its request is still in the mail.
+fn table(n: usize, contents: Table) -> Vec<u8> {
+    let mut table = vec![0; 2 + 74 * n + 66 * n];
+    table[0] = n as u8;
+    table[1] = n as u8;
+    let (sessions, items) = table[2..].split_at_mut(74 * n);
+    for (session, record) in (1..).zip(sessions.chunks_mut(74)) {
+        let waits_for = match contents {
+            Table::Light if session == n => 1,
+            Table::Light if session > n / 2 => session - n / 2,
+            Table::Light => 0,
+            Table::Full if session == 1 => 0,
+            Table::Full => session % n + 1,
+            Table::Cycle => session % n + 1,
+        };
+        record[0] = if waits_for == 0 { 1 } else { 2 };
+        record[1] = waits_for as u8;
+        record[2..10].copy_from_slice(&(1u64 << (session - 1)).to_le_bytes());
+        match contents {
+            Table::Full if session != 1 => record[10..10 + n].fill(n as u8 - 1),
+            Table::Light if session > n / 2 => record[10] = (n - 1) as u8,
+            _ => {}
+        }
+        if session == n {
+            record[10] = 0;
+        }
+    }
+    for (item, record) in (1..).zip(items.chunks_mut(66)) {
+        let waiting: Vec<usize> = match contents {
+            Table::Light => [item + n / 2].into_iter().filter(|&w| w < n).collect(),
+            Table::Full => (1..n).filter(|&w| w != item).collect(),
+            Table::Cycle => vec![(item + n - 2) % n + 1],
+        };
+        record[0] = item as u8;
+        record[1] = waiting.len() as u8;
+        for (place, waiting) in record[2..].iter_mut().zip(waiting) {
+            *place = waiting as u8;
+        }
+    }
+    table
+}
+
+/// Mail with so many messages. In its middle stand the request of session n to
+/// item 1 and a probe (1, n) from item 2 to session n, alone on their routes.
+fn mail(shape: Shape, count: u64) -> Vec<u8> {
+    let n = shape.sessions as u8;
+    let mut mail = well_formed(&mut Random::new(7), shape, count).mail;
+    let bodies = 3 * shape.capacity as usize;
+    let (request, probe) = ([1, n, 1], [2, n, 2]);
+    let entries = count as usize;
+    for place in 0..entries {
+        let route = &mut mail[4 + 3 * place..][..3];
+        if route == request || route == probe {
+            route[2] = 3;
+        }
+    }
+    if entries >= 2 {
+        let place = 4 + 3 * (entries / 2 - 1);
+        mail[place..place + 3].copy_from_slice(&request);
+        mail[place + 3..place + 6].copy_from_slice(&probe);
+        mail[place + bodies..place + bodies + 6].copy_from_slice(&[1, 0, 0, 3, 1, n]);
+    }
+    mail
+}
+
+fn rows(shape: Shape, count: u64) -> Vec<Row> {
+    let n = shape.sessions;
+    let full = count == shape.capacity;
+    let contents = if full { Table::Full } else { Table::Light };
+    let buffers = Buffers {
+        table: table(n as usize, contents),
+        mail: mail(shape, count),
+    };
+    let floor_target = if full {
+        Some(FLOOR_FULL)
+    } else if n == 8 {
+        Some(FLOOR_SMALL)
+    } else if n == 64 && count <= 64 {
+        Some(FLOOR_FEW_MESSAGES)
+    } else {
+        None
+    };
+    // The targets beside the floor are for steps: a report gets the table alone.
+    let row = |name, call| Row {
+        name,
+        call,
+        buffers: buffers.clone(),
+        floor_target: floor_target.filter(|_| matches!(call, Call::Step(..))),
+    };
+    vec![
+        row("request", Call::Step(1, 1, 3)),
+        row("release", Call::Step(2, 1, 1)),
+        row("deliver to item", Call::Step(3, n, 1)),
+        row("deliver to session", Call::Step(4, n, 2)),
+        row("report", Call::Report(1)),
+        Row {
+            name: "report, cycle of S",
+            call: Call::Report(1),
+            buffers: Buffers {
+                table: table(n as usize, Table::Cycle),
+                mail: Vec::new(),
+            },
+            floor_target: None,
+        },
+    ]
+}
+
+fn refusal(subject: &dyn Calls, call: Call, buffers: &mut Buffers) -> u8 {
+    match call {
+        Call::Step(verb, session, item) => {
+            let answer = subject.step(
+                black_box(verb),
+                black_box(session),
+                black_box(item),
+                &mut buffers.table,
+                &mut buffers.mail,
+            );
+            black_box(answer).refusal
+        }
+        Call::Report(session) => {
+            let cycle = subject.report(black_box(session), &buffers.table);
+            black_box(cycle).refusal
+        }
+    }
+}
+
+/// The sum of bytes, in 64 lanes and out of line: a loop left to the compiler
+/// took half as long again in some builds, by its place alone.
+#[inline(never)]
+fn sum(bytes: &[u8]) -> u8 {
+    let mut lanes = [0u8; 64];
+    let mut blocks = bytes.chunks_exact(lanes.len());
+    for block in &mut blocks {
+        for (lane, &byte) in lanes.iter_mut().zip(block) {
+            *lane = lane.wrapping_add(byte);
+        }
+    }
+    let rest = blocks.remainder().iter();
+    rest.chain(&lanes)
+        .fold(0, |sum, &byte| sum.wrapping_add(byte))
+}
+
+/// One pass over the bytes that the call gets.
+fn floor(call: Call, buffers: &Buffers) -> u8 {
+    let table = sum(black_box(&buffers.table));
+    match call {
+        Call::Step(..) => table ^ sum(black_box(&buffers.mail)),
+        Call::Report(_) => table,
+    }
+}
+
+/// Nanoseconds of one call by library, model, floor, fast. The buffers are
+/// restored before each turn, which is not timed.
+fn measure(row: &Row) -> [f64; 4] {
+    let bytes = row.buffers.table.len() + row.buffers.mail.len();
+    let together = (TOGETHER / bytes).max(1);
+    let mut copies = vec![row.buffers.clone(); together];
+    let subjects: [Option<&dyn Calls>; 4] = [Some(&Library), Some(&Model), None, Some(&Fast)];
+    let mut times: [Vec<u64>; 5] = Default::default();
+    for _ in 0..TURNS {
+        for (place, subject) in subjects.iter().enumerate() {
+            for copy in &mut copies {
+                copy.table.copy_from_slice(&row.buffers.table);
+                copy.mail.copy_from_slice(&row.buffers.mail);
+            }
+            let begin = Instant::now();
+            for copy in &mut copies {
+                match subject {
+                    Some(subject) => {
+                        refusal(*subject, row.call, copy);
+                    }
+                    None => {
+                        black_box(floor(row.call, copy));
+                    }
+                }
+            }
+            times[place].push(begin.elapsed().as_nanos() as u64);
+        }
+        let begin = Instant::now();
+        times[4].push(begin.elapsed().as_nanos() as u64);
+    }
+    let medians = times.map(|mut turns| {
+        turns.sort_unstable();
+        turns[TURNS / 2] as f64
+    });
+    // Without the cost of reading the clock.
+    let of = |place: usize| (medians[place] - medians[4]).max(1.0) / together as f64;
+    [of(0), of(1), of(2), of(3)]
+}
+
+/// A ratio with its target, and whether it is met.
+fn beside(ratio: f64, target: Option<f64>, missed: &mut usize) -> String {
+    match target {
+        None => format!("{ratio:7.2}  {:10}", ""),
+        Some(target) if ratio <= target => format!("{ratio:7.2}  <= {target:<4} ok"),
+        Some(target) => {
+            *missed += 1;
+            format!("{ratio:7.2}  <= {target:<4} NO")
+        }
+    }
+}
+
+fn main() {
+    println!("Nanoseconds of one call, median of {TURNS} turns.");
+    println!("floor: one vectorised pass that sums the bytes that the call gets.");
+    println!("fast: the same rules in Rust written for speed. model: the Rust model.");
+    println!("A delivered message stands in the middle of the mail: half of it is searched,");
+    println!("half closes up. The request that is delivered joins a queue, and the probe is");
+    println!("stored and passed on. With an empty mail a delivery is refused with 8, with a");
+    println!("full mail a request or release with 9, both after all bytes were looked at.");
+    println!("With a full mail the table is full too: longest queues, every probe stored.");
+
+    let mut missed = 0;
+    for (n, capacity) in [(8, 64), (16, 256), (64, 4096)] {
+        let shape = Shape {
+            sessions: n,
+            items: n,
+            capacity,
+        };
+        let bytes = shape.table_length() + shape.mail_length();
+        println!("\nS = M = {n}, C = {capacity}: {bytes} bytes");
+        println!(
+            "{:>6}  {:20}{:>8}{:>10}{:>10}{:>10}{:>10}  {:>7}{:13}{:>7}{:13}{:>7}",
+            "mail",
+            "call",
+            "refusal",
+            "library",
+            "model",
+            "floor",
+            "fast",
+            "/floor",
+            "",
+            "/model",
+            "",
+            "/fast",
+        );
+        let mut counts = vec![0, capacity / 8, capacity];
+        if n == 64 {
+            counts.insert(1, 64);
+        }
+        for count in counts {
+            for row in rows(shape, count) {
+                let refused = refusal(&Library, row.call, &mut row.buffers.clone());
+                let [library, model, floor, fast] = measure(&row);
+                println!(
+                    "{count:>6}  {:20}{refused:>8}{library:>10.0}{model:>10.0}{floor:>10.0}{fast:>10.0}  {} {} {}",
+                    row.name,
+                    beside(library / floor, row.floor_target, &mut missed),
+                    beside(library / model, Some(MODEL), &mut missed),
+                    beside(library / fast, Some(FAST), &mut missed),
+                );
+            }
+        }
+    }
+    println!("\n{missed} targets missed.");
+}

@@ -1,0 +1,54 @@
+//! Compares the library with the model on fixed seeds, and prints what the
+//! calls have met.
+
+use compare::calls::Library;
+use compare::cases::{every_place, every_value, round};
+use compare::comparison::Comparison;
+use std::process::ExitCode;
+use std::time::Instant;
+
+/// Seeds 1 to this.
+const ROUNDS: u64 = 600;
+
+/// Calls that there must be.
+const CALLS_AT_LEAST: u64 = 1_000_000;
+
+fn compare(comparison: &mut Comparison) -> Result<(), String> {
+    for seed in 1..=ROUNDS {
+        let repeat = format!("(make fuzz SEED={seed} SECONDS=0 repeats it)");
+        round(comparison, seed).map_err(|reason| format!("round {seed}: {reason}\n{repeat}"))?;
+    }
+    every_value(comparison).map_err(|reason| format!("every value: {reason}"))?;
+    every_place(comparison).map_err(|reason| format!("every place: {reason}"))
+}
+
+fn main() -> ExitCode {
+    let begin = Instant::now();
+    let mut comparison = Comparison::new(Library);
+    let outcome = compare(&mut comparison);
+    let coverage = &comparison.coverage;
+    println!("{coverage}");
+    let mut failures: Vec<String> = outcome.err().into_iter().collect();
+    if failures.is_empty() {
+        failures.extend(
+            coverage
+                .missing()
+                .iter()
+                .map(|place| format!("met too seldom: {place}")),
+        );
+        if coverage.calls() < CALLS_AT_LEAST {
+            failures.push(format!("fewer than {CALLS_AT_LEAST} calls"));
+        }
+    }
+    for failure in &failures {
+        println!("FAILED: {failure}");
+    }
+    let (calls, seconds) = (coverage.calls(), begin.elapsed().as_secs_f64());
+    if failures.is_empty() {
+        println!("{calls} calls compared in {seconds:.1} s: library and model agree on every answer and byte.");
+        ExitCode::SUCCESS
+    } else {
+        println!("{calls} calls compared in {seconds:.1} s.");
+        ExitCode::FAILURE
+    }
+}

@@ -1,0 +1,65 @@
+//! The three calls, by whoever answers them.
+
+use crate::{fast, library};
+use model::{Answer, Cycle, Misreading};
+
+pub trait Calls {
+    fn start(
+        &self,
+        sessions: u64,
+        items: u64,
+        capacity: u64,
+        table: &mut [u8],
+        mail: &mut [u8],
+    ) -> u8;
+    fn step(&self, verb: u64, session: u64, item: u64, table: &mut [u8], mail: &mut [u8])
+        -> Answer;
+    fn report(&self, session: u64, table: &[u8]) -> Cycle;
+}
+
+/// Calls made of three functions.
+macro_rules! calls {
+    ($name:ident, $module:path) => {
+        impl Calls for $name {
+            fn start(&self, s: u64, m: u64, c: u64, table: &mut [u8], mail: &mut [u8]) -> u8 {
+                use $module as answers;
+                answers::start(s, m, c, table, mail)
+            }
+            fn step(&self, v: u64, s: u64, i: u64, table: &mut [u8], mail: &mut [u8]) -> Answer {
+                use $module as answers;
+                answers::step(v, s, i, table, mail)
+            }
+            fn report(&self, session: u64, table: &[u8]) -> Cycle {
+                use $module as answers;
+                answers::report(session, table)
+            }
+        }
+    };
+}
+
+/// The library, over its C interface.
+pub struct Library;
+calls!(Library, library);
+
+/// The model.
+pub struct Model;
+calls!(Model, model);
+
+/// The same rules written for speed.
+pub struct Fast;
+calls!(Fast, fast);
+
+/// The model with one of its misreadings, to show that a difference is found.
+pub struct Misread(pub Misreading);
+
+impl Calls for Misread {
+    fn start(&self, s: u64, m: u64, c: u64, table: &mut [u8], mail: &mut [u8]) -> u8 {
+        model::start(s, m, c, table, mail)
+    }
+    fn step(&self, v: u64, s: u64, i: u64, table: &mut [u8], mail: &mut [u8]) -> Answer {
+        model::step_as(self.0, v, s, i, table, mail)
+    }
+    fn report(&self, session: u64, table: &[u8]) -> Cycle {
+        model::report(session, table)
+    }
+}

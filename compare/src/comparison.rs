@@ -1,0 +1,187 @@
+//! One call to the subject and to the model, on equal bytes: answers, both
+//! buffers and the bytes beside them are compared.
+
+use crate::calls::Calls;
+use crate::coverage::Coverage;
+use model::{Answer, Cycle};
+
+/// The two buffers of a lock manager.
+#[derive(Clone, PartialEq, Eq, Debug, Default)]
+pub struct Buffers {
+    pub table: Vec<u8>,
+    pub mail: Vec<u8>,
+}
+
+/// Bytes that the subject gets, between others that it must not touch. The
+/// place moves from call to call, so that every alignment comes.
+#[derive(Default)]
+struct Guarded {
+    bytes: Vec<u8>,
+    place: usize,
+    length: usize,
+}
+
+const GUARD: usize = 64;
+const GUARD_BYTE: u8 = 0xA5;
+const ALIGNMENTS: usize = 16;
+
+impl Guarded {
+    fn load(&mut self, bytes: &[u8]) {
+        self.place = GUARD + (self.place + 1) % ALIGNMENTS;
+        self.length = bytes.len();
+        let total = self.place + self.length + GUARD;
+        if self.bytes.len() < total {
+            self.bytes.resize(total, 0);
+        }
+        self.bytes[..self.place].fill(GUARD_BYTE);
+        self.bytes[self.place..][..self.length].copy_from_slice(bytes);
+        self.bytes[self.place + self.length..][..GUARD].fill(GUARD_BYTE);
+    }
+
+    fn lent(&mut self) -> &mut [u8] {
+        &mut self.bytes[self.place..self.place + self.length]
+    }
+
+    /// What is wrong with the bytes after the call, if anything.
+    fn differs(&self, expected: &[u8]) -> Option<String> {
+        let (before, rest) = self.bytes.split_at(self.place);
+        let (lent, after) = rest.split_at(self.length);
+        if lent != expected {
+            let place = lent.iter().zip(expected).position(|(a, b)| a != b)?;
+            let (found, wanted) = (lent[place], expected[place]);
+            return Some(format!("byte {place} is {found}, not {wanted}"));
+        }
+        if before.iter().any(|&b| b != GUARD_BYTE) {
+            return Some("a byte before the buffer has changed".to_string());
+        }
+        if after[..GUARD].iter().any(|&b| b != GUARD_BYTE) {
+            return Some("a byte behind the buffer has changed".to_string());
+        }
+        None
+    }
+}
+
+/// The comparison of a subject with the model. Every call leaves in the
+/// caller's buffers what the model leaves, and fails if the subject differs.
+pub struct Comparison {
+    subject: Box<dyn Calls>,
+    pub coverage: Coverage,
+    table: Guarded,
+    mail: Guarded,
+    after: Buffers,
+}
+
+impl Comparison {
+    pub fn new(subject: impl Calls + 'static) -> Comparison {
+        Comparison {
+            subject: Box::new(subject),
+            coverage: Coverage::new(),
+            table: Guarded::default(),
+            mail: Guarded::default(),
+            after: Buffers::default(),
+        }
+    }
+
+    fn load(&mut self, buffers: &Buffers) {
+        self.table.load(&buffers.table);
+        self.mail.load(&buffers.mail);
+        self.after.table.clone_from(&buffers.table);
+        self.after.mail.clone_from(&buffers.mail);
+    }
+
+    /// Fails unless the subject left what the model left.
+    fn same_bytes(&self, call: &str, before: &Buffers) -> Result<(), String> {
+        let table = self.table.differs(&self.after.table);
+        let mail = self.mail.differs(&self.after.mail);
+        let found = table
+            .map(|text| format!("table: {text}"))
+            .or(mail.map(|text| format!("mail: {text}")));
+        match found {
+            None => Ok(()),
+            Some(text) => Err(format!("{call} {}: {text}", shape(before))),
+        }
+    }
+
+    pub fn start(
+        &mut self,
+        sessions: u64,
+        items: u64,
+        capacity: u64,
+        buffers: &mut Buffers,
+    ) -> Result<u8, String> {
+        self.load(buffers);
+        let found = self.subject.start(
+            sessions,
+            items,
+            capacity,
+            self.table.lent(),
+            self.mail.lent(),
+        );
+        let after = &mut self.after;
+        let expected = model::start(sessions, items, capacity, &mut after.table, &mut after.mail);
+        let call = format!("start {sessions} {items} {capacity}");
+        if found != expected {
+            let shape = shape(buffers);
+            return Err(format!("{call} {shape}: answers {found}, not {expected}"));
+        }
+        self.same_bytes(&call, buffers)?;
+        self.coverage
+            .start([sessions, items, capacity], buffers, expected);
+        std::mem::swap(buffers, &mut self.after);
+        Ok(expected)
+    }
+
+    pub fn step(
+        &mut self,
+        verb: u64,
+        session: u64,
+        item: u64,
+        buffers: &mut Buffers,
+    ) -> Result<Answer, String> {
+        self.load(buffers);
+        let found = self
+            .subject
+            .step(verb, session, item, self.table.lent(), self.mail.lent());
+        let after = &mut self.after;
+        let expected = model::step(verb, session, item, &mut after.table, &mut after.mail);
+        if found != expected {
+            let shape = shape(buffers);
+            return Err(format!(
+                "step {verb} {session} {item} {shape}: answers {found:?}, not {expected:?}"
+            ));
+        }
+        self.same_bytes(&format!("step {verb} {session} {item}"), buffers)?;
+        self.coverage.step([verb, session, item], buffers, expected);
+        std::mem::swap(buffers, &mut self.after);
+        Ok(expected)
+    }
+
+    pub fn report(&mut self, session: u64, buffers: &Buffers) -> Result<Cycle, String> {
+        self.table.load(&buffers.table);
+        let found = self.subject.report(session, self.table.lent());
+        let expected = model::report(session, &buffers.table);
+        if found != expected {
+            let shape = shape(buffers);
+            return Err(format!(
+                "report {session} {shape}: answers {found:?}, not {expected:?}"
+            ));
+        }
+        if let Some(text) = self.table.differs(&buffers.table) {
+            return Err(format!("report {session} {}: {text}", shape(buffers)));
+        }
+        self.coverage.report(session, buffers, expected);
+        Ok(expected)
+    }
+}
+
+/// The buffers in a few words.
+fn shape(buffers: &Buffers) -> String {
+    let start = |bytes: &[u8], n: usize| format!("{:?}", &bytes[..n.min(bytes.len())]);
+    format!(
+        "on a table of {} bytes {} and mail of {} bytes {}",
+        buffers.table.len(),
+        start(&buffers.table, 2),
+        buffers.mail.len(),
+        start(&buffers.mail, 4),
+    )
+}

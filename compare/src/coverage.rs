@@ -1,0 +1,516 @@
+//! What the compared calls have met: refusals, pairs of kind and stage, the
+//! branches of every rule, ways to break the form, sizes and numbers. A place
+//! that was never met makes the comparison worthless, so it fails then.
+
+use crate::comparison::Buffers;
+use model::layout::{mail_length, table_length, ITEM_SIZE, MOST, MOST_CAPACITY, SESSION_SIZE};
+use model::{Answer, Cycle};
+use std::collections::BTreeMap;
+use std::fmt::{self, Display, Formatter};
+
+/// Refusals of each call that must be met this often.
+pub const REFUSALS_AT_LEAST: u64 = 1_000;
+
+/// The calls and the refusals that each can give.
+const CALLS: [(&str, &[usize]); 3] = [
+    ("start", &[2]),
+    ("step", &[1, 2, 3, 4, 5, 6, 7, 8, 9]),
+    ("report", &[2, 3, 5]),
+];
+
+/// The kinds that reach a session.
+const KINDS: [(u8, &str); 6] = [
+    (3, "probe"),
+    (4, "clean"),
+    (7, "grant"),
+    (8, "resend"),
+    (9, "abort"),
+    (10, "withdrawn"),
+];
+
+const STAGES: [&str; 6] = [
+    "growing",
+    "waiting",
+    "shrinking",
+    "cleaning",
+    "withdrawing",
+    "rolled back",
+];
+
+const ITEM_RULES: &[&str] = &[
+    "request: from the holder, dropped",
+    "request: from the queue, dropped",
+    "request: no holder, granted",
+    "request: no holder but a queue, granted",
+    "request: joins, senior to the holder",
+    "request: joins, junior to the holder",
+    "request: joins and closes a cycle",
+    "request: joins and closes none",
+    "release: not from the holder, dropped",
+    "release: empty queue, no holder",
+    "release: next holder, nobody left waiting",
+    "release: next holder, probes and resends",
+    "release: next holder, resends alone",
+    "probe: not from the queue, dropped",
+    "probe: no holder, dropped",
+    "probe: holder senior, dropped",
+    "probe: holder junior, passed on",
+    "probe: holder is the initiator, declared",
+    "clean: no holder, dropped",
+    "clean: from the queue",
+    "clean: not from the queue",
+    "clean: with probes",
+    "clean: without probes",
+    "rebroadcast: no holder, dropped",
+    "rebroadcast: empty queue",
+    "rebroadcast: probes and resends",
+    "rebroadcast: resends alone",
+    "withdraw: from the queue",
+    "withdraw: not from the queue",
+];
+
+const SESSION_RULES: &[&str] = &[
+    "own request: no stored probe",
+    "own request: stored probes",
+    "own release: growing",
+    "own release: shrinking",
+    "grant: from the awaited item",
+    "grant: from another item, dropped",
+    "probe: none stored",
+    "probe: junior to the stored one",
+    "probe: not junior to the stored one, dropped",
+    "probe: the session itself is the junior",
+    "probe: the session itself is the initiator",
+    "resend: from the awaited item, probes",
+    "resend: from the awaited item, none stored",
+    "resend: from another item, dropped",
+    "clean: nothing to rebroadcast",
+    "clean: rebroadcasts, sender not held",
+    "clean: rebroadcasts, sender held",
+    "clean: names the session itself before its abort",
+    "clean: back at its victim",
+    "clean: of another victim at a victim, dropped",
+    "withdrawn: holds items",
+    "withdrawn: holds none",
+];
+
+const SITUATIONS: &[&str] = &[
+    "64 sessions, 64 items, capacity 4096",
+    "64 sessions, 64 items, capacity 4096, mail full",
+    "one session and one item",
+    "capacity 1",
+    "capacity 2",
+    "accepted step on a full mail",
+    "accepted step that fills the mail",
+    "number of 256 to 2^32 - 1",
+    "number of 2^32 and more",
+    "table of length 0",
+    "mail of length 0",
+    "accepted step that sends 65 messages",
+    "accepted step that sends 100 messages or more",
+    "accepted start on used bytes",
+    "report: not on a cycle",
+    "report: cycle of 2",
+    "report: cycle of 3 to 63",
+    "report: cycle of 64",
+];
+
+/// Named counts, in the order of their list.
+struct Group {
+    title: &'static str,
+    names: Vec<&'static str>,
+    counts: BTreeMap<&'static str, u64>,
+}
+
+impl Group {
+    fn new(title: &'static str, names: &[&'static str]) -> Group {
+        Group {
+            title,
+            names: names.to_vec(),
+            counts: names.iter().map(|&name| (name, 0)).collect(),
+        }
+    }
+
+    fn hit(&mut self, name: &'static str) {
+        let count = self.counts.get_mut(name);
+        *count.unwrap_or_else(|| panic!("no place is called {name}")) += 1;
+    }
+}
+
+pub struct Coverage {
+    refusals: [[u64; 10]; CALLS.len()],
+    pairs: [[u64; STAGES.len()]; KINDS.len()],
+    items: Group,
+    sessions: Group,
+    situations: Group,
+    breaks: Group,
+}
+
+/// A well-formed table, read by place.
+struct Records<'a> {
+    table: &'a [u8],
+    sessions: usize,
+}
+
+impl<'a> Records<'a> {
+    fn new(table: &'a [u8]) -> Records<'a> {
+        Records {
+            table,
+            sessions: table[0].into(),
+        }
+    }
+
+    fn session(&self, session: usize) -> &'a [u8] {
+        &self.table[2 + SESSION_SIZE * (session - 1)..][..SESSION_SIZE]
+    }
+
+    fn item(&self, item: usize) -> &'a [u8] {
+        let behind = 2 + SESSION_SIZE * self.sessions;
+        &self.table[behind + ITEM_SIZE * (item - 1)..][..ITEM_SIZE]
+    }
+}
+
+impl Coverage {
+    pub fn new() -> Coverage {
+        let breaks: Vec<_> = crate::forge::BREAKS.iter().map(|b| b.name).collect();
+        Coverage {
+            refusals: Default::default(),
+            pairs: Default::default(),
+            items: Group::new("Rules of an item, by what it receives", ITEM_RULES),
+            sessions: Group::new(
+                "Rules of a session, by what it does or receives",
+                SESSION_RULES,
+            ),
+            situations: Group::new("Sizes, numbers and cycles", SITUATIONS),
+            breaks: Group::new("Ways to break the form", &breaks),
+        }
+    }
+
+    pub fn calls(&self) -> u64 {
+        self.refusals.iter().flatten().sum()
+    }
+
+    /// A form broken in one way was refused as it must be.
+    pub fn broken(&mut self, name: &'static str) {
+        self.breaks.hit(name);
+    }
+
+    fn count(&mut self, call: usize, refusal: u8, numbers: &[u64], buffers: &Buffers) {
+        self.refusals[call][usize::from(refusal)] += 1;
+        let situations = &mut self.situations;
+        if numbers.iter().any(|n| (1 << 8..1 << 32).contains(n)) {
+            situations.hit("number of 256 to 2^32 - 1");
+        }
+        if numbers.iter().any(|&n| n >= 1 << 32) {
+            situations.hit("number of 2^32 and more");
+        }
+        if buffers.table.is_empty() {
+            situations.hit("table of length 0");
+        }
+    }
+
+    pub(crate) fn start(&mut self, numbers: [u64; 3], before: &Buffers, refusal: u8) {
+        self.count(0, refusal, &numbers, before);
+        if refusal == 0 && before.table.iter().chain(&before.mail).any(|&b| b != 0) {
+            self.situations.hit("accepted start on used bytes");
+        }
+    }
+
+    pub(crate) fn report(&mut self, session: u64, buffers: &Buffers, cycle: Cycle) {
+        self.count(2, cycle.refusal, &[session], buffers);
+        if cycle.refusal == 0 {
+            self.situations.hit(match cycle.length {
+                0 => "report: not on a cycle",
+                2 => "report: cycle of 2",
+                64 => "report: cycle of 64",
+                _ => "report: cycle of 3 to 63",
+            });
+        }
+    }
+
+    pub(crate) fn step(&mut self, numbers: [u64; 3], before: &Buffers, answer: Answer) {
+        self.count(1, answer.refusal, &numbers, before);
+        if before.mail.is_empty() {
+            self.situations.hit("mail of length 0");
+        }
+        if answer.refusal != 0 {
+            return;
+        }
+        let [verb, session, item] = numbers.map(|n| n as usize);
+        let number = |place: usize| {
+            usize::from(before.mail[place]) | usize::from(before.mail[place + 1]) << 8
+        };
+        let (capacity, count) = (number(0), number(2));
+        self.sizes(before, capacity, count, verb, answer);
+
+        let records = Records::new(&before.table);
+        let route = [
+            verb as u8 - 2 * u8::from(verb > 2),
+            session as u8,
+            item as u8,
+        ];
+        let message = || {
+            let routes = &before.mail[4..4 + 3 * count];
+            let place = routes.chunks(3).position(|entry| entry == route).unwrap();
+            let body = &before.mail[4 + 3 * (capacity + place)..][..3];
+            (body[0], body[1], body[2])
+        };
+        match verb {
+            1 | 2 => self.own_step(verb, records.session(session)),
+            3 => self.at_item(session as u8, records.item(item), message(), answer),
+            _ => self.at_session(session as u8, item, records.session(session), message()),
+        }
+    }
+
+    fn sizes(
+        &mut self,
+        before: &Buffers,
+        capacity: usize,
+        count: usize,
+        verb: usize,
+        answer: Answer,
+    ) {
+        let situations = &mut self.situations;
+        let largest = before.table.len() == table_length(MOST, MOST)
+            && before.mail.len() == mail_length(MOST_CAPACITY);
+        if largest {
+            situations.hit("64 sessions, 64 items, capacity 4096");
+            if count == capacity {
+                situations.hit("64 sessions, 64 items, capacity 4096, mail full");
+            }
+        }
+        if before.table[..2] == [1, 1] {
+            situations.hit("one session and one item");
+        }
+        match capacity {
+            1 => situations.hit("capacity 1"),
+            2 => situations.hit("capacity 2"),
+            _ => {}
+        }
+        if count == capacity {
+            situations.hit("accepted step on a full mail");
+        }
+        let taken = usize::from(verb > 2);
+        if count < capacity && count - taken + usize::from(answer.sent) == capacity {
+            situations.hit("accepted step that fills the mail");
+        }
+        if answer.sent == 65 {
+            situations.hit("accepted step that sends 65 messages");
+        }
+        if answer.sent >= 100 {
+            situations.hit("accepted step that sends 100 messages or more");
+        }
+    }
+
+    fn own_step(&mut self, verb: usize, record: &[u8]) {
+        let stored = record[10..].iter().any(|&junior| junior != 0);
+        self.sessions.hit(match (verb, record[0]) {
+            (1, _) if stored => "own request: stored probes",
+            (1, _) => "own request: no stored probe",
+            (_, 1) => "own release: growing",
+            _ => "own release: shrinking",
+        });
+    }
+
+    fn at_item(&mut self, from: u8, record: &[u8], message: (u8, u8, u8), answer: Answer) {
+        let holder = record[0];
+        let queue = &record[2..2 + usize::from(record[1])];
+        let waits = queue.contains(&from);
+        let senior_to = |holder: u8, queue: &[u8]| queue.iter().any(|&waiting| waiting < holder);
+        let rules = &mut self.items;
+        match message.0 {
+            1 if from == holder => rules.hit("request: from the holder, dropped"),
+            1 if waits => rules.hit("request: from the queue, dropped"),
+            1 if holder == 0 && queue.is_empty() => rules.hit("request: no holder, granted"),
+            1 if holder == 0 => rules.hit("request: no holder but a queue, granted"),
+            1 => {
+                rules.hit(if from < holder {
+                    "request: joins, senior to the holder"
+                } else {
+                    "request: joins, junior to the holder"
+                });
+                rules.hit(if answer.closed == 1 {
+                    "request: joins and closes a cycle"
+                } else {
+                    "request: joins and closes none"
+                });
+            }
+            2 if from != holder => rules.hit("release: not from the holder, dropped"),
+            2 => rules.hit(match queue {
+                [] => "release: empty queue, no holder",
+                [_] => "release: next holder, nobody left waiting",
+                [next, left @ ..] if senior_to(*next, left) => {
+                    "release: next holder, probes and resends"
+                }
+                _ => "release: next holder, resends alone",
+            }),
+            3 if !waits => rules.hit("probe: not from the queue, dropped"),
+            3 if holder == 0 => rules.hit("probe: no holder, dropped"),
+            3 if holder < message.1 => rules.hit("probe: holder senior, dropped"),
+            3 if holder > message.1 => rules.hit("probe: holder junior, passed on"),
+            3 => rules.hit("probe: holder is the initiator, declared"),
+            4 if holder == 0 => rules.hit("clean: no holder, dropped"),
+            4 => {
+                rules.hit(if waits {
+                    "clean: from the queue"
+                } else {
+                    "clean: not from the queue"
+                });
+                rules.hit(if senior_to(holder, queue) {
+                    "clean: with probes"
+                } else {
+                    "clean: without probes"
+                });
+            }
+            5 if holder == 0 => rules.hit("rebroadcast: no holder, dropped"),
+            5 if queue.is_empty() => rules.hit("rebroadcast: empty queue"),
+            5 if senior_to(holder, queue) => rules.hit("rebroadcast: probes and resends"),
+            5 => rules.hit("rebroadcast: resends alone"),
+            _ if waits => rules.hit("withdraw: from the queue"),
+            _ => rules.hit("withdraw: not from the queue"),
+        }
+    }
+
+    fn at_session(&mut self, own: u8, from: usize, record: &[u8], message: (u8, u8, u8)) {
+        let (kind, a, b) = message;
+        let stage = record[0];
+        let row = KINDS
+            .iter()
+            .position(|&(number, _)| number == kind)
+            .unwrap();
+        self.pairs[row][usize::from(stage) - 1] += 1;
+
+        let awaited = usize::from(record[1]) == from;
+        let held = u64::from_le_bytes(record[2..10].try_into().unwrap());
+        let sender = 1u64 << (from - 1);
+        let stored = record[10..].iter().any(|&junior| junior != 0);
+        let rules = &mut self.sessions;
+        match (kind, stage) {
+            (7, 2) if awaited => rules.hit("grant: from the awaited item"),
+            (7, 2) => rules.hit("grant: from another item, dropped"),
+            (3, 1 | 2) => {
+                let before = record[9 + usize::from(a)];
+                rules.hit(if before == 0 {
+                    "probe: none stored"
+                } else if b.max(own) > before {
+                    "probe: junior to the stored one"
+                } else {
+                    "probe: not junior to the stored one, dropped"
+                });
+                if own > b {
+                    rules.hit("probe: the session itself is the junior");
+                }
+                if own == a {
+                    rules.hit("probe: the session itself is the initiator");
+                }
+            }
+            (8, 2) if awaited && stored => rules.hit("resend: from the awaited item, probes"),
+            (8, 2) if awaited => rules.hit("resend: from the awaited item, none stored"),
+            (8, 2) => rules.hit("resend: from another item, dropped"),
+            (4, 1 | 2) => {
+                rules.hit(if held & !sender == 0 {
+                    "clean: nothing to rebroadcast"
+                } else if held & sender == 0 {
+                    "clean: rebroadcasts, sender not held"
+                } else {
+                    "clean: rebroadcasts, sender held"
+                });
+                if a == own {
+                    rules.hit("clean: names the session itself before its abort");
+                }
+            }
+            (4, 4) if a == own => rules.hit("clean: back at its victim"),
+            (4, 4) => rules.hit("clean: of another victim at a victim, dropped"),
+            (10, 5) if held != 0 => rules.hit("withdrawn: holds items"),
+            (10, 5) => rules.hit("withdrawn: holds none"),
+            _ => {}
+        }
+    }
+
+    /// The places that were met too seldom.
+    pub fn missing(&self) -> Vec<String> {
+        let mut missing = Vec::new();
+        for (row, (call, refusals)) in CALLS.iter().enumerate() {
+            for (refusal, &count) in self.refusals[row].iter().enumerate().skip(1) {
+                if refusals.contains(&refusal) && count < REFUSALS_AT_LEAST {
+                    missing.push(format!("{call} refused with {refusal}: {count} times"));
+                }
+                if !refusals.contains(&refusal) && count > 0 {
+                    missing.push(format!("{call} is never refused with {refusal}, but was"));
+                }
+            }
+        }
+        for (row, (_, kind)) in KINDS.iter().enumerate() {
+            for (column, stage) in STAGES.iter().enumerate() {
+                if self.pairs[row][column] == 0 {
+                    missing.push(format!("a {kind} to a session that is {stage}"));
+                }
+            }
+        }
+        for group in self.groups() {
+            for name in &group.names {
+                if group.counts[name] == 0 {
+                    missing.push(format!("{}: {name}", group.title));
+                }
+            }
+        }
+        missing
+    }
+
+    fn groups(&self) -> [&Group; 4] {
+        [&self.items, &self.sessions, &self.breaks, &self.situations]
+    }
+}
+
+impl Default for Coverage {
+    fn default() -> Coverage {
+        Coverage::new()
+    }
+}
+
+impl Display for Coverage {
+    fn fmt(&self, out: &mut Formatter<'_>) -> fmt::Result {
+        writeln!(
+            out,
+            "Calls by refusal (0: accepted; -: not given by that call)"
+        )?;
+        write!(out, "  {:8}", "")?;
+        for refusal in 0..10 {
+            write!(out, "{refusal:>9}")?;
+        }
+        writeln!(out)?;
+        for (row, (call, refusals)) in CALLS.iter().enumerate() {
+            write!(out, "  {call:8}")?;
+            for (refusal, count) in self.refusals[row].iter().enumerate() {
+                if refusal == 0 || refusals.contains(&refusal) {
+                    write!(out, "{count:>9}")?;
+                } else {
+                    write!(out, "{:>9}", "-")?;
+                }
+            }
+            writeln!(out)?;
+        }
+
+        writeln!(out, "\nMessages delivered to a session, by its stage")?;
+        write!(out, "  {:10}", "")?;
+        for stage in STAGES {
+            write!(out, "{stage:>12}")?;
+        }
+        writeln!(out)?;
+        for (row, (_, kind)) in KINDS.iter().enumerate() {
+            write!(out, "  {kind:10}")?;
+            for count in self.pairs[row] {
+                write!(out, "{count:>12}")?;
+            }
+            writeln!(out)?;
+        }
+
+        for group in self.groups() {
+            writeln!(out, "\n{}", group.title)?;
+            for name in &group.names {
+                writeln!(out, "  {name:58}{:>10}", group.counts[name])?;
+            }
+        }
+        Ok(())
+    }
+}

@@ -1,0 +1,10 @@
+//! The lock manager's library beside the Rust model: both get the same calls on
+//! the same bytes, and every answer and every byte left must be equal.
+
+pub mod calls;
+pub mod cases;
+pub mod comparison;
+pub mod coverage;
+pub mod fast;
+pub mod forge;
+pub mod library;

@@ -1,0 +1,239 @@
+/*
+ * Two sessions lock two items in opposite order, come to wait for each other,
+ * and are led out of it again. Every answer is checked; the exit status is 0
+ * if all are as expected.
+ */
+#include "lockmgr.h"
+
+#include <stdio.h>
+
+enum { SESSIONS = 2, ITEMS = 2, CAPACITY = 64 };
+
+static uint8_t table[LOCKMGR_TABLE_SIZE(SESSIONS, ITEMS)];
+static uint8_t mail[LOCKMGR_MAIL_SIZE(CAPACITY)];
+
+static int differences;
+
+/* A call, what it must answer, and what it means. */
+typedef struct {
+    unsigned verb, session, item;
+    lockmgr_answer expected;
+    const char *meaning;
+} script_step;
+
+#define REQUEST    LOCKMGR_REQUEST
+#define TO_ITEM    LOCKMGR_DELIVER_TO_ITEM
+#define TO_SESSION LOCKMGR_DELIVER_TO_SESSION
+
+/* The expected answer: refusal, sent, closed, victim, initiator. */
+static const script_step first_locks[] = {
+    {REQUEST, 1, 1, {0, 1, 0, 0, 0}, "Session 1 waits for the answer of item 1."},
+    {REQUEST, 2, 2, {0, 1, 0, 0, 0}, "Session 2 waits for the answer of item 2."},
+    {TO_ITEM, 1, 1, {0, 1, 0, 0, 0}, "Item 1 is free: session 1 becomes its holder, a grant goes back."},
+    {TO_ITEM, 2, 2, {0, 1, 0, 0, 0}, "Item 2 is free: session 2 becomes its holder, a grant goes back."},
+    {TO_SESSION, 1, 1, {0, 0, 0, 0, 0}, "Session 1 holds item 1."},
+    {TO_SESSION, 2, 2, {0, 0, 0, 0, 0}, "Session 2 holds item 2."},
+};
+
+static const script_step into_the_cycle[] = {
+    {REQUEST, 1, 2, {0, 1, 0, 0, 0}, "Session 1 wants item 2 as well."},
+    {TO_ITEM, 1, 2, {0, 1, 0, 0, 0},
+     "Session 2 holds it, so session 1 joins the wait queue of item 2.\n"
+     "It is senior to the holder: item 2 sends the holder a probe for it."},
+    {REQUEST, 2, 1, {0, 1, 0, 0, 0}, "Session 2 wants item 1 as well."},
+    {TO_ITEM, 2, 1, {0, 0, 1, 0, 0},
+     "Session 1 holds it, so session 2 joins the wait queue of item 1.\n"
+     "Now each waits for the other: this step closed a cycle."},
+};
+
+static const script_step found[] = {
+    {TO_SESSION, 2, 2, {0, 1, 0, 0, 0},
+     "Session 2 is waiting, too: it stores the probe and passes it on to item 1."},
+    {TO_ITEM, 2, 1, {0, 1, 0, 2, 1},
+     "The probe of session 1 has come to an item that session 1 holds: a deadlock.\n"
+     "Item 1 declares session 2, the most junior on the way, the victim."},
+};
+
+static const script_step out_of_the_cycle[] = {
+    {TO_SESSION, 2, 1, {0, 1, 0, 0, 0},
+     "Session 2 learns that it is the victim. It sends a clean around the cycle,\n"
+     "which removes the probes that are stored there."},
+    {TO_ITEM, 2, 1, {0, 1, 0, 0, 0}, "Item 1 passes the clean on to its holder, session 1."},
+    {TO_SESSION, 1, 1, {0, 1, 0, 0, 0},
+     "Session 1 drops its stored probes and passes the clean on to item 2."},
+    {TO_ITEM, 1, 2, {0, 2, 0, 0, 0},
+     "Item 2 passes the clean on to its holder, session 2, and probes anew for\n"
+     "session 1, which still waits here."},
+    {TO_SESSION, 2, 2, {0, 1, 0, 0, 0},
+     "The clean is back at the victim, which now withdraws from the wait queue."},
+    {TO_SESSION, 2, 2, {0, 0, 0, 0, 0}, "A victim has no use for the new probe: dropped."},
+    {TO_ITEM, 2, 1, {0, 1, 0, 0, 0}, "Session 2 leaves the wait queue of item 1, which confirms it."},
+    {TO_SESSION, 2, 1, {0, 1, 0, 0, 0},
+     "Session 2 releases all that it holds, item 2, and is rolled back."},
+    {TO_ITEM, 2, 2, {0, 1, 0, 0, 0},
+     "Item 2 is free for the first in its wait queue: session 1 becomes its holder."},
+    {TO_SESSION, 1, 2, {0, 0, 0, 0, 0}, "Session 1 holds both items. The mail is empty."},
+};
+
+#define PLAY(script) play(script, sizeof script / sizeof script[0])
+
+static const char *kind_name(unsigned kind)
+{
+    static const char *const names[] = {
+        "?",        "request",  "release", "probe",  "clean", "rebroadcast",
+        "withdraw", "grant",    "resend",  "abort",  "withdrawn",
+    };
+    return names[kind < sizeof names / sizeof names[0] ? kind : 0];
+}
+
+static const char *stage_name(unsigned stage)
+{
+    static const char *const names[] = {
+        "?", "growing", "waiting", "shrinking", "cleaning", "withdrawing", "rolled back",
+    };
+    return names[stage < sizeof names / sizeof names[0] ? stage : 0];
+}
+
+/* The kind of the message that a delivery takes: the earliest on its route. */
+static const char *next_kind(unsigned direction, unsigned session, unsigned item)
+{
+    for (unsigned place = 0; place < lockmgr_mail_count(mail); place++) {
+        lockmgr_message m = lockmgr_mail_message(mail, place);
+        if (m.direction == direction && m.session == session && m.item == item)
+            return kind_name(m.kind);
+    }
+    return "message that is not there";
+}
+
+static void print_call(const script_step *step)
+{
+    switch (step->verb) {
+    case LOCKMGR_REQUEST:
+        printf("session %u requests item %u\n", step->session, step->item);
+        break;
+    case LOCKMGR_RELEASE:
+        printf("session %u releases item %u\n", step->session, step->item);
+        break;
+    case LOCKMGR_DELIVER_TO_ITEM:
+        printf("the %s of session %u reaches item %u\n",
+               next_kind(LOCKMGR_TO_ITEM, step->session, step->item), step->session, step->item);
+        break;
+    default:
+        printf("the %s of item %u reaches session %u\n",
+               next_kind(LOCKMGR_TO_SESSION, step->session, step->item), step->item, step->session);
+        break;
+    }
+}
+
+static void print_answer(lockmgr_answer answer)
+{
+    if (answer.refusal != LOCKMGR_ACCEPTED) {
+        printf("refused with %u", answer.refusal);
+    } else {
+        printf("accepted, %u sent", answer.sent);
+        if (answer.closed)
+            printf(", CYCLE CLOSED");
+        if (answer.victim)
+            printf(", DEADLOCK DECLARED: victim %u, initiator %u", answer.victim, answer.initiator);
+    }
+    printf("\n");
+}
+
+/* Text of several lines, indented. */
+static void print_indented(const char *text)
+{
+    printf("      ");
+    for (; *text; text++) {
+        putchar(*text);
+        if (*text == '\n')
+            printf("      ");
+    }
+    printf("\n");
+}
+
+static int same(lockmgr_answer one, lockmgr_answer other)
+{
+    return one.refusal == other.refusal && one.sent == other.sent && one.closed == other.closed &&
+           one.victim == other.victim && one.initiator == other.initiator;
+}
+
+static void play(const script_step *script, size_t length)
+{
+    static unsigned number;
+    for (size_t k = 0; k < length; k++) {
+        const script_step *step = &script[k];
+        printf("%4u  ", ++number);
+        print_call(step);
+        lockmgr_answer answer = lockmgr_step(step->verb, step->session, step->item,
+                                             table, sizeof table, mail, sizeof mail);
+        print_indented(step->meaning);
+        printf("      -> ");
+        print_answer(answer);
+        if (!same(answer, step->expected)) {
+            printf("      EXPECTED: ");
+            print_answer(step->expected);
+            differences++;
+        }
+    }
+}
+
+static void expect(const char *what, unsigned found_value, unsigned expected)
+{
+    if (found_value != expected) {
+        printf("      EXPECTED: %s %u, not %u\n", what, expected, found_value);
+        differences++;
+    }
+}
+
+/* What the reports say, and where the sessions are. */
+static void look(unsigned cycle_length, unsigned stage_of_1, unsigned stage_of_2)
+{
+    printf("\n");
+    for (unsigned session = 1; session <= SESSIONS; session++) {
+        lockmgr_cycle cycle = lockmgr_report(session, table, sizeof table);
+        printf("      report on session %u: %s, ", session, stage_name(lockmgr_stage(table, session)));
+        if (cycle.length > 0)
+            printf("on a cycle of %u sessions\n", cycle.length);
+        else
+            printf("on no cycle\n");
+        expect("refusal of the report", cycle.refusal, LOCKMGR_ACCEPTED);
+        expect("length of the cycle", cycle.length, cycle_length);
+    }
+    expect("stage of session 1", lockmgr_stage(table, 1), stage_of_1);
+    expect("stage of session 2", lockmgr_stage(table, 2), stage_of_2);
+}
+
+int main(void)
+{
+    printf("A lock manager for %d sessions and %d items.\n", SESSIONS, ITEMS);
+    expect("refusal of start",
+           lockmgr_start(SESSIONS, ITEMS, CAPACITY, table, sizeof table, mail, sizeof mail),
+           LOCKMGR_ACCEPTED);
+
+    printf("\nEach session locks an item\n\n");
+    PLAY(first_locks);
+    look(0, LOCKMGR_GROWING, LOCKMGR_GROWING);
+
+    printf("\nEach wants the other's item: a cycle\n\n");
+    PLAY(into_the_cycle);
+    look(2, LOCKMGR_WAITING, LOCKMGR_WAITING);
+
+    printf("\nThe probe finds it\n\n");
+    PLAY(found);
+
+    printf("\nThe victim is rolled back\n\n");
+    PLAY(out_of_the_cycle);
+    look(0, LOCKMGR_GROWING, LOCKMGR_ROLLED_BACK);
+    expect("messages left:", lockmgr_mail_count(mail), 0);
+    expect("session 1 holds item 1:", (unsigned)lockmgr_holds(table, 1, 1), 1);
+    expect("session 1 holds item 2:", (unsigned)lockmgr_holds(table, 1, 2), 1);
+    expect("holder of item 1:", lockmgr_holder(table, 1), 1);
+    expect("holder of item 2:", lockmgr_holder(table, 2), 1);
+
+    if (differences) {
+        printf("\n%d answers differ from what is expected.\n", differences);
+        return 1;
+    }
+    printf("\nAll answers are as expected.\n");
+    return 0;
+}
