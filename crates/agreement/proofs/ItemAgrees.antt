@@ -8,8 +8,7 @@ use native.Mathlib.Omega.{arith}
 use lib.Dec.{eqb}
 use lib.ListN.{length, getD}
 use borrow.Author.Tests.{eqb-true, eqb-false, ne-eqb}
-use Rattle.buffer.specs.Lists as Product
-use Rattle.buffer.specs.Lists.{between, distinct, all, removeAt}
+use Rattle.buffer.specs.Lists.{between, member, distinct, all, only, removeAt}
 use Rattle.message.specs.Kind
 use Rattle.message.specs.declared.Message.{Message}
 use Rattle.message.specs.Outbox.{message, plain}
@@ -17,7 +16,7 @@ use Rattle.item.specs.Record.{Lock}
 use Rattle.item.specs.declared.Event.the-variants.{Nothing, Joined, Declared}
 use Rattle.item.specs.Rules as ItemRules
 use Rattle.item.specs.Rules.{After, after, received}
-use Rattle.deadlock.specs.Lists.{member, without, only}
+use Rattle.deadlock.specs.Lists.{without}
 use Rattle.deadlock.specs.Machine
 use Rattle.deadlock.specs.Machine.{itemReceives}
 use Rattle.agreement.specs.Reading.{readHolder, readItem, readMessage, readSends, readItemStep, eventOf, declaredEvent, LockWellFormed, rules}
@@ -75,8 +74,7 @@ module _ (senior : ℕ → ℕ → Bool) (S M : ℕ) (next : List ℕ → ℕ) w
   probes-agree : (h : ℕ) (q : List ℕ) → readSends (ItemRules.probes senior h q) ≡ Machine.probesTo R h q
   unfolding ItemRules.probes Machine.probesTo readMessage
   probes-agree h q =
-      ReadingLists.readSends-map (λ r. message h Kind.probe r h) (Product.only (λ r. senior r h) q)
-      ∙ ap (map (λ (a : ℕ). (h, Machine.probe a h))) (ReadingLists.only-agrees (λ r. senior r h) q)
+      ReadingLists.readSends-map (λ r. message h Kind.probe r h) (only (λ r. senior r h) q)
 
   resends-agree : (q : List ℕ) → readSends (ItemRules.resends q) ≡ Machine.resends q
   unfolding ItemRules.resends Machine.resends readMessage
@@ -92,8 +90,8 @@ module _ (senior : ℕ → ℕ → Bool) (S M : ℕ) (next : List ℕ → ℕ) w
     on-request : Agrees Kind.request
     unfolding received itemReceives readMessage ItemRules.onRequest Machine.onRequest Machine.grantOrQueue ItemRules.granted ItemRules.queued readSends
     on-request =
-        ReadingLists.cond-agrees readItemStep (eqb (k .holder) t || Product.member t (k .queue)) _
-        (ap (λ (c : Bool). c || Product.member t (k .queue)) (heldBy-agrees (k .holder) t t-low) ∙ ap (λ (c : Bool). Machine.heldBy (readHolder (k .holder)) t || c) (ReadingLists.member-agrees t (k .queue)))
+        ReadingLists.cond-agrees readItemStep (eqb (k .holder) t || member t (k .queue)) _
+        (ap (λ (c : Bool). c || member t (k .queue)) (heldBy-agrees (k .holder) t t-low))
         (λ e. refl)
         (λ e. ReadingLists.cond-agrees readItemStep (eqb (k .holder) 0) _ refl
         (λ f. rw (readHolder-some t t-low) refl)
@@ -124,8 +122,8 @@ module _ (senior : ℕ → ℕ → Bool) (S M : ℕ) (next : List ℕ → ℕ) w
     on-probe : Agrees Kind.probe
     unfolding received itemReceives readMessage ItemRules.onProbe Machine.passProbe readSends
     on-probe =
-        go (Product.member t (k .queue)) (eqb (k .holder) 0) (senior (k .holder) a) (eqb (k .holder) a)
-        ∙ sends-eq (ap (λ (c : Bool). cond c (cond (eqb (k .holder) 0) [] (Machine.passProbe R a b (some (k .holder)))) []) (ReadingLists.member-agrees t (k .queue)) ∙ ap (λ (l : Machine.Sends). cond (member t (k .queue)) l []) (sym (on-holder (Machine.passProbe R a b) (k .holder))))
+        go (member t (k .queue)) (eqb (k .holder) 0) (senior (k .holder) a) (eqb (k .holder) a)
+        ∙ sends-eq (ap (λ (l : Machine.Sends). cond (member t (k .queue)) l []) (sym (on-holder (Machine.passProbe R a b) (k .holder))))
       where
         go : (here free over same : Bool)
             → readItemStep (cond (not here || free || over) (ItemRules.dropped k) (cond same (after k (message b Kind.abort b a ∷ []) (Declared b a)) (after k (message (k .holder) Kind.probe a b ∷ []) Nothing)))
@@ -165,12 +163,12 @@ module _ (senior : ℕ → ℕ → Bool) (S M : ℕ) (next : List ℕ → ℕ) w
     event-request : EventAgrees Kind.request
     unfolding received eventOf readMessage ItemRules.onRequest Machine.joins ItemRules.granted ItemRules.queued Machine.isHeld
     event-request =
-        go (eqb (k .holder) t || Product.member t (k .queue)) (eqb (k .holder) 0)
+        go (eqb (k .holder) t || member t (k .queue)) (eqb (k .holder) 0)
         ∙ ap (λ (c : Bool). cond (not c && not (eqb (k .holder) 0)) Joined Nothing) here
         ∙ ap (λ (c : Bool). cond (not (Machine.heldBy (readHolder (k .holder)) t || member t (k .queue)) && c) Joined Nothing) (held (eqb (k .holder) 0) ∙ sym (on-holder Machine.isHeld (k .holder)))
       where
-        here : eqb (k .holder) t || Product.member t (k .queue) ≡ Machine.heldBy (readHolder (k .holder)) t || member t (k .queue)
-        here = ap (λ (c : Bool). c || Product.member t (k .queue)) (heldBy-agrees (k .holder) t t-low) ∙ ap (λ (c : Bool). Machine.heldBy (readHolder (k .holder)) t || c) (ReadingLists.member-agrees t (k .queue))
+        here : eqb (k .holder) t || member t (k .queue) ≡ Machine.heldBy (readHolder (k .holder)) t || member t (k .queue)
+        here = ap (λ (c : Bool). c || member t (k .queue)) (heldBy-agrees (k .holder) t t-low)
 
         held : (c : Bool) → not c ≡ cond c false true
         held true = refl
@@ -184,8 +182,7 @@ module _ (senior : ℕ → ℕ → Bool) (S M : ℕ) (next : List ℕ → ℕ) w
     event-probe : 1 ≤ a → senior a a ≡ false → EventAgrees Kind.probe
     unfolding received eventOf readMessage ItemRules.onProbe Machine.declares declaredEvent
     event-probe l irreflexive =
-        go (Product.member t (k .queue)) (eqb (k .holder) 0) (senior (k .holder) a) (eqb (k .holder) a) not-free not-over
-        ∙ ap (λ (c : Bool). declaredEvent (cond (c && eqb (k .holder) a) found none)) (ReadingLists.member-agrees t (k .queue))
+        go (member t (k .queue)) (eqb (k .holder) 0) (senior (k .holder) a) (eqb (k .holder) a) not-free not-over
         ∙ ap (λ (c : Bool). declaredEvent (cond (member t (k .queue) && c) found none)) (heldBy-agrees (k .holder) a l)
       where
         found : Option Machine.Declaration

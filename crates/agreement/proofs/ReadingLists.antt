@@ -7,12 +7,11 @@ use native.Mathlib.Omega.{arith}
 use lib.Dec.{eqb, leb}
 use lib.ListN.{length, getD}
 use borrow.Author.Tests.{eq-eqb, eqb-true, eqb-false, ne-eqb, leb-true, not-true}
-use Rattle.buffer.specs.Lists as Product
-use Rattle.buffer.specs.Lists.{between, distinct, all, place, removeAt}
+use Rattle.buffer.specs.Lists.{between, member, distinct, all, place, removeAt}
 use Rattle.message.specs.declared.Message.{Message}
 use Rattle.item.specs.Rules as ItemRules
 use Rattle.item.proofs.Pigeonhole.{and-both}
-use Rattle.deadlock.specs.Lists.{member, without, only}
+use Rattle.deadlock.specs.Lists.{without}
 use Rattle.deadlock.specs.Machine
 use Rattle.agreement.specs.Reading.{readSend, readSends}
 
@@ -34,16 +33,6 @@ eqb-comm a b = go (eqb a b) refl
     go true e = sym (eq-eqb b a (sym (eqb-true a b e)))
     go false e = sym (ne-eqb b a (λ q. eqb-false a b e (sym q)))
 
-pub member-agrees : (a : ℕ) (l : List ℕ) → Product.member a l ≡ member a l
-unfolding Product.member member
-member-agrees a [] = refl
-member-agrees a (b ∷ l) = ap (λ (t : Bool). eqb b a || t) (member-agrees a l)
-
-pub only-agrees : (p : ℕ → Bool) (l : List ℕ) → Product.only p l ≡ only p l
-unfolding Product.only only
-only-agrees p [] = refl
-only-agrees p (b ∷ l) = ap (λ (r : List ℕ). cond (p b) (b ∷ r) r) (only-agrees p l)
-
 pub without-agrees : (a : ℕ) (l : List ℕ) → ItemRules.without a l ≡ without a l
 unfolding ItemRules.without without place removeAt
 without-agrees a [] = refl
@@ -55,8 +44,8 @@ without-agrees a (b ∷ l) = go (eqb b a) (without-agrees a l)
     go false e = ap (λ (r : List ℕ). b ∷ r) e
 
 -- the element at a place of a list
-pub getD-member : (l : List ℕ) (k : ℕ) → k < length l → Product.member (getD l k 0) l ≡ true
-unfolding Product.member
+pub getD-member : (l : List ℕ) (k : ℕ) → k < length l → member (getD l k 0) l ≡ true
+unfolding member
 getD-member [] k h = absurd (omega arith)
 getD-member (a ∷ l) zero h = rw (eq-eqb a a refl) refl
 getD-member (a ∷ l) (suc k) h = rw (getD-member l k (omega arith)) (or-true (eqb a (getD l k 0)))
@@ -66,8 +55,8 @@ getD-member (a ∷ l) (suc k) h = rw (getD-member l k (omega arith)) (or-true (e
     or-true false = refl
 
 -- a number is no other than what stands in the list, where it does not stand there
-pub absent-differs : (a b : ℕ) (l : List ℕ) → Product.member a l ≡ false → Product.member b l ≡ true → a ≡ b → ⊥
-absent-differs a b l e f q = let z : true ≡ false = sym f ∙ ap (λ (n : ℕ). Product.member n l) (sym q) ∙ e in let y : _≡_ {A = ℕ} 0 1 = cc in omega arith
+pub absent-differs : (a b : ℕ) (l : List ℕ) → member a l ≡ false → member b l ≡ true → a ≡ b → ⊥
+absent-differs a b l e f q = let z : true ≡ false = sym f ∙ ap (λ (n : ℕ). member n l) (sym q) ∙ e in let y : _≡_ {A = ℕ} 0 1 = cc in omega arith
 
 -- what is taken out at a place is the number there, where each stands once
 pub removeAt-without : (l : List ℕ) (k : ℕ) → distinct l ≡ true → k < length l → removeAt k l ≡ without (getD l k 0) l
@@ -75,9 +64,9 @@ unfolding distinct removeAt without
 removeAt-without [] k d h = absurd (omega arith)
 removeAt-without (a ∷ l) zero d h = rw (eq-eqb a a refl) refl
 removeAt-without (a ∷ l) (suc k) d h =
-    let both = and-both (not (Product.member a l)) (distinct l) d in
+    let both = and-both (not (member a l)) (distinct l) d in
     let other : a ≡ getD l k 0 → ⊥ =
-    absent-differs a (getD l k 0) l (not-true (Product.member a l) (both .0)) (getD-member l k (omega arith)) in
+    absent-differs a (getD l k 0) l (not-true (member a l) (both .0)) (getD-member l k (omega arith)) in
     rw (ne-eqb a (getD l k 0) other) (ap (λ (r : List ℕ). a ∷ r) (removeAt-without l k (both .1) (omega arith)))
 
 -- what a test of every element tells of the one at a place

@@ -10,7 +10,7 @@ use Rattle.session.specs.Seniority.{senior}
 use Rattle.item.specs.NextHolder.{nextHolder}
 use Rattle.deadlock.specs.Machine
 use Rattle.agreement.specs.Reading.{rules}
-use Rattle.agreement.proofs.ReadingLists.{member-agrees, getD-member}
+use Rattle.agreement.proofs.ReadingLists.{getD-member}
 
 -- the next holder has a place in the queue
 pub next-inside : (q : List ℕ) → 0 < length q → nextHolder q < length q
@@ -27,5 +27,5 @@ rules-laws S M = record {
   irreflexive = senior-irreflexive;
   transitive = λ a b c e f. lt-ltb a c (omega (arith, ltb-true a b e, ltb-true b c f));
   total = λ a b e f. omega (arith, ltb-false a b e, ltb-false b a f);
-  next-member = λ x xs. sym (member-agrees _ (x ∷ xs)) ∙ getD-member (x ∷ xs) (nextHolder (x ∷ xs)) (next-inside (x ∷ xs) (omega arith));
+  next-member = λ x xs. getD-member (x ∷ xs) (nextHolder (x ∷ xs)) (next-inside (x ∷ xs) (omega arith));
 }

@@ -7,7 +7,8 @@ use mathlib.Core.Logic.{_≢_, _⊎_, inl, inr}
 use Prim.Native.Nat.{_+_, _≤_, ℕ}
 use native.Mathlib.Omega.{arith}
 use lib.Dec.{eqb}
-use Rattle.deadlock.specs.Lists.{member, occurs}
+use Rattle.buffer.specs.Lists.{member}
+use Rattle.deadlock.specs.Lists.{occurs}
 use Rattle.deadlock.specs.Machine.{abort, accepted, afterAnswer, afterItem, afterSession, Answer, Call, clean, deliverToItem, deliverToSession, Entry, fromItem, fromSession, grant, isOnRoute, itemDrops, itemReceives, ItemStep, itemTakes, Laws, Message, move, noEntry, ofMachine, probe, putBack, rebroadcast, refused, release, releaseCall, request, requestCall, resend, route, Rules, Sends, sessionReceives, SessionStep, sessionTakes, start, State, take, Taken, taken, withdraw, withdrawn}
 use Rattle.deadlock.specs.Kind
 use Rattle.deadlock.specs.Counts.{behind-nil, behindRequest, cleanOf, cleansOf, cleansSent, EachBehind, every-nil, kindOf, sentTo}

@@ -7,7 +7,8 @@ use Prim.Native.Nat.{_+_, _≤_, ℕ}
 use native.Mathlib.Omega.{arith}
 use lib.Dec.{eqb}
 use borrow.Author.Tests.{eqb-true}
-use Rattle.deadlock.specs.Lists.{bit, member, occurs, only}
+use Rattle.buffer.specs.Lists.{member, only}
+use Rattle.deadlock.specs.Lists.{bit, occurs}
 use Rattle.deadlock.specs.Machine.{abort, clean, grant, Item, itemReceives, Message, onRebroadcast, passProbe, probe, probesFrom, probesTo, rebroadcast, release, request, resend, resends, Rules, Sends, toEach, withdraw, withdrawn}
 use Rattle.deadlock.specs.Kind
 use Rattle.deadlock.specs.Counts.{behind-cons, behind-nil, behindRequest, cleanOf, cleansOf, cleansSent, countKind, EachBehind, Every, every-cons, every-nil, kindOf, OfProbe, sentTo}

@@ -7,7 +7,8 @@ use Prim.Native.Nat.{_+_, _≤_, suc, zero, ℕ}
 use native.Mathlib.Omega.{arith}
 use lib.Dec.{eqb}
 use borrow.Author.Tests.{eqb-false, eqb-true}
-use Rattle.deadlock.specs.Lists.{bit, occurs, only, without}
+use Rattle.buffer.specs.Lists.{only}
+use Rattle.deadlock.specs.Lists.{bit, occurs, without}
 use Rattle.deadlock.specs.Machine.{Message, probe, probesFrom, probesTo, rebroadcast, resends, Rules, Sends, toEach}
 use Rattle.deadlock.specs.Kind
 use Rattle.deadlock.specs.Counts.{cleansSent, countKind, except, freshProbes, isStored, probeOf, probesBy, sentTo, sumOver, sumUpTo, unlessCleaned}

@@ -6,7 +6,8 @@ use mathlib.Core.Option.{none, Option, some}
 use Prim.Native.Nat.{_≤_, ℕ}
 use native.Mathlib.Omega.{arith}
 use lib.Dec.{eqb}
-use Rattle.deadlock.specs.Lists.{member, occurs, without}
+use Rattle.buffer.specs.Lists.{member}
+use Rattle.deadlock.specs.Lists.{occurs, without}
 use Rattle.deadlock.specs.Machine.{abort, accepted, afterAnswer, afterItem, afterSession, Answer, Call, clean, deliverToItem, deliverToSession, grant, grantOrQueue, handOver, heldBy, itemDrops, itemReceives, ItemStep, itemTakes, Laws, Message, move, noEntry, ofMachine, onRelease, onRequest, probe, rebroadcast, refused, release, releaseCall, request, requestCall, resend, route, Rules, run, sessionReceives, sessionTakes, start, State, step, Stepped, take, Taken, taken, withdraw, withdrawn}
 use Rattle.deadlock.specs.Kind
 use Rattle.deadlock.specs.Counts.{countKind, kindOf, probeOf}

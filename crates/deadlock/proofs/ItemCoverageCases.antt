@@ -7,7 +7,8 @@ use mathlib.Core.Logic.{_≢_, _⊎_, inl, inr}
 use Prim.Native.Nat.{_+_, _≤_, ℕ}
 use native.Mathlib.Omega.{arith}
 use lib.Dec.{eqb}
-use Rattle.deadlock.specs.Lists.{bit, member, occurs, without}
+use Rattle.buffer.specs.Lists.{member}
+use Rattle.deadlock.specs.Lists.{bit, occurs, without}
 use Rattle.deadlock.specs.Machine.{clean, grant, grantOrQueue, Item, itemReceives, Laws, Message, onRebroadcast, passClean, passProbe, probe, probesTo, rebroadcast, request, resends, Rules, Sends, withdraw, withdrawn}
 use Rattle.deadlock.specs.Kind
 use Rattle.deadlock.specs.Counts.{behindRequest, cleansSent, countKind, except, freshProbes, kindOf, probeOf, probesBy, sentTo, unlessCleaned}

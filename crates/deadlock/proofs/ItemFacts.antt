@@ -5,7 +5,8 @@ use mathlib.Core.List.{[], _∷_, List}
 use mathlib.Core.Option.{none, Option, some}
 use Prim.Native.Nat.{_≤_, ℕ}
 use native.Mathlib.Omega.{arith}
-use Rattle.deadlock.specs.Lists.{bit, member, occurs, without}
+use Rattle.buffer.specs.Lists.{member}
+use Rattle.deadlock.specs.Lists.{bit, occurs, without}
 use Rattle.deadlock.specs.Machine.{abort, accepted, afterAnswer, afterItem, afterSession, Answer, Call, clean, deliverToItem, deliverToSession, grant, grantOrQueue, handOver, heldBy, Item, itemReceives, ItemStep, itemTakes, Laws, Message, move, noEntry, ofMachine, onRelease, onRequest, probe, rebroadcast, refused, release, releaseCall, request, requestCall, resend, Rules, sessionTakes, State, Taken, taken, withdraw, withdrawn}
 use Rattle.deadlock.specs.World.{FreeIsEmpty}
 use Rattle.deadlock.specs.Invariant.{InRange}

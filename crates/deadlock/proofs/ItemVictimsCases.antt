@@ -7,7 +7,8 @@ use Prim.Native.Nat.{_+_, _≤_, ℕ}
 use native.Mathlib.Omega.{arith}
 use lib.Dec.{eqb}
 use borrow.Author.Tests.{eqb-true}
-use Rattle.deadlock.specs.Lists.{bit, member, only, without}
+use Rattle.buffer.specs.Lists.{member, only}
+use Rattle.deadlock.specs.Lists.{bit, without}
 use Rattle.deadlock.specs.Machine.{abort, clean, grant, Item, itemReceives, Laws, Message, onRebroadcast, passClean, passProbe, probe, probesTo, rebroadcast, release, request, resend, resends, Rules, Sends, withdraw, withdrawn}
 use Rattle.deadlock.specs.Counts.{cleanOf, cleansOf, cleansSent, EachBehind, Every, every-cons, every-nil, sentTo}
 use Rattle.deadlock.specs.Walks.{FirstApart, Walk}

@@ -1,5 +1,4 @@
 pub mod Lists
-pub mod Search
 pub mod Routes
 pub mod Neutral
 pub mod Stages
@@ -36,5 +35,12 @@ pub mod SessionCoverageCases
 pub mod SessionCoverageCalls
 pub mod DeclaredCycles
 pub mod InvariantStep
+pub mod CycleCounts
+pub mod Leaving
+pub mod BalanceAtSession
+pub mod BalanceAtItem
 pub mod NoCycle
+pub mod Settled
+pub mod BalanceStep
 pub mod Theorem
+pub mod Instance

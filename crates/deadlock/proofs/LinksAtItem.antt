@@ -7,7 +7,8 @@ use mathlib.Core.Logic.{_≢_}
 use Prim.Native.Nat.{_≤_, ℕ}
 use native.Mathlib.Omega.{arith}
 use borrow.Author.Tests.{eqb-true}
-use Rattle.deadlock.specs.Lists.{bit, member, occurs, without}
+use Rattle.buffer.specs.Lists.{member}
+use Rattle.deadlock.specs.Lists.{bit, occurs, without}
 use Rattle.deadlock.specs.Machine.{abort, clean, grant, grantOrQueue, handOver, heldBy, Item, itemReceives, ItemStep, Laws, Message, onRelease, onRequest, probe, probesTo, rebroadcast, release, request, resend, resends, Rules, Sends, Session, withdraw, withdrawn}
 use Rattle.deadlock.specs.Kind
 use Rattle.deadlock.specs.Counts.{countBehind, countKind, sentTo}

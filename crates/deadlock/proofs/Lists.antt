@@ -7,7 +7,9 @@ use Prim.Native.Nat.{_+_, _-_, _<_, _≤_, suc, zero, ℕ}
 use native.Mathlib.Omega.{arith}
 use lib.Dec.{eqb}
 use borrow.Author.Tests.{eq-eqb, eqb-false, eqb-true, ne-eqb}
-use Rattle.deadlock.specs.Lists.{bit, member, occurs, oneTo, updated, without}
+use Rattle.buffer.specs.Lists.{member}
+use Rattle.waits.proofs.Searches.{tests-agree}
+use Rattle.deadlock.specs.Lists.{bit, occurs, oneTo, updated, without}
 
 pub same? : (k j : ℕ) → Dec (k ≡ j)
 same? k j = cases (eqb k j) refl
@@ -71,6 +73,18 @@ not-member-occurs a (b ∷ l) e = cases (eqb b a) (not-member-occurs a l) e
     cases true f e = absurd (true≢false e)
     cases false f e = omega (arith, f e)
 
+pub occurs-member : (a : ℕ) (l : List ℕ) → 1 ≤ occurs a l → member a l ≡ true
+occurs-member a l h = cases (member a l) refl
+  where
+    cases : (b : Bool) → member a l ≡ b → member a l ≡ true
+    cases true e = e
+    cases false e = absurd (omega (arith, h, not-member-occurs a l e))
+
+-- a number that occurs as often in the one list as in the other
+pub member-same : (a : ℕ) (l m : List ℕ) → occurs a l ≡ occurs a m → member a l ≡ member a m
+member-same a l m e =
+    tests-agree (member a l) (member a m) (λ q. occurs-member a m (omega (arith, member-occurs a l q))) (λ q. occurs-member a l (omega (arith, member-occurs a m q)))
+
 pub occurs-without-same : (a : ℕ) (l : List ℕ) → occurs a (without a l) ≡ occurs a l - 1
 unfolding without occurs
 occurs-without-same a [] = refl
@@ -88,6 +102,16 @@ occurs-without-other a b (c ∷ l) h = cases (eqb c b) refl (occurs-without-othe
     cases : (t : Bool) → eqb c b ≡ t → occurs a (without b l) ≡ occurs a l → occurs a (cond t l (c ∷ without b l)) ≡ bit (eqb c a) + occurs a l
     cases true e ih = rw (eqb-ne c a (λ q. h (sym (eqb-true c b e) ∙ q))) (omega arith)
     cases false e ih = omega arith
+
+-- a number that does not occur cannot be taken out
+pub without-absent : (a : ℕ) (l : List ℕ) → occurs a l ≡ 0 → without a l ≡ l
+unfolding without occurs
+without-absent a [] z = refl
+without-absent a (b ∷ l) z = cases (eqb b a) refl (without-absent a l (omega arith))
+  where
+    cases : (t : Bool) → eqb b a ≡ t → without a l ≡ l → cond t l (b ∷ without a l) ≡ b ∷ l
+    cases true e ih = absurd (omega (arith, z, ap bit e))
+    cases false e ih = ap (λ (m : List ℕ). b ∷ m) ih
 
 -- taking a number out makes no number occur more often
 pub occurs-without-le : (a b : ℕ) (l : List ℕ) → occurs a (without b l) ≤ occurs a l

@@ -6,7 +6,8 @@ use mathlib.Core.Option.{none, Option, some}
 use Prim.Native.Nat.{ℕ}
 use native.Mathlib.Omega.{arith}
 use lib.Dec.{eqb}
-use Rattle.deadlock.specs.Lists.{oneTo, only}
+use Rattle.buffer.specs.Lists.{only}
+use Rattle.deadlock.specs.Lists.{oneTo}
 use Rattle.deadlock.specs.Machine.{abort, clean, Item, Message, onRebroadcast, passClean, passProbe, probe, probesFrom, probesTo, rebroadcast, resend, resends, Rules, Sends, Session, storedProbes, toEach}
 use Rattle.deadlock.specs.Kind
 use Rattle.deadlock.specs.Counts.{countKind, sentTo}

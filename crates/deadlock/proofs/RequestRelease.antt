@@ -7,7 +7,8 @@ use mathlib.Core.Logic.{_≢_, _⊎_, inl, inr}
 use Prim.Native.Nat.{_+_, _≤_, ℕ}
 use native.Mathlib.Omega.{arith}
 use borrow.Author.Tests.{eqb-true}
-use Rattle.deadlock.specs.Lists.{bit, member, occurs, without}
+use Rattle.buffer.specs.Lists.{member}
+use Rattle.deadlock.specs.Lists.{bit, occurs, without}
 use Rattle.deadlock.specs.Machine.{grant, grantOrQueue, handOver, heldBy, Item, itemReceives, ItemStep, Laws, Message, onRelease, onRequest, probesTo, release, request, resends, Rules, Sends}
 use Rattle.deadlock.specs.Kind
 use Rattle.deadlock.specs.Counts.{cleansOf, cleansSent, countKind, every-cons, every-nil, sentTo}
@@ -59,7 +60,7 @@ module _ {R : Rules} (L : Laws R) {w : World} (known : Known R w) (t x : ℕ) (l
     unfolding countKind
     request-awaits = let k = known .links .linked t x lo hi in omega (arith, ap (countKind Kind.request) hd)
 
-    request-is-waiting : 1 ≤ isWaiting (stageOf w t)
+    pub request-is-waiting : 1 ≤ isWaiting (stageOf w t)
     unfolding countKind
     request-is-waiting = cases (zero-or-more (isVictim (stageOf w t)))
       where
@@ -71,7 +72,7 @@ module _ {R : Rules} (L : Laws R) {w : World} (known : Known R w) (t x : ℕ) (l
     unfolding countKind
     request-not-queued = let k = known .links .linked t x lo hi in let s = seen-facts (seenFrom (stageOf w t) x) in omega (arith, ap (countKind Kind.request) hd)
 
-    request-no-edge : (b : ℕ) → Edge R w t b → ⊥
+    pub request-no-edge : (b : ℕ) → Edge R w t b → ⊥
     request-no-edge b e =
         let f = known .links .linked t (e .item) (e .low) (e .high) in
         let z : e .item ≡ x = awaits-one (awaits-item (stageOf w t) (e .item) (omega (arith, e .stands))) (awaits-item (stageOf w t) x request-awaits) in
@@ -96,14 +97,14 @@ module _ {R : Rules} (L : Laws R) {w : World} (known : Known R w) (t x : ℕ) (l
       unfolding grantOrQueue
       queued-le a z = elim (same? x z) [ yes p ↦ rw (← p, updated-same) (omega (arith, occurs-append a (w .item x .queue) (t ∷ []))) | no p ↦ rw (updated-other (w .item) x queuedItem z p) (omega arith) ]
 
-      queued-other : (a z : ℕ) → t ≢ a → occurs a (afterQueued .item z .queue) ≡ occurs a (w .item z .queue)
+      pub queued-other : (a z : ℕ) → t ≢ a → occurs a (afterQueued .item z .queue) ≡ occurs a (w .item z .queue)
       unfolding grantOrQueue
       queued-other a z ne = elim (same? x z) [ yes p ↦ rw (← p, updated-same) (occurs-last-other a t (w .item x .queue) ne) | no p ↦ rw (updated-other (w .item) x queuedItem z p) ]
 
-      queued-edge : (a b : ℕ) → Edge R w a b → Edge R afterQueued a b
+      pub queued-edge : (a b : ℕ) → Edge R w a b → Edge R afterQueued a b
       queued-edge a b d = record { item = d .item; low = d .low; high = d .high; stands = omega (arith, d .stands, queued-le a (d .item)); held = queued-holder (d .item) ∙ d .held }
 
-      queued-edge-back : (a b : ℕ) → t ≢ a → Edge R afterQueued a b → Edge R w a b
+      pub queued-edge-back : (a b : ℕ) → t ≢ a → Edge R afterQueued a b → Edge R w a b
       queued-edge-back a b ne d = record { item = d .item; low = d .low; high = d .high; stands = omega (arith, d .stands, queued-other a (d .item) ne); held = sym (queued-holder (d .item)) ∙ d .held }
 
       victim-not-requester : (v : ℕ) → VictimIn w v → t ≢ v
@@ -179,7 +180,7 @@ module _ {R : Rules} (L : Laws R) {w : World} (known : Known R w) (t x : ℕ) (l
       unfolding FreeIsEmpty
       granted-empty = known .links .idle x e
 
-      granted-edge : (a b : ℕ) → Edge R w a b → Edge R afterGranted a b
+      pub granted-edge : (a b : ℕ) → Edge R w a b → Edge R afterGranted a b
       granted-edge a b d =
           let p : x ≢ d .item = λ z. granted-was-free {b = b} (rw z (d .held)) in
           record { item = d .item; low = d .low; high = d .high; stands = rw (updated-other (w .item) x grantedItem (d .item) p) (d .stands); held = rw (updated-other (w .item) x grantedItem (d .item) p) (d .held) }
@@ -192,7 +193,7 @@ module _ {R : Rules} (L : Laws R) {w : World} (known : Known R w) (t x : ℕ) (l
       unfolding occurs
       granted-queue a z s = let k : Queued w a z = omega (arith, s, granted-le a z) in (λ p. let k2 : Queued w a x = rw p k in omega (arith, ap (occurs a) granted-empty), k)
 
-      granted-edge-back : (a b : ℕ) → Edge R afterGranted a b → Edge R w a b
+      pub granted-edge-back : (a b : ℕ) → Edge R afterGranted a b → Edge R w a b
       granted-edge-back a b d = let k = granted-queue a (d .item) (d .stands) in record { item = d .item; low = d .low; high = d .high; stands = k .1; held = rw (updated-other (w .item) x grantedItem (d .item) (k .0)) at (d .held) }
 
       granted-passed-back : (v a : ℕ) → Passed R afterGranted v a → Passed R w v a
@@ -247,10 +248,10 @@ module _ {R : Rules} (L : Laws R) {w : World} (known : Known R w) (t x : ℕ) (l
     release-awaits-none : (z : ℕ) → awaits (seenFrom (stageOf w t) z) ≡ 0
     release-awaits-none z = omega (arith, release-may, stage-pair-facts (stageOf w t) x z .releases-or-awaits)
 
-    release-no-edge : (b : ℕ) → Edge R w t b → ⊥
+    pub release-no-edge : (b : ℕ) → Edge R w t b → ⊥
     release-no-edge b e = let f = known .links .linked t (e .item) (e .low) (e .high) in omega (arith, e .stands, release-awaits-none (e .item))
 
-    release-holder : HolderIs w x t
+    pub release-holder : HolderIs w x t
     unfolding heldBy
     release-holder = cases (w .item x .holder) (bit-one _ release-holds)
       where
@@ -267,7 +268,7 @@ module _ {R : Rules} (L : Laws R) {w : World} (known : Known R w) (t x : ℕ) (l
       released-edge a s = record { item = x; low = lo; high = hi; stands = s; held = release-holder }
 
       -- nobody in this queue is a victim
-      released-no-victim : (a : ℕ) → Queued w a x → VictimIn w a → ⊥
+      pub released-no-victim : (a : ℕ) → Queued w a x → VictimIn w a → ⊥
       released-no-victim a s i = let e = released-edge a s in let g = cycle-next (one-edge (known .links)) (known .victims .victim-on-cycle a t i e .cycle) (onward rest e) in release-no-edge (g .next) (g .out)
 
       released-le : (a z : ℕ) → occurs a (afterReleased .item z .queue) ≤ occurs a (w .item z .queue)

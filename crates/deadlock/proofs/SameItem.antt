@@ -6,7 +6,8 @@ use mathlib.Core.Logic.{_≢_, _⊎_, inl, inr}
 use Prim.Native.Nat.{_+_, _≤_, ℕ}
 use native.Mathlib.Omega.{arith}
 use lib.Dec.{eqb}
-use Rattle.deadlock.specs.Lists.{bit, occurs, only}
+use Rattle.buffer.specs.Lists.{only}
+use Rattle.deadlock.specs.Lists.{bit, occurs}
 use Rattle.deadlock.specs.Machine.{Item, Laws, Message, probe, probesTo, resends, Rules, Sends}
 use Rattle.deadlock.specs.Kind
 use Rattle.deadlock.specs.Counts.{cleanOf, cleansOf, countKind, EachBehind, Every, every-cons, every-nil, kindOf, OfProbe, sentTo}

@@ -7,7 +7,8 @@ use mathlib.Core.Logic.{_⊎_, inl, inr}
 use Prim.Native.Nat.{_≤_, ℕ}
 use native.Mathlib.Omega.{arith}
 use lib.Dec.{eqb}
-use Rattle.deadlock.specs.Lists.{member, occurs, without}
+use Rattle.buffer.specs.Lists.{member}
+use Rattle.deadlock.specs.Lists.{occurs, without}
 use Rattle.deadlock.specs.Machine.{clean, itemReceives, Laws, Message, onRebroadcast, passClean, passProbe, probe, probesTo, rebroadcast, resends, Rules, Sends}
 use Rattle.deadlock.specs.Kind
 use Rattle.deadlock.specs.Counts.{cleanOf, cleansOf, cleansSent, countKind, EachBehind, every-cons, every-nil, kindOf, OfProbe, sentTo}

@@ -5,7 +5,7 @@ use mathlib.Core.Logic.{_≢_, _⊎_, inl, inr}
 use Prim.Native.Nat.{_+_, _≤_, ℕ}
 use native.Mathlib.Omega.{arith}
 use Rattle.deadlock.specs.Lists.{oneTo}
-use Rattle.deadlock.specs.Machine.{abort, accepted, Answer, clean, growing, Laws, Message, onReleaseCall, onRequestCall, probesFrom, refused, releaseHeld, request, rolledBack, Rules, Sends, SessionStep, shrinking, Stage, storedProbes, victim, waiting, withdrawing}
+use Rattle.deadlock.specs.Machine.{accepted, Answer, growing, Laws, Message, onReleaseCall, onRequestCall, probesFrom, refused, releaseHeld, request, rolledBack, Rules, Sends, SessionStep, shrinking, Stage, storedProbes, victim, waiting, withdrawing}
 use Rattle.deadlock.specs.Kind
 use Rattle.deadlock.specs.Counts.{behindRequest, countKind, freshProbes, sentTo, unlessCleaned}
 use Rattle.deadlock.specs.Links.{awaits, seenFrom}

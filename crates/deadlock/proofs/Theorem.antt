@@ -1,26 +1,27 @@
--- The theorem: every declaration is true, and when no message is left no session lies on a cycle.
+-- The theorem: every declaration is true; and when no message is left no session lies on a cycle, and as many sessions were rolled back as cycles were closed.
 use mathlib.Core.Path.{_≡_, ap, refl}
-use mathlib.Core.Bool.{_&&_, Bool, false, true}
-use mathlib.Core.List.{[], List}
+use mathlib.Core.Bool.{_&&_, Bool, true}
+use mathlib.Core.List.{List}
 use mathlib.Core.Option.{none, Option, some}
 use Prim.Native.Nat.{_≤_, ℕ}
 use native.Mathlib.Omega.{arith}
 use borrow.Author.Tests.{eqb-true}
-use Rattle.deadlock.specs.Lists.{member}
-use Rattle.deadlock.specs.Machine.{abort, afterItem, Call, clean, Declaration, declares, deliverToItem, deliverToSession, Entry, eventOf, grant, heldBy, itemEvent, itemReceives, itemTakes, Laws, Message, move, noEntry, ofMachine, onCycle, probe, reached, rebroadcast, release, releaseCall, request, requestCall, resend, route, Rules, run, sessionEvent, start, State, step, Stepped, take, Taken, taken, takenEvent, withdraw, withdrawn}
+use Rattle.buffer.specs.Lists.{member}
+use Rattle.deadlock.specs.Machine.{abort, afterItem, Call, clean, Declaration, declares, deliverToItem, deliverToSession, Entry, eventOf, grant, heldBy, itemEvent, itemReceives, itemTakes, Laws, Message, move, noEntry, ofMachine, probe, reached, rebroadcast, release, releaseCall, request, requestCall, resend, Rules, run, sessionEvent, start, State, step, Stepped, take, Taken, taken, takenEvent, withdraw, withdrawn}
 use Rattle.deadlock.specs.Walks.{FirstApart, Walk}
 use Rattle.deadlock.specs.World.{Edge}
-use Rattle.deadlock.specs.Invariant.{cleansIn, downRoute, Invariant, upRoute, worldOf}
+use Rattle.deadlock.specs.Invariant.{Invariant, worldOf}
 use Rattle.deadlock.specs.Statement.{Statement, TrueDeclaration}
 use Rattle.deadlock.proofs.Lists.{and-left, and-right, by-test, updated-unchanged}
 use Rattle.deadlock.proofs.LinksStep.{item-high, item-low}
 use Rattle.deadlock.proofs.Walks.{walk-map}
 use Rattle.deadlock.proofs.Victims.{edge-against, edge-along}
-use Rattle.deadlock.proofs.StateWaits.{cycle-onCycle, cycle-reached, onCycle-cycle, walk-reached}
+use Rattle.deadlock.proofs.StateWaits.{cycle-onCycle, cycle-reached, walk-reached}
 use Rattle.deadlock.proofs.Declaration.{DeclaredCycle}
 use Rattle.deadlock.proofs.CoreStep.{declaration-true, links-of}
 use Rattle.deadlock.proofs.InvariantStep.{invariant, invariant-move}
-use Rattle.deadlock.proofs.NoCycle.{no-cycle}
+use Rattle.deadlock.proofs.Settled.{none-on-cycle}
+use Rattle.deadlock.proofs.BalanceStep.{counts-agree}
 
 module _ (R : Rules) (L : Laws R) where
   -- a cycle that a declaration names, with items that say the same, in a state where the invariant holds
@@ -109,17 +110,9 @@ module _ (R : Rules) (L : Laws R) where
         by-test (λ (a : Stepped). True (a .state) (a .event .declared)) (ofMachine R c && admits s c) _ _
         (λ e. move-true c (and-left (ofMachine R c) (admits s c) e) (invariant-move R L s k c (and-left (ofMachine R c) (admits s c) e))) (λ _. none-declared s)
 
-    settled-true : s .mailbox ≡ [] → (t : ℕ) → 1 ≤ t → onCycle R s t ≡ false
-    unfolding upRoute downRoute route cleansIn
-    settled-true e t lo = cases (onCycle R s t) refl
-      where
-        cases : (b : Bool) → onCycle R s t ≡ b → onCycle R s t ≡ false
-        cases false q = q
-        cases true q = absurd (no-cycle L (links-of R L s (k .core)) (k .core .victims) (k .coverage)
-            (λ a z. ap (route true a z) e) (λ a z. ap (route false a z) e) (λ u. ap (cleansIn u) e) t (onCycle-cycle R s (links-of R L s (k .core)) (k .in-range) t lo q))
-
 pub theorem : Statement
 theorem R L admits = record {
   declarations-true = λ cs c d. step-true R L (run R admits (start R) cs .state) (invariant R L admits cs) admits c d;
-  settled-free = λ cs e t lo hi. settled-true R L (run R admits (start R) cs .state) (invariant R L admits cs) e t lo;
+  settled-free = λ cs e t lo hi. none-on-cycle R L (run R admits (start R) cs .state) (invariant R L admits cs) e t lo;
+  counts-agree = counts-agree R L admits;
 }

@@ -27,17 +27,17 @@ module _ {R : Rules} (L : Laws R) {w : World} (known : Known R w) {t x : ℕ} (l
   abbrev pub after : World
   after = worldAfterItem w x (withdrawnItem w t x) mail
 
-  withdraws-victim : VictimIn w t
+  pub withdraws-victim : VictimIn w t
   withdraws-victim = withdraws-stage known lo hi ar .0
 
   withdraws-awaits : 1 ≤ awaits (seenFrom (stageOf w t) x)
   unfolding countKind
   withdraws-awaits = let k = known .links .linked t x lo hi in let s = seen-facts (seenFrom (stageOf w t) x) in omega (arith, ap (countKind Kind.withdraw) (ar .head))
 
-  withdraw-edge-back : (a b : ℕ) → Edge R after a b → Edge R w a b
+  pub withdraw-edge-back : (a b : ℕ) → Edge R after a b → Edge R w a b
   withdraw-edge-back = edge-back known lo hi ar
 
-  withdraw-leaves : (z : ℕ) → 1 ≤ z → z ≤ R .M → Queued after t z → ⊥
+  pub withdraw-leaves : (z : ℕ) → 1 ≤ z → z ≤ R .M → Queued after t z → ⊥
   withdraw-leaves z lo′ hi′ s =
       let f = known .links .linked t z lo′ hi′ in
       let g = known .links .linked t x lo hi in

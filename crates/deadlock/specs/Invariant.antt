@@ -1,11 +1,13 @@
 -- The invariant of the machine, over its states.
 use mathlib.Core.Path.{_≡_}
-use mathlib.Core.Bool.{false, true}
+use mathlib.Core.Bool.{Bool, false, not, true}
 use mathlib.Core.List.{[], _∷_, List}
 use mathlib.Core.Option.{some}
 use Prim.Native.Nat.{_+_, _≤_, ℕ}
+use Rattle.buffer.specs.Lists.{count, member}
+use Rattle.waits.specs.Waits.{cycles}
 use Rattle.deadlock.specs.Lists.{occurs}
-use Rattle.deadlock.specs.Machine.{Entry, Item, Message, route, Rules, State}
+use Rattle.deadlock.specs.Machine.{Entry, growing, Item, Message, rolledBack, route, Rules, shrinking, Stage, State, victim, waiting, waitsFor, withdrawing}
 use Rattle.deadlock.specs.Counts.{cleanOf}
 use Rattle.deadlock.specs.Links.{Linked, PairView, viewOf}
 use Rattle.deadlock.specs.World.{FreeIsEmpty, Mail, Probes, Victims, World}
@@ -55,3 +57,28 @@ pub record Invariant (R : Rules) (s : State) : Type 0 where
   pub core : Core R s
   pub in-range : (x : ℕ) → InRange R (s .item x)
   pub coverage : Coverage R (worldOf s)
+
+-- ---- the count of cycles
+-- how many cycles stand
+unfoldable pub standing : Rules → State → ℕ
+standing R s = cycles (waitsFor R s) (R .S) (R .senior)
+
+-- a session t of that stage withdraws, and is out of the queue of the item that it awaited
+abbrev pub isLeaving : (ℕ → Item) → ℕ → Stage → Bool
+isLeaving I t growing = false
+isLeaving I t shrinking = false
+isLeaving I t rolledBack = false
+isLeaving I t (waiting y) = false
+isLeaving I t (victim y) = false
+isLeaving I t (withdrawing y) = not (member t (I y .queue))
+
+-- how many sessions do
+unfoldable pub leaving : Rules → State → ℕ
+leaving R s = count (R .S) (λ t. isLeaving (s .item) t (s .session t .stage))
+
+-- with the numbers of cycles closed and of sessions rolled back so far: a cycle that was closed stands, or its victim is leaving, or its victim was
+-- rolled back. With no message left nothing stands and nobody is leaving, so that the two numbers agree
+pub record Balance (R : Rules) (s : State) (closed rolledBack : ℕ) : Type 0 where
+  pub balance : closed ≡ rolledBack + standing R s + leaving R s
+  -- whoever withdraws, does so from an item of the machine
+  pub withdraws-in-range : (t y : ℕ) → s .session t .stage ≡ withdrawing y → (1 ≤ y) × (y ≤ R .M)

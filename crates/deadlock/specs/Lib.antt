@@ -1,5 +1,4 @@
 pub mod Lists
-pub mod Waits
 pub mod Machine
 pub mod Kind
 pub mod Counts
@@ -9,3 +8,4 @@ pub mod World
 pub mod Coverage
 pub mod Invariant
 pub mod Statement
+pub mod Instance

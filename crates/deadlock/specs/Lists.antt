@@ -1,5 +1,5 @@
 -- Functions with one value changed, and lists of numbers: what the machine is made of.
-use mathlib.Core.Bool.{_||_, Bool, cond, false, true}
+use mathlib.Core.Bool.{Bool, cond, false, true}
 use mathlib.Core.List.{[], _++_, _∷_, List}
 use Prim.Native.Nat.{_+_, suc, zero, ℕ}
 use lib.Dec.{eqb}
@@ -13,12 +13,7 @@ bit false = 0
 unfoldable pub updated : {A : Type 0} → (ℕ → A) → ℕ → A → ℕ → A
 updated f k v j = cond (eqb k j) v (f j)
 
--- the number stands in the list
-unfoldable pub member : ℕ → List ℕ → Bool
-member a [] = false
-member a (b ∷ l) = eqb b a || member a l
-
--- how often it stands there
+-- how often a number stands in the list
 unfoldable pub occurs : ℕ → List ℕ → ℕ
 occurs a [] = 0
 occurs a (b ∷ l) = bit (eqb b a) + occurs a l
@@ -28,17 +23,7 @@ unfoldable pub without : ℕ → List ℕ → List ℕ
 without a [] = []
 without a (b ∷ l) = cond (eqb b a) l (b ∷ without a l)
 
--- the numbers that pass the test, in order
-unfoldable pub only : (ℕ → Bool) → List ℕ → List ℕ
-only p [] = []
-only p (b ∷ l) = cond (p b) (b ∷ only p l) (only p l)
-
 -- 1 to n, rising
 unfoldable pub oneTo : ℕ → List ℕ
 oneTo zero = []
 oneTo (suc n) = oneTo n ++ suc n ∷ []
-
--- the lowest number from 1 to n that passes the test, or 0
-unfoldable pub lowest : ℕ → (ℕ → Bool) → ℕ
-lowest zero p = 0
-lowest (suc n) p = let k = lowest n p in cond (eqb k 0) (cond (p (suc n)) (suc n) 0) k

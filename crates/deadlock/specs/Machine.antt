@@ -5,8 +5,10 @@ use mathlib.Core.List.{[], _++_, _∷_, List, map}
 use mathlib.Core.Option.{none, Option, some}
 use Prim.Native.Nat.{_+_, ℕ}
 use lib.Dec.{eqb, leb}
-use Rattle.deadlock.specs.Lists.{bit, member, oneTo, only, updated, without}
-use Rattle.deadlock.specs.Waits
+use Rattle.buffer.specs.Lists.{member, only}
+use Rattle.deadlock.specs.Lists.{bit, oneTo, updated, without}
+use Rattle.item.specs.Record.{lock}
+use Rattle.waits.specs.Waits
 
 -- S sessions, numbered from 1, and M items, numbered from 1; who is senior to whom; the next holder when the queue is x ∷ xs
 pub record Rules : Type 0 where
@@ -363,7 +365,7 @@ module _ (R : Rules) where
 
   -- ---- who waits for whom in a state
   unfoldable pub waitsFor : State → ℕ → ℕ
-  waitsFor s t = Waits.waitsFor (R .M) (λ x. holderOr0 (s .item x .holder)) (λ x. s .item x .queue) t
+  waitsFor s t = Waits.waitsFor (R .M) (λ x. lock (holderOr0 (s .item x .holder)) (s .item x .queue)) t
 
   -- the session reached from t by n waits, or 0
   abbrev pub reached : State → ℕ → ℕ → ℕ

@@ -4,7 +4,7 @@ use mathlib.Core.Bool.{Bool, false, true}
 use mathlib.Core.List.{[], List}
 use mathlib.Core.Option.{some}
 use Prim.Native.Nat.{_≤_, ℕ}
-use Rattle.deadlock.specs.Machine.{Call, Declaration, Laws, onCycle, reached, Rules, run, start, State, step}
+use Rattle.deadlock.specs.Machine.{Call, countClosed, countRolledBack, Declaration, Laws, onCycle, reached, Rules, run, start, State, step}
 
 -- session i lies on a cycle of waits; no member of it is senior to i; v is a member, and no member is junior to v
 pub record TrueDeclaration (R : Rules) (s : State) (v i : ℕ) : Type 0 where
@@ -28,10 +28,17 @@ SettledFree R admits =
     (cs : List Call) → run R admits (start R) cs .state .mailbox ≡ []
     → (t : ℕ) → 1 ≤ t → t ≤ R .S → onCycle R (run R admits (start R) cs .state) t ≡ false
 
+-- when no message is left, as many sessions were rolled back as cycles were closed
+abbrev pub CountsAgree : Rules → (State → Call → Bool) → Type 0
+CountsAgree R admits =
+    (cs : List Call) → run R admits (start R) cs .state .mailbox ≡ []
+    → countClosed (run R admits (start R) cs .events) ≡ countRolledBack (run R admits (start R) cs .events)
+
 -- what is guaranteed under one policy
 pub record Guarantees (R : Rules) (admits : State → Call → Bool) : Type 0 where
   pub declarations-true : DeclarationsTrue R admits
   pub settled-free : SettledFree R admits
+  pub counts-agree : CountsAgree R admits
 
 -- for every seniority and choice of the next holder that meet the laws, and every policy
 abbrev pub Statement : Type 0
