@@ -6,7 +6,7 @@ use Prim.Native.Nat.{ℕ, _≤_}
 use native.Mathlib.Omega.{arith}
 use lib.Dec.{eqb}
 use borrow.Author.Tests.{eqb-true, eqb-false}
-use Rattle.buffer.specs.Lists.{member, lowest}
+use Rattle.buffer.specs.Lists.{lowest, member}
 use Rattle.mailbox.specs.Entry.{Entry}
 use Rattle.session.specs.declared.Session.{Session}
 use Rattle.item.specs.Record.{Lock}
@@ -46,12 +46,16 @@ module _ (S M : ℕ) (sessions : ℕ → Session) (locks : ℕ → Lock) (l : Li
         go k high true e = refl
         go k high false e = holder-at k (omega (arith, eqb-false k 0 e)) high
 
-    -- so what is reached, and the cycles, are the same
-    pub waits-agree : Machine.waitsFor (rules S M senior next) (readState S M sessions locks l) ≡ Waits.waitsFor M locks
+    -- whatever is told of who waits for whom
+    waits-agree : Machine.waitsFor (rules S M senior next) (readState S M sessions locks l) ≡ Waits.waitsFor M locks
     waits-agree = fun-ext waits-for-agrees
 
+    -- the session reached by a number of waits, the length of the cycle on which a session lies, and whether it lies on one
+    pub reached-agrees : (n t : ℕ) → Machine.reached (rules S M senior next) (readState S M sessions locks l) n t ≡ Waits.reached (Waits.waitsFor M locks) n t
+    reached-agrees n t = ap (λ (f : ℕ → ℕ). Waits.reached f n t) waits-agree
+
     pub cycle-length-agrees : (t : ℕ) → Machine.cycleLength (rules S M senior next) (readState S M sessions locks l) t ≡ Waits.cycleLength (Waits.waitsFor M locks) S t
-    cycle-length-agrees t = rw (waits-agree) refl
+    cycle-length-agrees t = ap (λ (f : ℕ → ℕ). Waits.cycleLength f S t) waits-agree
 
     pub on-cycle-agrees : (t : ℕ) → Machine.onCycle (rules S M senior next) (readState S M sessions locks l) t ≡ Waits.onCycle (Waits.waitsFor M locks) S t
-    on-cycle-agrees t = rw (waits-agree) refl
+    on-cycle-agrees t = ap (λ (f : ℕ → ℕ). Waits.onCycle f S t) waits-agree

@@ -1,0 +1,161 @@
+-- What a step that is not refused is to the machine: one of its moves, with the same event.
+use mathlib.Core.Path.{_≡_, refl, ap, _∙_}
+use mathlib.Core.Bool.{Bool, true, false, cond, not, _&&_, and-false}
+use mathlib.Core.List.{List, _++_, map}
+use mathlib.Core.Logic.{_≢_}
+use mathlib.Core.Option.{none, some}
+use Prim.Native.Nat.{ℕ, _≤_}
+use lib.Dec.{eqb}
+use lib.ListN.{length}
+use Rattle.buffer.specs.Lists.{between}
+use Rattle.session.specs.Stage
+use Rattle.session.specs.declared.Session.{Session}
+use Rattle.session.specs.Rules as Session
+use Rattle.item.specs.Record.{Lock, packed}
+use Rattle.item.specs.Rules as Item
+use Rattle.item.specs.declared.Event.{Event}
+use Rattle.item.specs.declared.Event.the-variants.{Nothing, Joined, Declared}
+use Rattle.mailbox.specs.Entry.{Entry, fromSession, fromItem}
+use Rattle.mailbox.specs.Layout as Mail
+use Rattle.table.specs.Layout as Table
+use Rattle.waits.specs.OnTable.{locks, cycleLength}
+use Rattle.lockmgr.specs.Calls as Calls
+use Rattle.lockmgr.specs.Calls.{Stepped, committed, sessionPlan, itemPlan}
+use Rattle.lockmgr.specs.Run.{rollsBack}
+use Rattle.deadlock.specs.Lists.{bit}
+use Rattle.deadlock.specs.Machine
+use Rattle.agreement.specs.Reading.{readState, readEvent}
+use Rattle.agreement.proofs.MoveAgrees.{Replaced, StateWellFormed}
+use Rattle.clause.proofs.State
+use Rattle.clause.proofs.State.{machineOf, stateOf, Good}
+use Rattle.clause.proofs.Cycles.{on-cycle-of}
+
+-- a step with this verb and session, from a table and entries, that leaves and answers r
+pub record Moved (S M C : ℕ) (table : List ℕ) (l : List Entry) (verb t : ℕ) (r : Stepped) : Type 0 where
+  pub call : Machine.Call
+  pub of-machine : Machine.ofMachine (machineOf S M) call ≡ true
+  pub entries : List Entry
+  pub mail : r .mail ≡ Mail.mailBytes C entries
+  pub good : Good S M C (r .table) entries
+  pub moves : stateOf S M (r .table) entries ≡ Machine.move (machineOf S M) (stateOf S M table l) call
+  pub event : Machine.Event
+  pub happens : Machine.eventOf (machineOf S M) (stateOf S M table l) call (stateOf S M (r .table) entries) ≡ event
+  pub closes : r .answer .closed ≡ bit (event .closed)
+  pub declares : r .answer .victim ≢ 0 → event .declared ≡ some (record { victim = r .answer .victim; initiator = r .answer .initiator })
+  pub rolls : rollsBack t table (r .table) ≡ event .rolledBack
+  pub delivered : between Calls.deliverToItem Calls.deliverToSession verb && rollsBack t table (r .table) ≡ rollsBack t table (r .table)
+
+pub one-is-bit : (b : Bool) → cond b 1 0 ≡ bit b
+one-is-bit true = refl
+one-is-bit false = refl
+
+middle : (a b c : Bool) → a && c ≡ c → a && (b && c) ≡ b && c
+middle true b c e = refl
+middle false true c e = e
+middle false false c e = refl
+
+pub never-both : (b : Bool) → not b && b ≡ false
+never-both true = refl
+never-both false = refl
+
+module _ (S M C : ℕ) (table : List ℕ) (l : List Entry) (g : Good S M C table l) (verb t : ℕ) (t-range : between 1 S t ≡ true) where
+  abbrev before : Machine.State
+  before = stateOf S M table l
+
+  -- the step of a session: the verb, the machine's call, the entries that are not delivered by it
+  module _ (call : Machine.Call) (of-machine : Machine.ofMachine (machineOf S M) call ≡ true) (rest : List Entry) (r : Session.After) where
+    abbrev sent : List Entry
+    sent = rest ++ map (fromSession t) (r .sends)
+
+    abbrev Put : (ℕ → Session) → Type 0
+    Put f = Replaced S (Table.session table) f t (r .session)
+
+    module _ (fits : length sent ≤ C) (kept : (f : ℕ → Session) → Put f → StateWellFormed S M f (locks table) sent)
+        (moves : (f : ℕ → Session) → Put f → readState S M f (locks table) sent ≡ Machine.move (machineOf S M) before call)
+        (happens : (f : ℕ → Session) → Put f → StateWellFormed S M f (locks table) sent
+        → Machine.eventOf (machineOf S M) before call (readState S M f (locks table) sent)
+        ≡ record { closed = false; declared = none; rolledBack = not (eqb (Table.session table t .stage) Stage.rolledBack) && eqb (f t .stage) Stage.rolledBack })
+        (delivered : between Calls.deliverToItem Calls.deliverToSession verb && eqb (r .session .stage) Stage.rolledBack ≡ eqb (r .session .stage) Stage.rolledBack) where
+      abbrev table-after : List ℕ
+      table-after = Table.withSession table t (r .session)
+
+      put : Put (Table.session table-after)
+      put = State.session-replaced S M C table l g t t-range (r .session) sent fits kept
+
+      state : stateOf S M table-after sent ≡ readState S M (Table.session table-after) (locks table) sent
+      state = State.session-state S M C table l g t t-range (r .session) sent fits kept
+
+      pub session-moved : Moved S M C table l verb t (committed t C (sessionPlan t table rest r))
+      session-moved = record {
+        call = call;
+        of-machine = of-machine;
+        entries = sent;
+        mail = refl;
+        good = State.session-good S M C table l g t t-range (r .session) sent fits kept;
+        moves = state ∙ moves (Table.session table-after) put;
+        event = record { closed = false; declared = none; rolledBack = rollsBack t table table-after };
+        happens = ap (Machine.eventOf (machineOf S M) before call) state ∙ happens (Table.session table-after) put (kept (Table.session table-after) put);
+        closes = one-is-bit false;
+        declares = λ n. absurd (n refl);
+        rolls = refl;
+        delivered = middle (between Calls.deliverToItem Calls.deliverToSession verb) (not (eqb (Table.session table t .stage) Stage.rolledBack)) (eqb (Table.session table-after t .stage) Stage.rolledBack)
+            (rw (put .here) delivered);
+      }
+
+  -- the step of item x
+  module _ (x : ℕ) (x-range : between 1 M x ≡ true) (call : Machine.Call) (of-machine : Machine.ofMachine (machineOf S M) call ≡ true)
+      (rest : List Entry) (r : Item.After) where
+    abbrev answered : List Entry
+    answered = rest ++ map (fromItem x) (r .sends)
+
+    abbrev PutLock : (ℕ → Lock) → Type 0
+    PutLock f = Replaced M (locks table) f x (r .lock)
+
+    module _ (fits : length answered ≤ C) (kept : (f : ℕ → Lock) → PutLock f → StateWellFormed S M (Table.session table) f answered)
+        (moves : (f : ℕ → Lock) → PutLock f → readState S M (Table.session table) f answered ≡ Machine.move (machineOf S M) before call)
+        (happens : (after : Machine.State) → Machine.eventOf (machineOf S M) before call after ≡ readEvent (r .event) (Machine.onCycle (machineOf S M) after t)) where
+      abbrev item-after : List ℕ
+      item-after = Table.withItem table x (packed (r .lock))
+
+      put-lock : PutLock (locks item-after)
+      put-lock = State.lock-replaced S M C table l g x x-range (r .lock) answered fits kept
+
+      good : Good S M C item-after answered
+      good = State.item-good S M C table l g x x-range (r .lock) answered fits kept
+
+      same-stage : rollsBack t table item-after ≡ false
+      same-stage = rw (State.session-same S M C table l g x x-range (r .lock) answered fits kept t t-range) (never-both (eqb (Table.session table t .stage) Stage.rolledBack))
+
+      closes : (e : Event) → Calls.closed t item-after e ≡ bit (readEvent e (Machine.onCycle (machineOf S M) (stateOf S M item-after answered) t) .closed)
+      unfolding readEvent
+      closes Nothing = one-is-bit false
+      closes Joined = rw (on-cycle-of S M C item-after answered good t) (one-is-bit (not (eqb (cycleLength item-after t) 0)))
+      closes (Declared v i) = one-is-bit false
+
+      declares : (e : Event) (b : Bool) → Item.victim e ≢ 0 → readEvent e b .declared ≡ some (record { victim = Item.victim e; initiator = Item.initiator e })
+      unfolding readEvent
+      declares Nothing b n = absurd (n refl)
+      declares Joined b n = absurd (n refl)
+      declares (Declared v i) b n = refl
+
+      never-rolls : (e : Event) (b : Bool) → false ≡ readEvent e b .rolledBack
+      unfolding readEvent
+      never-rolls Nothing b = refl
+      never-rolls Joined b = refl
+      never-rolls (Declared v i) b = refl
+
+      pub item-moved : Moved S M C table l verb t (committed t C (itemPlan x table rest r))
+      item-moved = record {
+        call = call;
+        of-machine = of-machine;
+        entries = answered;
+        mail = refl;
+        good = good;
+        moves = State.item-state S M C table l g x x-range (r .lock) answered fits kept ∙ moves (locks item-after) put-lock;
+        event = readEvent (r .event) (Machine.onCycle (machineOf S M) (stateOf S M item-after answered) t);
+        happens = happens (stateOf S M item-after answered);
+        closes = closes (r .event);
+        declares = declares (r .event) (Machine.onCycle (machineOf S M) (stateOf S M item-after answered) t);
+        rolls = same-stage ∙ never-rolls (r .event) (Machine.onCycle (machineOf S M) (stateOf S M item-after answered) t);
+        delivered = rw (same-stage) (and-false (between Calls.deliverToItem Calls.deliverToSession verb));
+      }

@@ -1,0 +1,180 @@
+-- The state that both buffers say, as the machine's, and what is carried along a list of calls.
+use mathlib.Core.Path.{_≡_, refl, sym, ap, _∙_, fun-ext}
+use mathlib.Core.Bool.{Bool, true, false, cond}
+use mathlib.Core.List.{List}
+use Prim.Native.Nat.{ℕ, _≤_}
+use native.Mathlib.Omega.{arith}
+use lib.Dec.{eqb}
+use lib.ListN.{length}
+use borrow.Author.Tests.{eq-eqb, ne-eqb}
+use Rattle.buffer.specs.Lists.{between, all}
+use Rattle.session.specs.Seniority.{senior}
+use Rattle.session.specs.declared.Session.{Session}
+use Rattle.session.specs.Record as SessionRecord
+use Rattle.item.specs.NextHolder.{nextHolder}
+use Rattle.item.specs.Record.{Lock, packed, unpacked}
+use Rattle.item.proofs.Laws.{unpacked-packed, length-packed}
+use Rattle.item.proofs.Pigeonhole.{pigeonhole}
+use Rattle.mailbox.specs.Entry as Entry
+use Rattle.mailbox.specs.Entry.{Entry}
+use Rattle.mailbox.specs.Layout as Mail
+use Rattle.table.specs.Layout as Table
+use Rattle.table.proofs.Laws as TableLaws
+use Rattle.waits.specs.OnTable.{locks}
+use Rattle.deadlock.specs.Machine
+use Rattle.agreement.specs.Reading.{readSession, readSessions, readState, rules, LockWellFormed}
+use Rattle.agreement.proofs.ReadingLists.{between-low, between-high}
+use Rattle.agreement.proofs.ItemKeeps.{unpacked-lock, packed-lock}
+use Rattle.agreement.proofs.MoveAgrees.{Replaced, StateWellFormed}
+
+-- the machine of S sessions and M items with the lock manager's seniority and next holder
+abbrev pub machineOf : ℕ → ℕ → Machine.Rules
+machineOf S M = rules S M senior nextHolder
+
+-- what a table and the entries of the mail say
+abbrev pub stateOf : ℕ → ℕ → List ℕ → List Entry → Machine.State
+stateOf S M table l = readState S M (Table.session table) (locks table) l
+
+-- a well-formed table of S sessions and M items, and well-formed entries that fit a mailbox of capacity C
+pub record Good (S M C : ℕ) (table : List ℕ) (l : List Entry) : Type 0 where
+  pub sized : Table.sized table ≡ true
+  pub sessions : Table.sessionsOf table ≡ S
+  pub items : Table.itemsOf table ≡ M
+  pub formed : Table.wellFormed table ≡ true
+  pub low : 1 ≤ C
+  pub high : C ≤ Mail.maxCapacity
+  pub room : length l ≤ C
+  pub entries : all (Entry.wellFormed S M) l ≡ true
+
+module _ (S M C : ℕ) (table : List ℕ) (l : List Entry) (g : Good S M C table l) where
+  pub few-sessions : S ≤ 64
+  few-sessions = omega (arith, TableLaws.sized-facts table (g .sized) .most-sessions, g .sessions)
+
+  pub few-items : M ≤ 64
+  few-items = omega (arith, TableLaws.sized-facts table (g .sized) .most-items, g .items)
+
+  session-known : (t : ℕ) → between 1 S t ≡ true → (1 ≤ t) × (t ≤ Table.sessionsOf table)
+  session-known t r = (between-low 1 S t r, omega (arith, between-high 1 S t r, g .sessions))
+
+  item-known : (x : ℕ) → between 1 M x ≡ true → (1 ≤ x) × (x ≤ Table.itemsOf table)
+  item-known x r = (between-low 1 M x r, omega (arith, between-high 1 M x r, g .items))
+
+  -- every record and every entry is well-formed
+  pub all-formed : StateWellFormed S M (Table.session table) (locks table) l
+  unfolding locks
+  all-formed = record {
+    session = λ t r. let k = session-known t r in
+        rw (g .sessions, g .items) at (TableLaws.well-formed-session table (g .formed) t (k .0) (k .1));
+    juniors = λ t r. let k = session-known t r in TableLaws.juniors-length table (g .sized) t (k .0) (k .1);
+    lock = λ x r. let k = item-known x r in
+        unpacked-lock S (Table.item table x) (rw (g .sessions) at (TableLaws.well-formed-item table (g .formed) x (k .0) (k .1)));
+    entries = g .entries;
+  }
+
+  -- the record of session t replaced by one that keeps the state well-formed
+  module _ (t : ℕ) (r : between 1 S t ≡ true) (s : Session) (k : List Entry) (fits : length k ≤ C)
+      (kept : (f : ℕ → Session) → Replaced S (Table.session table) f t s → StateWellFormed S M f (locks table) k) where
+    unfoldable put : ℕ → Session
+    put j = cond (eqb t j) s (Table.session table j)
+
+    put-replaced : Replaced S (Table.session table) put t s
+    unfolding put
+    put-replaced = record { here = rw (eq-eqb t t refl) refl; elsewhere = λ j _ n. rw (ne-eqb t j n) refl }
+
+    new-session : SessionRecord.wellFormed S M s ≡ true
+    new-session = rw (put-replaced .here) at (kept put put-replaced .session t r)
+
+    new-juniors : length (s .juniors) ≡ 64
+    new-juniors = rw (put-replaced .here) at (kept put put-replaced .juniors t r)
+
+    abbrev with-session : List ℕ
+    with-session = Table.withSession table t s
+
+    pub session-replaced : Replaced S (Table.session table) (Table.session with-session) t s
+    session-replaced =
+        let n = session-known t r in record {
+          here = TableLaws.session-withSession table (g .sized) t (n .0) (n .1) s new-juniors (TableLaws.held-fits S M s few-items new-session);
+          elsewhere = λ j q d. TableLaws.other-withSession table (g .sized) t (n .0) (n .1) s new-juniors j (between-low 1 S j q) (λ e. d (sym e));
+        }
+
+    locks-same : locks with-session ≡ locks table
+    unfolding locks
+    locks-same =
+        let n = session-known t r in
+        fun-ext (λ x. ap unpacked (TableLaws.item-withSession table (g .sized) t (n .0) (n .1) s new-juniors x))
+
+    pub session-state : stateOf S M with-session k ≡ readState S M (Table.session with-session) (locks table) k
+    session-state = ap (λ (f : ℕ → Lock). readState S M (Table.session with-session) f k) locks-same
+
+    pub session-good : Good S M C with-session k
+    session-good =
+        let n = session-known t r in record {
+          sized = TableLaws.sized-withSession table (g .sized) t (n .0) (n .1) s new-juniors;
+          sessions = TableLaws.sessionsOf-withSession table (g .sized) t (n .0) (n .1) s new-juniors ∙ g .sessions;
+          items = TableLaws.itemsOf-withSession table (g .sized) t (n .0) (n .1) s new-juniors ∙ g .items;
+          formed = TableLaws.wellFormed-withSession table (g .sized) t (n .0) (n .1) s new-juniors (g .formed) (rw (g .sessions, g .items) new-session);
+          low = g .low;
+          high = g .high;
+          room = fits;
+          entries = kept put put-replaced .entries;
+        }
+
+  -- the record of item x replaced
+  module _ (x : ℕ) (r : between 1 M x ≡ true) (i : Lock) (k : List Entry) (fits : length k ≤ C)
+      (kept : (f : ℕ → Lock) → Replaced M (locks table) f x i → StateWellFormed S M (Table.session table) f k) where
+    unfoldable put-lock : ℕ → Lock
+    put-lock j = cond (eqb x j) i (locks table j)
+
+    lock-put : Replaced M (locks table) put-lock x i
+    unfolding put-lock
+    lock-put = record { here = rw (eq-eqb x x refl) refl; elsewhere = λ j _ n. rw (ne-eqb x j n) refl }
+
+    new-lock : LockWellFormed S i
+    new-lock = rw (lock-put .here) at (kept put-lock lock-put .lock x r)
+
+    queue-whole : length (packed i .queue) ≡ 64
+    queue-whole = length-packed i (omega (arith, pigeonhole S (i .queue) (new-lock .once) (new-lock .sessions), few-sessions))
+
+    abbrev with-item : List ℕ
+    with-item = Table.withItem table x (packed i)
+
+    pub lock-replaced : Replaced M (locks table) (locks with-item) x i
+    unfolding locks
+    lock-replaced =
+        let n = item-known x r in record {
+          here = ap unpacked (TableLaws.item-withItem table (g .sized) x (n .0) (n .1) (packed i) queue-whole) ∙ unpacked-packed i;
+          elsewhere = λ j q d. ap unpacked (TableLaws.other-withItem table (g .sized) x (n .0) (n .1) (packed i) queue-whole j (between-low 1 M j q) (λ e. d (sym e)));
+        }
+
+    pub session-same : (t : ℕ) → between 1 S t ≡ true → Table.session with-item t ≡ Table.session table t
+    session-same t q =
+        let n = item-known x r in
+        let m = session-known t q in
+        TableLaws.session-withItem table (g .sized) x (n .0) (n .1) (packed i) queue-whole t (m .0) (m .1)
+
+    sessions-same : readSessions S (Table.session with-item) ≡ readSessions S (Table.session table)
+    unfolding readSessions
+    sessions-same = fun-ext (λ t. go t (between 1 S t) refl)
+      where
+        start : Machine.Session
+        start = record { stage = Machine.growing; held = λ (_ : ℕ). false; stored = λ (_ : ℕ). 0 }
+
+        go : (t : ℕ) (b : Bool) → between 1 S t ≡ b → cond b (readSession (Table.session with-item t)) start ≡ cond b (readSession (Table.session table t)) start
+        go t true e = ap readSession (session-same t e)
+        go t false e = refl
+
+    pub item-state : stateOf S M with-item k ≡ readState S M (Table.session table) (locks with-item) k
+    item-state = rw (sessions-same) refl
+
+    pub item-good : Good S M C with-item k
+    item-good =
+        let n = item-known x r in record {
+          sized = TableLaws.sized-withItem table (g .sized) x (n .0) (n .1) (packed i) queue-whole;
+          sessions = TableLaws.sessionsOf-withItem table (g .sized) x (n .0) (n .1) (packed i) queue-whole ∙ g .sessions;
+          items = TableLaws.itemsOf-withItem table (g .sized) x (n .0) (n .1) (packed i) queue-whole ∙ g .items;
+          formed = TableLaws.wellFormed-withItem table (g .sized) x (n .0) (n .1) (packed i) queue-whole (g .formed) (rw (g .sessions) (packed-lock S i few-sessions new-lock));
+          low = g .low;
+          high = g .high;
+          room = fits;
+          entries = kept put-lock lock-put .entries;
+        }
