@@ -1,0 +1,272 @@
+//! The replay program against the model's replay, byte for byte:
+//! `replays PROGRAM`. Prints what the inputs reached, and fails if the two
+//! differ or if something was not reached. `replays PROGRAM bench` times the
+//! longest input instead.
+
+use model::layout::{mail_length, table_length, MOST_CAPACITY};
+use model::mailbox::{count, Direction, Mailbox};
+use model::scenario::Random;
+use model::session::Stage;
+use model::table::Table;
+use std::env;
+use std::io::Write;
+use std::process::{Command, ExitCode, Stdio};
+use std::time::{Duration, Instant};
+
+const RUNS: u64 = 520;
+const MOST_STEPS: usize = 4096;
+
+/// A replay under construction: the model runs along, so that the next step can
+/// be chosen by what stands in the mail.
+struct Recorder {
+    sessions: usize,
+    items: usize,
+    table: Vec<u8>,
+    mail: Vec<u8>,
+    steps: Vec<[u8; 3]>,
+    refused: [u64; 256],
+    closed: u64,
+    rolled_back: u64,
+    most_left: usize,
+}
+
+impl Recorder {
+    fn new(sessions: usize, items: usize) -> Recorder {
+        let mut table = vec![0; table_length(sessions, items)];
+        let mut mail = vec![0; mail_length(MOST_CAPACITY)];
+        let (s, m, c) = (sessions as u64, items as u64, MOST_CAPACITY as u64);
+        assert_eq!(model::start(s, m, c, &mut table, &mut mail), 0);
+        Recorder {
+            sessions,
+            items,
+            table,
+            mail,
+            steps: Vec::new(),
+            refused: [0; 256],
+            closed: 0,
+            rolled_back: 0,
+            most_left: 0,
+        }
+    }
+
+    fn full(&self) -> bool {
+        self.steps.len() == MOST_STEPS
+    }
+
+    fn step(&mut self, verb: u8, session: u8, item: u8) -> u8 {
+        if self.full() {
+            return u8::MAX;
+        }
+        let before = self.stage(session);
+        let (v, t, x) = (verb.into(), session.into(), item.into());
+        let answer = model::step(v, t, x, &mut self.table, &mut self.mail);
+        self.steps.push([verb, session, item]);
+        self.refused[usize::from(answer.refusal)] += 1;
+        self.closed += u64::from(answer.closed);
+        let rolled =
+            before != Some(Stage::RolledBack) && self.stage(session) == Some(Stage::RolledBack);
+        self.rolled_back += u64::from(rolled);
+        self.most_left = self.most_left.max(count(&self.mail));
+        answer.refusal
+    }
+
+    fn stage(&self, session: u8) -> Option<Stage> {
+        let known = (1..=self.sessions).contains(&usize::from(session));
+        let table = known.then(|| Table::decode(&self.table))??;
+        Some(table.session(session).stage)
+    }
+
+    /// The verb, session and item that deliver a message of the mail.
+    fn delivery(&self, random: &mut Random) -> Option<[u8; 3]> {
+        let mailbox = Mailbox::decode(&self.mail, self.sessions, self.items)?;
+        let last = mailbox.messages.len().checked_sub(1)?;
+        let route = mailbox.messages[random.between(0, last as u64) as usize].route;
+        let verb = match route.direction {
+            Direction::ToItem => 3,
+            Direction::ToSession => 4,
+        };
+        Some([verb, route.session, route.item])
+    }
+
+    /// Mostly deliveries and calls that are accepted; now and then any bytes.
+    fn wander(&mut self, random: &mut Random, steps: usize) {
+        for _ in 0..steps {
+            let session = random.between(1, self.sessions as u64) as u8;
+            let item = random.between(1, self.items as u64) as u8;
+            let any = |random: &mut Random| random.bits() as u8;
+            let [verb, session, item] = match random.between(1, 20) {
+                1 => [any(random) % 6, any(random), any(random)],
+                2 => [random.between(1, 4) as u8, session, item],
+                3 => [2, session, item],
+                4..=8 => [1, session, item],
+                _ => self.delivery(random).unwrap_or([1, session, item]),
+            };
+            self.step(verb, session, item);
+        }
+    }
+
+    /// Fills the mail. Every session asks for item 1; the most junior holds it
+    /// and stores a probe of each other, which it sends with every request for
+    /// a further item. Then it releases all, and nothing is delivered.
+    fn crowd(&mut self) {
+        let (holder, items) = (self.sessions as u8, self.items as u8);
+        for session in (1..=holder).rev() {
+            self.step(1, session, 1);
+            self.step(3, session, 1);
+        }
+        while self.step(4, holder, 1) == 0 {}
+        for item in 2..=items {
+            self.step(1, holder, item);
+            self.step(3, holder, item);
+            self.step(4, holder, item);
+        }
+        self.step(2, holder, 1);
+        self.step(3, holder, 1);
+        for item in 2..=items {
+            self.step(2, holder, item);
+        }
+    }
+
+    fn input(&self) -> Vec<u8> {
+        let n = self.steps.len() as u16;
+        let mut bytes = vec![self.sessions as u8, self.items as u8];
+        bytes.extend(n.to_le_bytes());
+        bytes.extend(self.steps.iter().map(|step| step[0]));
+        bytes.extend(self.steps.iter().flat_map(|step| [step[1], step[2]]));
+        bytes
+    }
+}
+
+/// What the program writes to standard output.
+fn output(program: &str, input: &[u8]) -> std::io::Result<Vec<u8>> {
+    let mut child = Command::new(program)
+        .stdin(Stdio::piped())
+        .stdout(Stdio::piped())
+        .spawn()?;
+    let mut stdin = child.stdin.take().expect("a pipe");
+    let bytes = input.to_vec();
+    // The program may stop reading early: then writing fails, as it should.
+    let writer = std::thread::spawn(move || drop(stdin.write_all(&bytes)));
+    let written = child.wait_with_output()?.stdout;
+    writer.join().expect("the writer ends");
+    Ok(written)
+}
+
+/// The median time of some runs.
+fn median(mut run: impl FnMut()) -> Duration {
+    let mut times: Vec<Duration> = (0..15)
+        .map(|_| {
+            let begin = Instant::now();
+            run();
+            begin.elapsed()
+        })
+        .collect();
+    times.sort();
+    times[times.len() / 2]
+}
+
+/// A run of 4,096 steps at S = M = 64: the program, started anew each time, and
+/// the model in this process.
+fn bench(program: &str, input: &[u8]) {
+    let ours = median(|| drop(output(program, input).expect("the program runs")));
+    let model = median(|| drop(model::replay(input)));
+    println!("replay of 4096 steps, 64 sessions, 64 items: {ours:.1?} (model {model:.1?})");
+}
+
+fn main() -> ExitCode {
+    let Some(program) = env::args().nth(1) else {
+        eprintln!("usage: replays PROGRAM");
+        return ExitCode::from(2);
+    };
+    let mut random = Random::new(2026);
+    let mut inputs: Vec<Vec<u8>> = Vec::new();
+    let mut refused = [0; 256];
+    let (mut closed, mut rolled_back, mut most_left, mut longest) = (0, 0, 0, 0);
+    for run in 0..RUNS {
+        let size = if run % 40 == 0 { 64 } else { 8 };
+        let (sessions, items) = match run {
+            0 | 1 => (64, 64),
+            2 => (1, 1),
+            _ => (
+                random.between(1, size) as usize,
+                random.between(1, size) as usize,
+            ),
+        };
+        let mut recorder = Recorder::new(sessions, items);
+        if run == 1 {
+            recorder.crowd();
+        }
+        let steps = match run {
+            0 | 1 => MOST_STEPS,
+            2 => 0,
+            _ => random.between(0, 400) as usize,
+        };
+        recorder.wander(&mut random, steps);
+        for (sum, more) in refused.iter_mut().zip(recorder.refused) {
+            *sum += more;
+        }
+        closed += recorder.closed;
+        rolled_back += recorder.rolled_back;
+        most_left = most_left.max(recorder.most_left);
+        longest = longest.max(recorder.steps.len());
+        inputs.push(recorder.input());
+    }
+    let runs = inputs.len();
+    // Too short, too long, and bounds exceeded.
+    let whole = inputs[3].clone();
+    inputs.extend((0..whole.len().min(12)).map(|length| whole[..length].to_vec()));
+    for more in [1, 3, 1 << 20] {
+        inputs.push([whole.clone(), vec![0; more]].concat());
+    }
+    inputs.push([inputs[0].clone(), vec![0]].concat());
+    for (place, byte) in [(0, 0), (0, 65), (1, 0), (1, 65), (3, 16), (3, 255)] {
+        let mut changed = inputs[2].clone();
+        changed[place] = byte;
+        inputs.push(changed);
+    }
+    let mut over = vec![1, 1, 1, 16];
+    over.resize(4 + 3 * 4097, 0);
+    inputs.push(over);
+
+    if env::args().nth(2).is_some_and(|word| word == "bench") {
+        bench(&program, &inputs[0]);
+        return ExitCode::SUCCESS;
+    }
+
+    let (mut bad, mut slowest) = (0, Duration::ZERO);
+    for (number, input) in inputs.iter().enumerate() {
+        let begin = Instant::now();
+        let written = output(&program, input).expect("the program runs");
+        slowest = slowest.max(begin.elapsed());
+        let expected = model::replay(input);
+        bad += u64::from(expected == b"bad\n");
+        if written != expected {
+            println!("FAILED: input {number} of {} bytes", input.len());
+            return ExitCode::FAILURE;
+        }
+    }
+    println!(
+        "{} inputs, {runs} of them runs from the start: every byte agrees",
+        inputs.len()
+    );
+    println!(
+        "longest run {longest} steps, most entries in the mail {most_left}, {bad} times `bad`"
+    );
+    println!("cycles closed {closed}, sessions rolled back {rolled_back}");
+    for cause in [1, 5, 6, 7, 8, 9] {
+        println!("refused with {cause}: {}", refused[cause]);
+    }
+    println!("slowest input {} ms", slowest.as_millis());
+    let causes = [1, 5, 6, 7, 8, 9].iter().all(|&cause| refused[cause] > 0);
+    let reached = closed > 100
+        && rolled_back > 50
+        && most_left == MOST_CAPACITY
+        && longest == MOST_STEPS
+        && bad > 10;
+    if causes && reached {
+        ExitCode::SUCCESS
+    } else {
+        println!("FAILED: not everything was reached");
+        ExitCode::FAILURE
+    }
+}

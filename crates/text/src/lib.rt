@@ -1,0 +1,58 @@
+// Numbers as text in a lent buffer: each function writes at a place and answers the place behind it.
+ghost use mathlib.Core.Path.{_≡_};
+ghost use Prim.Native.Nat.{_+_, _≤_};
+ghost use lib.ListN.{length};
+ghost use Rattle.buffer.specs.Bytes.{over};
+ghost use Rattle.text.specs.Text.{decimal, spaced, rest};
+
+// Writes v in decimal.
+pub fn put_decimal(out: &mut [u8], at: usize, v: u64) -> usize
+    requires { ⌜ at + length (decimal v) ≤ length (now out) ⌝ }
+    ensures { λ r. ⌜ (now (out .exit) ≡ over (now (out .entry)) at (decimal v)) × (r ≡ at + length (decimal v)) ⌝ }
+{
+    if v < 10 {
+        out[at] = b'0' + v as u8;
+        return at + 1;
+    }
+    let next = put_decimal(out, at, v / 10);
+    out[next] = b'0' + (v % 10) as u8;
+    next + 1
+}
+
+// Writes bytes as they are.
+pub fn put_bytes(out: &mut [u8], at: usize, bytes: &[u8]) -> usize
+    requires { ⌜ at + length (now bytes) ≤ length (now out) ⌝ }
+    ensures { λ r. ⌜ (now (out .exit) ≡ over (now (out .entry)) at (now (bytes .entry))) × (r ≡ at + length (now (bytes .entry))) ⌝ }
+{
+    let mut i: usize = 0;
+    while i < bytes.len() {
+        out[at + i] = bytes[i];
+        i += 1;
+    }
+    at + i
+}
+
+// Writes a space before each number.
+fn put_spaced(out: &mut [u8], at: usize, numbers: &[u64]) -> usize
+    requires { ⌜ at + length (spaced (now numbers)) ≤ length (now out) ⌝ }
+    ensures { λ r. ⌜ (now (out .exit) ≡ over (now (out .entry)) at (spaced (now (numbers .entry)))) × (r ≡ at + length (spaced (now (numbers .entry)))) ⌝ }
+{
+    let mut next = at;
+    let mut i: usize = 0;
+    while i < numbers.len() {
+        out[next] = b' ';
+        next = put_decimal(out, next + 1, numbers[i]);
+        i += 1;
+    }
+    next
+}
+
+// Writes the rest of a line: a space before each number, then a line feed.
+pub fn end_line(out: &mut [u8], at: usize, numbers: &[u64]) -> usize
+    requires { ⌜ at + length (rest (now numbers)) ≤ length (now out) ⌝ }
+    ensures { λ r. ⌜ (now (out .exit) ≡ over (now (out .entry)) at (rest (now (numbers .entry)))) × (r ≡ at + length (rest (now (numbers .entry)))) ⌝ }
+{
+    let next = put_spaced(out, at, numbers);
+    out[next] = b'\n';
+    next + 1
+}

@@ -1,0 +1,3 @@
+pub mod Steps
+pub mod Lines
+pub mod Playing

@@ -1,0 +1,59 @@
+-- `put_end` meets its contract: the word, and the rest of the line right behind it.
+use native.Mathlib.Omega.{arith}
+use mathlib.Core.List.{[], _∷_}
+use lib.ListN.{length-append}
+use Rattle.text.specs.Text.{rest}
+use Rattle.text.proofs.Laws.{over-then}
+use Rattle.transcript.specs.Transcript.{endWord, endLine}
+use Rattle.transcript.specs.Records.{tallyOf}
+use Rattle.transcript.proofs.Lines.{end-short}
+use borrow.Author.Needs.{needs}
+use Rattle.transcript.proofs.put_end.Statement.{statement}
+use Rattle.transcript.proofs.put_end.Tie as tie
+
+slice-aggregate-put-bytes : tie.Need-slice-aggregate-put-bytes
+slice-aggregate-put-bytes c = search needs
+
+put-bytes-requires : tie.Need-put-bytes-requires
+put-bytes-requires c κs = search needs
+
+slice-aggregate-end-line : tie.Need-slice-aggregate-end-line
+slice-aggregate-end-line c = search needs
+
+end-line-requires : tie.Need-end-line-requires
+end-line-requires c κs =
+    let s = c .before .before .before .before .before .before .before .before in
+    let a = s .args in
+    let p = c .before .before .before .before .put-bytes in
+    let short = end-short (a .left) (tallyOf (a .t)) (s .pre .0) (s .pre .1) (s .pre .2) (s .pre .3) in
+    omega (arith, p .ensures .1, p .kept .0)
+
+same-length : tie.Need-same-length
+same-length c = search needs
+
+returns : tie.Need-returns
+unfolding endLine
+returns c =
+    let s = c .before .before .before .before .before .before .before .before .before .before .before in
+    let a = s .args in
+    let p = c .before .before .before .before .before .before .before .put-bytes in
+    let e = c .before .before .end-line in
+    let y = tallyOf (a .t) in
+    let l = a .left ∷ y .closed ∷ y .declared ∷ y .rolledBack ∷ [] in
+    let len = length-append endWord (rest l) in
+    let short = end-short (a .left) y (s .pre .0) (s .pre .1) (s .pre .2) (s .pre .3) in (
+      over-then (a .out .now) (a .at) endWord (rest l) (omega arith) (p .ensures .0) (p .ensures .1) (e .ensures .0),
+      omega (arith, p .ensures .1, e .ensures .1),
+      omega (arith, p .ensures .1, e .ensures .1),
+    )
+
+pub put-end-spec : {M : Type 1} → statement M
+put-end-spec =
+    tie.close
+    (tie.spec
+    slice-aggregate-put-bytes
+    put-bytes-requires
+    slice-aggregate-end-line
+    end-line-requires
+    same-length
+    returns)

@@ -1,0 +1,64 @@
+-- The replay program as a function from the bytes of its input to the bytes of its output.
+use Prim.Native.Nat.{ℕ, suc, _+_, _*_}
+use mathlib.Core.Bool.{cond}
+use mathlib.Core.List.{List, [], _∷_, _++_}
+use lib.ListN.{replicate}
+use Rattle.mailbox.specs.Layout as Mail
+use Rattle.table.specs.Layout as Table
+use Rattle.lockmgr.specs.declared.Answer.{Answer}
+use Rattle.lockmgr.specs.Calls.{Started, start}
+use Rattle.lockmgr.specs.Run as Run
+use Rattle.lockmgr.specs.Run.{Ran, run}
+use Rattle.text.specs.Text.{lineFeed, decimal, rest}
+use Rattle.transcript.specs.Input.{sessionsIn, itemsIn, mostSteps, wellFormed, stepsIn}
+
+-- `bad` alone
+abbrev pub bad : List ℕ
+bad = 98 ∷ 97 ∷ 100 ∷ lineFeed ∷ []
+
+-- C
+abbrev pub capacity : ℕ
+capacity = 4096
+
+-- a lock manager that starts, in buffers of the sizes that S, M and C ask for
+unfoldable pub opened : ℕ → ℕ → Started
+opened S M = start S M capacity (replicate (Table.size S M) 0) (replicate (Mail.size capacity) 0)
+
+-- the steps of an input, done in their order
+unfoldable pub replayed : List ℕ → Ran
+replayed input =
+    let o = opened (sessionsIn input) (itemsIn input) in run (o .table) (o .mail) Run.zeros (stepsIn input)
+
+-- per step: index from 1, verb, session, item, refusal, sent, closed, victim, initiator
+unfoldable pub stepLine : ℕ → Run.Step → Answer → List ℕ
+stepLine index c a =
+    decimal index
+    ++ rest (c .verb ∷ c .session ∷ c .item ∷ a .refusal ∷ a .sent ∷ a .closed ∷ a .victim ∷ a .initiator ∷ [])
+
+-- the lines of steps and their answers, the first of which has this index
+unfoldable pub stepLines : ℕ → List Run.Step → List Answer → List ℕ
+stepLines index [] answers = []
+stepLines index (c ∷ l) [] = []
+stepLines index (c ∷ l) (a ∷ answers) = stepLine index c a ++ stepLines (suc index) l answers
+
+-- last line: `end`, entries left in the mail, cycles closed, declarations made, sessions reaching stage 6
+abbrev pub endWord : List ℕ
+endWord = 101 ∷ 110 ∷ 100 ∷ []
+
+unfoldable pub endLine : ℕ → Run.Tally → List ℕ
+endLine left y = endWord ++ rest (left ∷ y .closed ∷ y .declared ∷ y .rolledBack ∷ [])
+
+unfoldable pub printed : ℕ → List Run.Step → Ran → List ℕ
+printed index l r = stepLines index l (r .answers) ++ endLine (Mail.countOf (r .mail)) (r .tally)
+
+-- the whole output
+unfoldable pub transcript : List ℕ → List ℕ
+transcript input = cond (wellFormed input) (printed 1 (stepsIn input) (replayed input)) bad
+
+-- an index of four digits, eight numbers of three digits and a space, and the line feed: no line is longer
+abbrev pub longestLine : ℕ
+longestLine = 37
+
+-- a line for each step, and the last one
+abbrev pub longest : ℕ
+longest = longestLine * (mostSteps + 1)
