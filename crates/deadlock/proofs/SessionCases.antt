@@ -51,9 +51,9 @@ module _ {R : Rules} (L : Laws R) {w : World} (known : Known R w) (t : ℕ) (mai
 
   plain-both : (o : SessionStep) → SessionSends w t (o .sends) mail → DownKept → ((v : ℕ) → mail .total v ≡ w .total v + cleansSent v (o .sends)) → PlainStep o
       → Probes R w → SessionDone o
-  plain-both o ac q tots k h = (
-    plain-probes L known o ac (q .cleans-same) (k .victim-le) (q .behind-kept) (k .live-before) (k .stores h) (k .sent h) h,
-    plain-victims L known o ac (k .victim-le) (k .victim-stage-same) (k .keep) (k .abort-kept) (λ v. omega (arith, tots v, k .none-of v)) (k .none-of) (k .victim-silent) (q .cleans-same) (λ z. q .every-kept _ z),
+  plain-both o acts q tots k h = (
+    plain-probes L known o acts (q .cleans-same) (k .victim-le) (q .behind-kept) (k .live-before) (k .stores h) (k .sent h) h,
+    plain-victims L known o acts (k .victim-le) (k .victim-stage-same) (k .keep) (k .abort-kept) (λ v. omega (arith, tots v, k .none-of v)) (k .none-of) (k .victim-silent) (q .cleans-same) (λ z. q .every-kept _ z),
   )
 
   -- the stage stays
@@ -86,7 +86,7 @@ module _ {R : Rules} (L : Laws R) {w : World} (known : Known R w) (t : ℕ) (mai
     }
 
     taken-plain : (m : Message) → ((v : ℕ) → cleanOf v m ≡ 0) → (o : SessionStep) → PlainStep o → SessionHeard m o
-    taken-plain m z o k ac hr tots h = plain-both o ac (taken-down-kept m z hr) (λ v. omega (arith, tots v, z v)) k h
+    taken-plain m z o k acts hr tots h = plain-both o acts (taken-down-kept m z hr) (λ v. omega (arith, tots v, z v)) k h
 
     taken-dropped : (m : Message) → ((v : ℕ) → cleanOf v m ≡ 0) → SessionHeard m (sessionDrops (w .session t))
     taken-dropped m z = taken-plain m z (sessionDrops (w .session t)) plain-dropped
@@ -97,7 +97,7 @@ module _ {R : Rules} (L : Laws R) {w : World} (known : Known R w) (t : ℕ) (mai
     heard-grant shrinking e = taken-dropped grant (λ v. refl)
     heard-grant rolledBack e = taken-dropped grant (λ v. refl)
     heard-grant (waiting y) e = by-test (SessionHeard grant) (eqb y x) _ _
-        (λ q ac hr. taken-plain grant (λ v. refl) _ (record {
+        (λ q acts hr. taken-plain grant (λ v. refl) _ (record {
           victim-le = omega arith;
           victim-stage-same = sym (ap isVictimStage e);
           keep = λ h k. absurd (no-grant-queued (known .links) lo hi (hr .head) h k);
@@ -107,7 +107,7 @@ module _ {R : Rules} (L : Laws R) {w : World} (known : Known R w) (t : ℕ) (mai
           live-before = λ _. ap isLive e;
           stores = λ h l i ne. h .stored-true t (ap isLive e) i ne;
           sent = λ _. every-nil;
-        }) ac hr) (λ q. taken-dropped grant (λ v. refl))
+        }) acts hr) (λ q. taken-dropped grant (λ v. refl))
     heard-grant (victim y) e = taken-dropped grant (λ v. refl)
     heard-grant (withdrawing y) e = taken-dropped grant (λ v. refl)
 
@@ -127,8 +127,8 @@ module _ {R : Rules} (L : Laws R) {w : World} (known : Known R w) (t : ℕ) (mai
         → (StoredTold R w t i (junior R j t) → AllTell (StoredTold R w t) out) → SessionHeard (probe i j) (storeProbe R (w .session t) i (junior R j t) out)
     unfolding storeProbe
     heard-storeProbe i j out l z sn = by-test (SessionHeard (probe i j)) (isNews R (w .session t .stored) i (junior R j t)) _ _
-        (λ _ ac hr ts h. taken-plain (probe i j) (λ v. refl) _ (plain-stay (w .session t .held) (updated (w .session t .stored) i (junior R j t)) out z (λ s. absurd (omega (arith, s, stage-facts (stageOf w t), ap bit l)))
-        (λ h l. stored-told i (junior R j t) (w .session t .stored) (probe-tells i j hr h l) (h .stored-true t l)) (λ h. sn (probe-tells i j hr h l))) ac hr ts h)
+        (λ _ acts hr ts h. taken-plain (probe i j) (λ v. refl) _ (plain-stay (w .session t .held) (updated (w .session t .stored) i (junior R j t)) out z (λ s. absurd (omega (arith, s, stage-facts (stageOf w t), ap bit l)))
+        (λ h l. stored-told i (junior R j t) (w .session t .stored) (probe-tells i j hr h l) (h .stored-true t l)) (λ h. sn (probe-tells i j hr h l))) acts hr ts h)
         (λ _. taken-dropped (probe i j) (λ v. refl))
 
     heard-probe : (i j : ℕ) (s : Stage) → w .session t .stage ≡ s → SessionHeard (probe i j) (onProbe R t (w .session t) i j s)
@@ -173,10 +173,10 @@ module _ {R : Rules} (L : Laws R) {w : World} (known : Known R w) (t : ℕ) (mai
     -- ---- abort
     heard-abort : (v i : ℕ) (s : Stage) → w .session t .stage ≡ s → SessionHeard (abort v i) (onAbort R (w .session t) v i s)
     unfolding onAbort AbortTo
-    heard-abort v i growing e ac hr ts h = taken-dropped (abort v i) (λ _. refl) ac hr ts h
-    heard-abort v i shrinking e ac hr ts h = taken-dropped (abort v i) (λ _. refl) ac hr ts h
-    heard-abort v i rolledBack e ac hr ts h = taken-dropped (abort v i) (λ _. refl) ac hr ts h
-    heard-abort v i (waiting y) e ac hr ts h = subst P (sym (z .0)) (λ ac hr ts. (abort-probes L known t x mail i y _ _ e (cycle .cycle) ac hr h, abort-victims L known t x mail i y _ _ e cycle ac hr ts)) ac hr ts
+    heard-abort v i growing e acts hr ts h = taken-dropped (abort v i) (λ _. refl) acts hr ts h
+    heard-abort v i shrinking e acts hr ts h = taken-dropped (abort v i) (λ _. refl) acts hr ts h
+    heard-abort v i rolledBack e acts hr ts h = taken-dropped (abort v i) (λ _. refl) acts hr ts h
+    heard-abort v i (waiting y) e acts hr ts h = subst P (sym (z .0)) (λ acts hr ts. (abort-probes L known t x mail i y _ _ e (cycle .cycle) acts hr h, abort-victims L known t x mail i y _ _ e cycle acts hr ts)) acts hr ts
       where
         o : ℕ → SessionStep
         o v = record { after = record { stage = victim y; held = w .session t .held; stored = λ (_ : ℕ). 0 }; sends = (y, clean v i) ∷ [] }
@@ -189,8 +189,8 @@ module _ {R : Rules} (L : Laws R) {w : World} (known : Known R w) (t : ℕ) (mai
 
         cycle : CycleOf R w t (λ u. R .senior u t ≡ true)
         cycle = subst (AbortTo R w t) e (z .1)
-    heard-abort v i (victim y) e ac hr ts h = taken-dropped (abort v i) (λ _. refl) ac hr ts h
-    heard-abort v i (withdrawing y) e ac hr ts h = taken-dropped (abort v i) (λ _. refl) ac hr ts h
+    heard-abort v i (victim y) e acts hr ts h = taken-dropped (abort v i) (λ _. refl) acts hr ts h
+    heard-abort v i (withdrawing y) e acts hr ts h = taken-dropped (abort v i) (λ _. refl) acts hr ts h
 
     -- ---- clean: it finds its victim, or a member that waits
     clean-where : (v i : ℕ) → SessionTakes w t x (clean v i) mail → ((t ≡ v) × CleanUnderWay w t) ⊎ (1 ≤ isWaiting (stageOf w t))
@@ -223,8 +223,8 @@ module _ {R : Rules} (L : Laws R) {w : World} (known : Known R w) (t : ℕ) (mai
     heard-own-clean : (v i y : ℕ) → w .session t .stage ≡ victim y → SessionHeard (clean v i) (onClean R t x (w .session t) v i (victim y))
     unfolding onClean
     heard-own-clean v i y e = by-test (SessionHeard (clean v i)) (eqb v t) _ _
-        (λ q ac hr ts h. let z : v ≡ t = eqb-true v t q in subst P (sym z) (λ ac hr ts. (return-probes L known t x mail i y _ _ e ac hr h, return-victims L known t x mail i y _ _ e ac hr ts)) ac hr ts)
-        (λ q ac hr ts h. absurd (eqb-false v t q (sym (clean-own v i hr (ap isWaiting e)))))
+        (λ q acts hr ts h. let z : v ≡ t = eqb-true v t q in subst P (sym z) (λ acts hr ts. (return-probes L known t x mail i y _ _ e acts hr h, return-victims L known t x mail i y _ _ e acts hr ts)) acts hr ts)
+        (λ q acts hr ts h. absurd (eqb-false v t q (sym (clean-own v i hr (ap isWaiting e)))))
       where
         o : SessionStep
         o = record { after = record { stage = withdrawing y; held = w .session t .held; stored = w .session t .stored }; sends = (y, withdraw) ∷ [] }
@@ -234,22 +234,22 @@ module _ {R : Rules} (L : Laws R) {w : World} (known : Known R w) (t : ℕ) (mai
 
     heard-clean : (v i : ℕ) (s : Stage) → w .session t .stage ≡ s → SessionHeard (clean v i) (onClean R t x (w .session t) v i s)
     unfolding onClean cleared rebroadcasts
-    heard-clean v i growing e ac hr ts h = absurd (clean-nowhere v i hr (ap isVictimStage e) (ap isWaiting e))
-    heard-clean v i shrinking e ac hr ts h = absurd (clean-nowhere v i hr (ap isVictimStage e) (ap isWaiting e))
-    heard-clean v i rolledBack e ac hr ts h = absurd (clean-nowhere v i hr (ap isVictimStage e) (ap isWaiting e))
-    heard-clean v i (withdrawing y) e ac hr ts h = absurd (clean-nowhere v i hr (ap isVictimStage e) (ap isWaiting e))
-    heard-clean v i (waiting y) e ac hr ts h =
+    heard-clean v i growing e acts hr ts h = absurd (clean-nowhere v i hr (ap isVictimStage e) (ap isWaiting e))
+    heard-clean v i shrinking e acts hr ts h = absurd (clean-nowhere v i hr (ap isVictimStage e) (ap isWaiting e))
+    heard-clean v i rolledBack e acts hr ts h = absurd (clean-nowhere v i hr (ap isVictimStage e) (ap isWaiting e))
+    heard-clean v i (withdrawing y) e acts hr ts h = absurd (clean-nowhere v i hr (ap isVictimStage e) (ap isWaiting e))
+    heard-clean v i (waiting y) e acts hr ts h =
         let f : ℕ → Bool = λ (k : ℕ). w .session t .held k && not (eqb k x) in
         let reb : Sends = toEach rebroadcast f (oneTo (R .M)) in
         let c : (u : ℕ) → cleansSent u reb ≡ 0 = λ u. cleansSent-toEach u rebroadcast refl f (oneTo (R .M)) in
         subst P (sym e) (
-          member-probes L known t x mail v i y (w .session t .held) e reb (no-probe-toEach rebroadcast tt f (oneTo (R .M))) (λ u z. omega (arith, cleansOf-sentTo u z reb, c u)) ac hr h,
-          member-victims L known t x mail v i y (w .session t .held) e reb c ac hr ts,
+          member-probes L known t x mail v i y (w .session t .held) e reb (no-probe-toEach rebroadcast tt f (oneTo (R .M))) (λ u z. omega (arith, cleansOf-sentTo u z reb, c u)) acts hr h,
+          member-victims L known t x mail v i y (w .session t .held) e reb c acts hr ts,
         )
       where
         P : Stage → Type 0
         P s = SessionDone (record { after = record { stage = s; held = w .session t .held; stored = λ (_ : ℕ). 0 }; sends = [] })
-    heard-clean v i (victim y) e ac hr ts h = heard-own-clean v i y e ac hr ts h
+    heard-clean v i (victim y) e acts hr ts h = heard-own-clean v i y e acts hr ts h
 
     pub session-heard : (m : Message) → SessionHeard m (sessionReceives R t x (w .session t) m)
     unfolding sessionReceives
@@ -274,7 +274,7 @@ module _ {R : Rules} (L : Laws R) {w : World} (known : Known R w) (t : ℕ) (mai
 
   pub request-call : (x : ℕ) (s : Stage) → w .session t .stage ≡ s → CallDone (onRequestCall R x (w .session t) s)
   unfolding onRequestCall AbortTo cleansSent AllTell storedProbes
-  request-call x growing e = by-test CallDone (w .session t .held x) _ _ (λ _. tt) (λ _ ac q ts h. plain-both _ ac (calls-down-kept q) ts (record {
+  request-call x growing e = by-test CallDone (w .session t .held x) _ _ (λ _. tt) (λ _ acts q ts h. plain-both _ acts (calls-down-kept q) ts (record {
     victim-le = omega arith;
     victim-stage-same = sym (ap isVictimStage e);
     keep = λ k d s. omega arith;
@@ -294,7 +294,7 @@ module _ {R : Rules} (L : Laws R) {w : World} (known : Known R w) (t : ℕ) (mai
   release-held : (x : ℕ) → isVictim (stageOf w t) ≡ 0 → isVictimStage (stageOf w t) ≡ 0 → isWaiting (stageOf w t) ≡ 0
       → (AbortTo R w t (stageOf w t) → ⊥) → CallDone (releaseHeld R x (w .session t))
   unfolding releaseHeld cleansSent AllTell
-  release-held x vz fz tz nab = by-test CallDone (w .session t .held x) _ _ (λ _ ac q ts h. plain-both _ ac (calls-down-kept q) ts (record {
+  release-held x vz fz tz nab = by-test CallDone (w .session t .held x) _ _ (λ _ acts q ts h. plain-both _ acts (calls-down-kept q) ts (record {
     victim-le = omega arith;
     victim-stage-same = sym fz;
     keep = λ k d s. absurd (omega (arith, s, tz));

@@ -59,7 +59,7 @@ module _ {R : Rules} (L : Laws R) {w : World} (known : Known R w) (t x : ℕ) (m
   own-up-with-clean : (o : SessionStep) → SessionSends w t (o .sends) mail → NoProbe (o .sends) → (y : ℕ) → Awaits y (stageOf w t)
       → 1 ≤ countKind Kind.clean (sentTo y (o .sends)) → Probes R w
       → (z : ℕ) → 1 ≤ z → z ≤ R .M → Queued w t z → EachBehind (TellsUp R (worldAfterSession w t (o .after) mail) t) (w .up t z ++ sentTo z (o .sends))
-  own-up-with-clean o ac mu y abort-awaits b h z lo hi s =
+  own-up-with-clean o acts mu y abort-awaits b h z lo hi s =
       let q : z ≡ y = in-awaited-queue R w (known .links) t y z lo hi s abort-awaits in
       let b′ : 1 ≤ countKind Kind.clean (sentTo z (o .sends)) = rw q b in
       behind-map (countKind Kind.clean (w .up t z)) (sentTo z (o .sends))
@@ -72,7 +72,7 @@ module _ {R : Rules} (L : Laws R) {w : World} (known : Known R w) (t x : ℕ) (m
 
   -- ---- abort
   module _ (i0 y : ℕ) (g : ℕ → Bool) (f0 : ℕ → ℕ) (e : w .session t .stage ≡ waiting y) (loop : FirstApart (Edge R w) t t)
-      (ac : SessionSends w t ((y, clean t i0) ∷ []) mail) (hr : SessionTakes w t x (abort t i0) mail) where
+      (acts : SessionSends w t ((y, clean t i0) ∷ []) mail) (hr : SessionTakes w t x (abort t i0) mail) where
     abbrev pub abortStep : SessionStep
     abortStep = record { after = record { stage = victim y; held = g; stored = f0 }; sends = (y, clean t i0) ∷ [] }
 
@@ -97,30 +97,30 @@ module _ {R : Rules} (L : Laws R) {w : World} (known : Known R w) (t x : ℕ) (m
     abort-first-not-clear h c =
         let q : c .edge .item ≡ y = in-awaited-queue R w (known .links) t y (c .edge .item) (c .edge .low) (c .edge .high) (c .edge .stands) abort-awaits in
         let k : cleansOf t (mail .up t y) ≡ 0 = rw q at (c .above) in
-        omega (arith, ap (cleansOf t) (ac .up-at y), cleansOf-append t (w .up t y) (sentTo y (abortStep .sends)), abort-clean-sent t, ap bit (eqb-self t))
+        omega (arith, ap (cleansOf t) (acts .up-at y), cleansOf-append t (w .up t y) (sentTo y (abortStep .sends)), abort-clean-sent t, ap bit (eqb-self t))
 
     abort-passed-back : (v a : ℕ) → Passed R afterAbort v a → Passed R w v a
     abort-passed-back v a p = cases (same? t v)
       where
         clear-old : (a b : ℕ) → ClearEdge R afterAbort v a b → ClearEdge R w v a b
-        clear-old a b = clear-edge-back R abortStep ac v a b (λ _. abort-cleans-down v)
+        clear-old a b = clear-edge-back R abortStep acts v a b (λ _. abort-cleans-down v)
 
         cases : Dec (t ≡ v) → Passed R w v a
         cases (yes q) = let p2 : Passed R afterAbort t a = rw (← q) at p in let d = first-edge-of (p2 .past) in absurd (abort-first-not-clear (d .0) (d .1))
-        cases (no q) = record { is-victim = omega (arith, p .is-victim, ap isVictim (stage-other R abortStep ac v q)); past = record { from = p .past .from; walk = walk-map clear-old (p .past .walk); last = clear-old (p .past .from) a (p .past .last) } }
+        cases (no q) = record { is-victim = omega (arith, p .is-victim, ap isVictim (stage-other R abortStep acts v q)); past = record { from = p .past .from; walk = walk-map clear-old (p .past .walk); last = clear-old (p .past .from) a (p .past .last) } }
 
     pub abort-probes : Probes R w → Probes R afterAbort
     unfolding sentTo countKind
-    abort-probes h = session-probes R abortStep ac (λ v a _. abort-passed-back v a) (record {
+    abort-probes h = session-probes R abortStep acts (λ v a _. abort-passed-back v a) (record {
       own-stored = λ l. absurd (false≢true l);
-      own-up = own-up-with-clean abortStep ac abort-no-probe y abort-awaits (rw eqb-self (omega arith)) h;
+      own-up = own-up-with-clean abortStep acts abort-no-probe y abort-awaits (rw eqb-self (omega arith)) h;
       own-behind-request = λ z lo hi. own-behindRequest abortStep abort-no-probe z (queued-no-request R w (known .links) t (loop .next) z (loop .out) lo hi);
       own-down = λ l. absurd (false≢true l);
     }) h
 
   -- ---- clean, at another member of the cycle
   module _ (v i0 y : ℕ) (g : ℕ → Bool) (e : w .session t .stage ≡ waiting y) (reb : Sends) (mr : NoProbe reb) (cr : (u z : ℕ) → cleansOf u (sentTo z reb) ≡ 0)
-      (ac : SessionSends w t (reb ++ (y, clean v i0) ∷ []) mail) (hr : SessionTakes w t x (clean v i0) mail) where
+      (acts : SessionSends w t (reb ++ (y, clean v i0) ∷ []) mail) (hr : SessionTakes w t x (clean v i0) mail) where
     abbrev pub memberStep : SessionStep
     memberStep = record { after = record { stage = waiting y; held = g; stored = λ (_ : ℕ). 0 }; sends = reb ++ (y, clean v i0) ∷ [] }
 
@@ -164,7 +164,7 @@ module _ {R : Rules} (L : Laws R) {w : World} (known : Known R w) (t x : ℕ) (m
     member-own-not-clear b c =
         let q : c .edge .item ≡ y = in-awaited-queue R w (known .links) t y (c .edge .item) (c .edge .low) (c .edge .high) (c .edge .stands) member-awaits in
         let k : cleansOf v (mail .up t y) ≡ 0 = rw q at (c .above) in
-        omega (arith, ap (cleansOf v) (ac .up-at y), cleansOf-append v (w .up t y) (sentTo y (memberStep .sends)), member-clean-sent)
+        omega (arith, ap (cleansOf v) (acts .up-at y), cleansOf-append v (w .up t y) (sentTo y (memberStep .sends)), member-clean-sent)
 
     member-cleans-down : (u z : ℕ) → v ≢ u → cleansOf u (w .down t z) ≡ cleansOf u (mail .down t z)
     unfolding cleansOf
@@ -172,8 +172,8 @@ module _ {R : Rules} (L : Laws R) {w : World} (known : Known R w) (t x : ℕ) (m
 
     member-victims-same : (u : ℕ) → VictimIn afterMember u → VictimIn w u
     member-victims-same u k = elim (same? t u) [
-      | yes q ↦ absurd (omega (arith, k, ap isVictim (stage-own R memberStep ac), ap (λ (z : ℕ). isVictim (stageOf afterMember z)) q))
-      | no q ↦ omega (arith, k, ap isVictim (stage-other R memberStep ac u q))
+      | yes q ↦ absurd (omega (arith, k, ap isVictim (stage-own R memberStep acts), ap (λ (z : ℕ). isVictim (stageOf afterMember z)) q))
+      | no q ↦ omega (arith, k, ap isVictim (stage-other R memberStep acts u q))
     ]
 
     -- another victim
@@ -181,14 +181,14 @@ module _ {R : Rules} (L : Laws R) {w : World} (known : Known R w) (t x : ℕ) (m
     member-other-victim u a ne p = record { is-victim = member-victims-same u (p .is-victim); past = record { from = p .past .from; walk = walk-map clear-old (p .past .walk); last = clear-old (p .past .from) a (p .past .last) } }
       where
         clear-old : (a b : ℕ) → ClearEdge R afterMember u a b → ClearEdge R w u a b
-        clear-old a b = clear-edge-back R memberStep ac u a b (λ _ z. member-cleans-down u z ne)
+        clear-old a b = clear-edge-back R memberStep acts u a b (λ _ z. member-cleans-down u z ne)
 
     -- a walk that is clear now does not lead on from t
     member-clear-walk : {u : ℕ} → Walk (ClearEdge R afterMember v) v u → t ≢ u → Walk (ClearEdge R w v) v u
     member-clear-walk rest ne = rest
     member-clear-walk (onward {u = a} {t = u} k c) ne =
         let na : t ≢ a = λ q. member-own-not-clear u (rw (← q) at c) in
-        onward (member-clear-walk k na) (clear-edge-back R memberStep ac v a u (λ q. absurd (ne q)) c)
+        onward (member-clear-walk k na) (clear-edge-back R memberStep acts v a u (λ q. absurd (ne q)) c)
 
     member-passed-back : (u a : ℕ) → t ≢ a → Passed R afterMember u a → Passed R w u a
     member-passed-back u a ne p = cases (same? v u)
@@ -200,7 +200,7 @@ module _ {R : Rules} (L : Laws R) {w : World} (known : Known R w) (t x : ℕ) (m
             let b = p2 .past .from in
             let c = p2 .past .last in
             let nb : t ≢ b = λ z. member-own-not-clear a (rw (← z) at c) in
-            rw (← q) (record { is-victim = member-victim; past = record { from = b; walk = member-clear-walk (p2 .past .walk) nb; last = clear-edge-back R memberStep ac v b a (λ z. absurd (ne z)) c } })
+            rw (← q) (record { is-victim = member-victim; past = record { from = b; walk = member-clear-walk (p2 .past .walk) nb; last = clear-edge-back R memberStep acts v b a (λ z. absurd (ne z)) c } })
 
     -- what comes to t stands behind the clean, or comes from another item
     member-avoids : (i j z : ℕ) (r : List Message) (c : CameTo R w i j t z (MustAvoidDown R w t z r)) (u : ℕ) → MustAvoidDown R afterMember t z r u
@@ -224,9 +224,9 @@ module _ {R : Rules} (L : Laws R) {w : World} (known : Known R w) (t x : ℕ) (m
 
     pub member-probes : Probes R w → Probes R afterMember
     unfolding sentTo countKind
-    member-probes h = session-probes R memberStep ac member-passed-back (record {
+    member-probes h = session-probes R memberStep acts member-passed-back (record {
       own-stored = λ l i ne. absurd (ne refl);
-      own-up = own-up-with-clean memberStep ac member-no-probe y member-awaits (omega (arith, member-clean-sent, cleansOf-le v (sentTo y (memberStep .sends)))) h;
+      own-up = own-up-with-clean memberStep acts member-no-probe y member-awaits (omega (arith, member-clean-sent, cleansOf-le v (sentTo y (memberStep .sends)))) h;
       own-behind-request = λ z lo hi. own-behindRequest memberStep member-no-probe z (queued-no-request R w (known .links) t (member-next .next) z (member-next .out) lo hi);
       own-down = λ l z. down z (same? x z) (h .down-true t z (rw e));
     }) h
@@ -256,7 +256,7 @@ module _ {R : Rules} (L : Laws R) {w : World} (known : Known R w) (t x : ℕ) (m
 
   -- ---- clean, back at its victim
   module _ (i0 y : ℕ) (g : ℕ → Bool) (f0 : ℕ → ℕ) (e : w .session t .stage ≡ victim y)
-      (ac : SessionSends w t ((y, withdraw) ∷ []) mail) (hr : SessionTakes w t x (clean t i0) mail) where
+      (acts : SessionSends w t ((y, withdraw) ∷ []) mail) (hr : SessionTakes w t x (clean t i0) mail) where
     abbrev pub returnStep : SessionStep
     returnStep = record { after = record { stage = withdrawing y; held = g; stored = f0 }; sends = (y, withdraw) ∷ [] }
 
@@ -302,7 +302,7 @@ module _ {R : Rules} (L : Laws R) {w : World} (known : Known R w) (t x : ℕ) (m
     return-passed-back v a ne p = cases (same? t v)
       where
         clear-old : t ≢ v → (a b : ℕ) → ClearEdge R afterReturn v a b → ClearEdge R w v a b
-        clear-old q a b = clear-edge-back R returnStep ac v a b (λ _ z. return-cleans-down v z q)
+        clear-old q a b = clear-edge-back R returnStep acts v a b (λ _ z. return-cleans-down v z q)
 
         mine : (t ≡ a) ⊎ LastApart (ClearEdge R w t) t a → Passed R w t a
         mine (inl q) = absurd (ne q)
@@ -311,7 +311,7 @@ module _ {R : Rules} (L : Laws R) {w : World} (known : Known R w) (t x : ℕ) (m
         cases : Dec (t ≡ v) → Passed R w v a
         cases (yes q) = let p2 : Passed R afterReturn t a = rw (← q) at p in rw (← q) (mine (return-clear-walk (lastApart-walk (clear-edges R afterReturn t a (p2 .past)))))
         cases (no q) = record {
-          is-victim = omega (arith, p .is-victim, ap isVictim (stage-other R returnStep ac v q));
+          is-victim = omega (arith, p .is-victim, ap isVictim (stage-other R returnStep acts v q));
           past = record
               { from = p .past .from; walk = walk-map (clear-old q) (p .past .walk); last = clear-old q (p .past .from) a (p .past .last) };
         }
@@ -332,7 +332,7 @@ module _ {R : Rules} (L : Laws R) {w : World} (known : Known R w) (t x : ℕ) (m
             ))
 
     pub return-probes : Probes R w → Probes R afterReturn
-    return-probes h = session-probes R returnStep ac return-passed-back (record {
+    return-probes h = session-probes R returnStep acts return-passed-back (record {
       own-stored = λ l. absurd (false≢true l);
       own-up = λ z lo hi s. behind-map (countKind Kind.clean (w .up t z)) (sentTo z (returnStep .sends))
           (λ m r b. ofProbe-map (λ i j k. absurd (omega (arith, b, k, return-no-clean-up z))) m)

@@ -38,7 +38,7 @@ module _ {R : Rules} (L : Laws R) {w : World} (known : Known R w) (t x : ℕ) (m
 
   -- ---- abort
   module _ (i0 y : ℕ) (g : ℕ → Bool) (f0 : ℕ → ℕ) (e : w .session t .stage ≡ waiting y) (r : CycleOf R w t (λ u. R .senior u t ≡ true))
-      (ac : SessionSends w t ((y, clean t i0) ∷ []) mail) (hr : SessionTakes w t x (abort t i0) mail) (tots : (v : ℕ) → mail .total v + 0 ≡ w .total v + cleansSent v ((y, clean t i0) ∷ [])) where
+      (acts : SessionSends w t ((y, clean t i0) ∷ []) mail) (hr : SessionTakes w t x (abort t i0) mail) (tots : (v : ℕ) → mail .total v + 0 ≡ w .total v + cleansSent v ((y, clean t i0) ∷ [])) where
     abbrev pub abortStep : SessionStep
     abortStep = record { after = record { stage = victim y; held = g; stored = f0 }; sends = (y, clean t i0) ∷ [] }
 
@@ -79,7 +79,7 @@ module _ {R : Rules} (L : Laws R) {w : World} (known : Known R w) (t x : ℕ) (m
 
     pub abort-victims : Victims R afterAbort
     unfolding cleansSent countKind sentTo
-    abort-victims = session-victims L known abortStep ac (record {
+    abort-victims = session-victims L known abortStep acts (record {
       mate-waits = λ v h ne i d k _. absurd (abort-no-mate v h ne i d k);
       own-on-cycle = λ h _ _. record { cycle = r .cycle; others = λ u k. abort-others u k (r .others u k) };
       own-waits = λ _. (r .cycle .next, r .cycle .out);
@@ -116,7 +116,7 @@ module _ {R : Rules} (L : Laws R) {w : World} (known : Known R w) (t x : ℕ) (m
 
   -- ---- clean, at another member of the cycle
   module _ (v i0 y : ℕ) (g : ℕ → Bool) (e : w .session t .stage ≡ waiting y) (reb : Sends) (cr : (u : ℕ) → cleansSent u reb ≡ 0)
-      (ac : SessionSends w t (reb ++ (y, clean v i0) ∷ []) mail) (hr : SessionTakes w t x (clean v i0) mail) (tots : (u : ℕ) → mail .total u + bit (eqb v u) ≡ w .total u + cleansSent u (reb ++ (y, clean v i0) ∷ [])) where
+      (acts : SessionSends w t (reb ++ (y, clean v i0) ∷ []) mail) (hr : SessionTakes w t x (clean v i0) mail) (tots : (u : ℕ) → mail .total u + bit (eqb v u) ≡ w .total u + cleansSent u (reb ++ (y, clean v i0) ∷ [])) where
     abbrev pub memberStep : SessionStep
     memberStep = record { after = record { stage = waiting y; held = g; stored = λ (_ : ℕ). 0 }; sends = reb ++ (y, clean v i0) ∷ [] }
 
@@ -155,7 +155,7 @@ module _ {R : Rules} (L : Laws R) {w : World} (known : Known R w) (t x : ℕ) (m
         subst (λ (b : ℕ). CleanGoesUp R w b t z) (k .1) (subst (λ (b : ℕ). CleanGoesUp R w v t b) (q ∙ sym (k .0)) c)
 
     pub member-victims : Victims R afterMember
-    member-victims = session-victims L known memberStep ac (record {
+    member-victims = session-victims L known memberStep acts (record {
       mate-waits = λ _ _ _ _ _ _ _. omega arith;
       own-on-cycle = λ h s _. absurd (omega arith);
       own-waits = λ s. absurd (omega arith);
@@ -171,7 +171,7 @@ module _ {R : Rules} (L : Laws R) {w : World} (known : Known R w) (t x : ℕ) (m
 
   -- ---- clean, back at its victim
   module _ (i0 y : ℕ) (g : ℕ → Bool) (f0 : ℕ → ℕ) (e : w .session t .stage ≡ victim y)
-      (ac : SessionSends w t ((y, withdraw) ∷ []) mail) (hr : SessionTakes w t x (clean t i0) mail) (tots : (v : ℕ) → mail .total v + bit (eqb t v) ≡ w .total v + cleansSent v ((y, withdraw) ∷ [])) where
+      (acts : SessionSends w t ((y, withdraw) ∷ []) mail) (hr : SessionTakes w t x (clean t i0) mail) (tots : (v : ℕ) → mail .total v + bit (eqb t v) ≡ w .total v + cleansSent v ((y, withdraw) ∷ [])) where
     abbrev pub returnStep : SessionStep
     returnStep = record { after = record { stage = withdrawing y; held = g; stored = f0 }; sends = (y, withdraw) ∷ [] }
 
@@ -194,7 +194,7 @@ module _ {R : Rules} (L : Laws R) {w : World} (known : Known R w) (t x : ℕ) (m
 
     pub return-victims : Victims R afterReturn
     unfolding cleansSent
-    return-victims = session-victims L known returnStep ac (record {
+    return-victims = session-victims L known returnStep acts (record {
       mate-waits = λ v h ne i d k s. absurd (omega (arith, s, ap isWaiting e));
       own-on-cycle = λ h _ d. known .victims .victim-on-cycle t h return-is-victim d;
       own-waits = λ s. absurd (omega arith);

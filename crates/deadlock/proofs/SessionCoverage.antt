@@ -23,13 +23,13 @@ use Rattle.deadlock.proofs.CoverCounts.{except-mono, sumOver-mono, sumU
 abbrev pub underWayAfter : Rules → World → Mail → Sends → ℕ → ℕ → ℕ → ℕ → ℕ
 underWayAfter R w mail out t z h i = rebroadcastDue R w z h + cleansFromOthers R w t z + countKind Kind.resend (mail .down t z) + freshProbes i (w .up t z ++ sentTo z out)
 
-module _ (R : Rules) {w : World} {t : ℕ} (o : SessionStep) {mail : Mail} (ac : SessionSends w t (o .sends) mail) where
+module _ (R : Rules) {w : World} {t : ℕ} (o : SessionStep) {mail : Mail} (acts : SessionSends w t (o .sends) mail) where
   abbrev pub after : World
   after = worldAfterSession w t (o .after) mail
 
   up-kind-grows : (k a z : ℕ) → Dec (t ≡ a) → countKind k (w .up a z) ≤ countKind k (mail .up a z)
-  up-kind-grows k a z (yes q) = rw (← q) (omega (arith, ap (countKind k) (ac .up-at z), countKind-append k (w .up t z) (sentTo z (o .sends))))
-  up-kind-grows k a z (no q) = omega (arith, ap (countKind k) (ac .up-off a z q))
+  up-kind-grows k a z (yes q) = rw (← q) (omega (arith, ap (countKind k) (acts .up-at z), countKind-append k (w .up t z) (sentTo z (o .sends))))
+  up-kind-grows k a z (no q) = omega (arith, ap (countKind k) (acts .up-off a z q))
 
   pub cleansFromQueue-grows : (z : ℕ) → cleansFromQueue R w z ≤ cleansFromQueue R after z
   unfolding cleansFromQueue
@@ -43,13 +43,13 @@ module _ (R : Rules) {w : World} {t : ℕ} (o : SessionStep) {mail : Mail} (ac :
   unfolding rebroadcastDue cleansElsewhere
   rebroadcastDue-other z h q =
       let s : sumUpTo (R .M) (except z (λ y. countKind Kind.clean (w .down h y))) ≤ sumUpTo (R .M) (except z (λ y. countKind Kind.clean (mail .down h y))) = sumUpTo-mono
-      _ _ (except-mono z _ _ (λ y _. omega (arith, ap (countKind Kind.clean) (ac .down-off h y q)))) (R .M) in
+      _ _ (except-mono z _ _ (λ y _. omega (arith, ap (countKind Kind.clean) (acts .down-off h y q)))) (R .M) in
       rw (updated-other (w .session) t (o .after) h q) (cases (w .session h .held z) s)
     where
       cases : (b : Bool) → cleansElsewhere R w h z ≤ cleansElsewhere R after h z
           → countKind Kind.rebroadcast (w .up h z) + cond b (cleansElsewhere R w h z) 0 ≤ countKind Kind.rebroadcast (mail .up h z) + cond b (cleansElsewhere R after h z) 0
-      cases true s = omega (arith, s, ap (countKind Kind.rebroadcast) (ac .up-off h z q))
-      cases false s = omega (arith, ap (countKind Kind.rebroadcast) (ac .up-off h z q))
+      cases true s = omega (arith, s, ap (countKind Kind.rebroadcast) (acts .up-off h z q))
+      cases false s = omega (arith, ap (countKind Kind.rebroadcast) (acts .up-off h z q))
 
   pub rebroadcastDue-own : (z : ℕ) → ((y : ℕ) → z ≢ y → countKind Kind.clean (w .down t y) ≤ countKind Kind.clean (mail .down t y))
       → (w .session t .held z ≡ true → o .after .held z ≡ true) → rebroadcastDue R w z t ≤ rebroadcastDue R after z t
@@ -65,7 +65,7 @@ module _ (R : Rules) {w : World} {t : ℕ} (o : SessionStep) {mail : Mail} (ac :
 
   probeReaches-other : (i z h : ℕ) → t ≢ h → probeReaches R after i z h ≡ probeReaches R w i z h
   unfolding probeReaches
-  probeReaches-other i z h q = rw (updated-other (w .session) t (o .after) h q) (ap (λ (d : List Message). freshProbes i d + unlessCleaned (countKind Kind.clean d) (stores w h i)) (ac .down-off h z q))
+  probeReaches-other i z h q = rw (updated-other (w .session) t (o .after) h q) (ap (λ (d : List Message). freshProbes i d + unlessCleaned (countKind Kind.clean d) (stores w h i)) (acts .down-off h z q))
 
   -- the clauses in which the session is the one that waits (sender) or the holder, after its step
   pub record SessionCoverage : Type 0 where
@@ -98,10 +98,10 @@ module _ (R : Rules) {w : World} {t : ℕ} (o : SessionStep) {mail : Mail} (ac :
   }
     where
       live-own : (h : ℕ) → t ≡ h → Live after h → isLive (o .after .stage) ≡ true
-      live-own h q l = sym (ap isLive (stage-own R o ac)) ∙ (ap (λ (u : ℕ). isLive (stageOf after u)) q ∙ l)
+      live-own h q l = sym (ap isLive (stage-own R o acts)) ∙ (ap (λ (u : ℕ). isLive (stageOf after u)) q ∙ l)
 
       live-off : (h : ℕ) → t ≢ h → Live after h → Live w h
-      live-off h q l = sym (ap isLive (stage-other R o ac h q)) ∙ l
+      live-off h q l = sym (ap isLive (stage-other R o acts h q)) ∙ l
 
       own-store : (a i : ℕ) → t ≡ a → stores after a i ≡ isStored (o .after .stored) i
       own-store a i q = ap (λ (u : ℕ). stores after u i) (sym q) ∙ ap (λ (r : Session). isStored (r .stored) i) (updated-same (w .session) t (o .after))
@@ -119,13 +119,13 @@ module _ (R : Rules) {w : World} {t : ℕ} (o : SessionStep) {mail : Mail} (ac :
           → R .senior i h ≡ true → Dec (t ≡ h) → Dec (t ≡ a)
           → stores after a i ≤ underWay R after a z h i + unlessCleaned (countKind Kind.clean (mail .up a z)) (probeReaches R after i z h)
       forwarded-of a z h i lo hi s e l sn (no q) (no y) =
-          let u = ac .up-off a z y in
+          let u = acts .up-off a z y in
           omega (
             arith,
             c .stored-forwarded a z h i lo hi s e (live-off h q l) sn,
             rebroadcastDue-other z h q,
             cleansFromOthers-grows a z,
-            ap (countKind Kind.resend) (ac .down-off a z y),
+            ap (countKind Kind.resend) (acts .down-off a z y),
             ap (freshProbes i) u,
             off-store a i y,
             ap (λ (d : List Message). unlessCleaned (countKind Kind.clean d) (probeReaches R after i z h))
@@ -134,7 +134,7 @@ module _ (R : Rules) {w : World} {t : ℕ} (o : SessionStep) {mail : Mail} (ac :
           )
       forwarded-of a z h i lo hi s e l sn (no q) (yes y) =
           let s2 : Queued w t z = subst (λ (b : ℕ). Queued w b z) (sym y) s in
-          let u = ac .up-at z in
+          let u = acts .up-at z in
           let g : isStored (o .after .stored) i ≤ underWay R after t z h i + unlessCleaned (countKind Kind.clean (mail .up t z)) (probeReaches R after i z h) =
           omega (
             arith,
@@ -148,14 +148,14 @@ module _ (R : Rules) {w : World} {t : ℕ} (o : SessionStep) {mail : Mail} (ac :
           let forwarded-of : stores after t i ≤ underWay R after t z h i + unlessCleaned (countKind Kind.clean (mail .up t z)) (probeReaches R after i z h) = omega (arith, g, own-store t i refl) in
           subst (λ (b : ℕ). stores after b i ≤ underWay R after b z h i + unlessCleaned (countKind Kind.clean (mail .up b z)) (probeReaches R after i z h)) y forwarded-of
       forwarded-of a z h i lo hi s e l sn (yes q) (no y) =
-          let u = ac .up-off a z y in
+          let u = acts .up-off a z y in
           let g = k .holder-forwarded a z i y lo hi s (e ∙ ap some (sym q)) (live-own h q l) (subst (λ (b : ℕ). R .senior i b ≡ true) (sym q) sn) in
           let forwarded-of : stores after a i ≤ underWay R after a z t i + unlessCleaned (countKind Kind.clean (mail .up a z))
           (probeReaches R after i z t) = omega (
             arith,
             g,
             off-store a i y,
-            ap (countKind Kind.resend) (ac .down-off a z y),
+            ap (countKind Kind.resend) (acts .down-off a z y),
             ap (freshProbes i) u,
             ap (λ (d : List Message). unlessCleaned (countKind Kind.clean d) (probeReaches R after i z t)) u,
           ) in
@@ -166,13 +166,13 @@ module _ (R : Rules) {w : World} {t : ℕ} (o : SessionStep) {mail : Mail} (ac :
       decl a d = record { cycle = d .cycle; place = d .place; walk = d .walk; how = cases (same? t (d .place)) (d .how) }
         where
           off : t ≢ d .place → VictimIn w (d .place) ⊎ AbortPending R w (d .place) → VictimIn after (d .place) ⊎ AbortPending R after (d .place)
-          off q (inl v) = inl (omega (arith, v, ap isVictim (stage-other R o ac (d .place) q)))
-          off q (inr p) = inr (record { waits = omega (arith, p .waits, ap isWaiting (stage-other R o ac (d .place) q)); item = p .item; sent = omega (arith, p .sent, ap (countKind Kind.abort) (ac .down-off (d .place) (p .item) q)) })
+          off q (inl v) = inl (omega (arith, v, ap isVictim (stage-other R o acts (d .place) q)))
+          off q (inr p) = inr (record { waits = omega (arith, p .waits, ap isWaiting (stage-other R o acts (d .place) q)); item = p .item; sent = omega (arith, p .sent, ap (countKind Kind.abort) (acts .down-off (d .place) (p .item) q)) })
 
           mine : (1 ≤ isVictim (o .after .stage)) ⊎ ((1 ≤ isWaiting (o .after .stage)) × (y : ℕ) × (1 ≤ countKind Kind.abort (mail .down t y)))
               → VictimIn after t ⊎ AbortPending R after t
-          mine (inl v) = inl (omega (arith, v, ap isVictim (stage-own R o ac)))
-          mine (inr p) = inr (record { waits = omega (arith, p .0, ap isWaiting (stage-own R o ac)); item = p .1; sent = p .2 })
+          mine (inl v) = inl (omega (arith, v, ap isVictim (stage-own R o acts)))
+          mine (inr p) = inr (record { waits = omega (arith, p .0, ap isWaiting (stage-own R o acts)); item = p .1; sent = p .2 })
 
           cases : Dec (t ≡ d .place) → VictimIn w (d .place) ⊎ AbortPending R w (d .place)
               → VictimIn after (d .place) ⊎ AbortPending R after (d .place)
@@ -190,26 +190,26 @@ module _ (R : Rules) {w : World} {t : ℕ} (o : SessionStep) {mail : Mail} (ac :
           → (stores after a h ≤ underWay R after a z h h) ⊎ CycleDeclared R after a
       initiator-of a z h lo hi s e l (no q) (no y) =
           rw (updated-other (w .session) t (o .after) a y)
-          (more a _ _ _ (omega (arith, rebroadcastDue-other z h q, cleansFromOthers-grows a z, ap (countKind Kind.resend) (ac .down-off a z y), ap (freshProbes h) (ac .up-off a z y))) (c .initiator-or-declared a z h lo hi s e (live-off h q l)))
+          (more a _ _ _ (omega (arith, rebroadcastDue-other z h q, cleansFromOthers-grows a z, ap (countKind Kind.resend) (acts .down-off a z y), ap (freshProbes h) (acts .up-off a z y))) (c .initiator-or-declared a z h lo hi s e (live-off h q l)))
       initiator-of a z h lo hi s e l (no q) (yes y) =
           let s2 : Queued w t z = subst (λ (b : ℕ). Queued w b z) (sym y) s in
           let g : (isStored (o .after .stored) h ≤ underWay R after t z h h) ⊎ CycleDeclared R after t =
           more t (underWayAfter R w mail (o .sends) t z h h) (underWay R after t z h h) (isStored (o .after .stored) h)
-          (omega (arith, rebroadcastDue-other z h q, cleansFromOthers-grows t z, ap (freshProbes h) (ac .up-at z))) (k .sender-initiator z h q lo hi s2 e (live-off h q l)) in
+          (omega (arith, rebroadcastDue-other z h q, cleansFromOthers-grows t z, ap (freshProbes h) (acts .up-at z))) (k .sender-initiator z h q lo hi s2 e (live-off h q l)) in
           let forwarded-of : (stores after t h ≤ underWay R after t z h h) ⊎ CycleDeclared R after t = subst (λ (b : ℕ). (b ≤ underWay R after t z h h) ⊎ CycleDeclared R after t) (sym (own-store t h refl)) g in
           subst (λ (b : ℕ). (stores after b h ≤ underWay R after b z h h) ⊎ CycleDeclared R after b) y forwarded-of
       initiator-of a z h lo hi s e l (yes q) (no y) =
           subst (λ (b : ℕ). (stores after a b ≤ underWay R after a z b b) ⊎ CycleDeclared R after a) q
           (rw (updated-other (w .session) t (o .after) a y)
-          (more a _ _ _ (omega (arith, ap (countKind Kind.resend) (ac .down-off a z y), ap (freshProbes t) (ac .up-off a z y))) (k .holder-initiator a z y lo hi s (e ∙ ap some (sym q)) (live-own h q l))))
+          (more a _ _ _ (omega (arith, ap (countKind Kind.resend) (acts .down-off a z y), ap (freshProbes t) (acts .up-off a z y))) (k .holder-initiator a z y lo hi s (e ∙ ap some (sym q)) (live-own h q l))))
       initiator-of a z h lo hi s e l (yes q) (yes y) = absurd (k .no-self z lo hi (subst (λ (b : ℕ). Queued w b z) (sym y) s) (e ∙ ap some (sym q)) (live-own h q l))
 
       requested-of : (a z i : ℕ) → 1 ≤ z → z ≤ R .M → 1 ≤ countKind Kind.request (mail .up a z) → Dec (t ≡ a)
           → stores after a i ≤ freshProbes i (behindRequest (mail .up a z))
-      requested-of a z i lo hi p (no q) = let u = ac .up-off a z q in omega (arith, c .stored-requested a z i lo hi (omega (arith, p, ap (countKind Kind.request) u)), off-store a i q, ap (λ (d : List Message). freshProbes i (behindRequest d)) u)
+      requested-of a z i lo hi p (no q) = let u = acts .up-off a z q in omega (arith, c .stored-requested a z i lo hi (omega (arith, p, ap (countKind Kind.request) u)), off-store a i q, ap (λ (d : List Message). freshProbes i (behindRequest d)) u)
       requested-of a z i lo hi p (yes q) =
           let p2 : 1 ≤ countKind Kind.request (mail .up t z) = subst (λ (b : ℕ). 1 ≤ countKind Kind.request (mail .up b z)) (sym q) p in
-          let u = ac .up-at z in
+          let u = acts .up-at z in
           let g : stores after t i ≤ freshProbes i (behindRequest (mail .up t z)) = omega (
             arith,
             k .sender-requested z i lo hi (omega (arith, p2, ap (countKind Kind.request) u)),
@@ -219,7 +219,7 @@ module _ (R : Rules) {w : World} {t : ℕ} (o : SessionStep) {mail : Mail} (ac :
           subst (λ (b : ℕ). stores after b i ≤ freshProbes i (behindRequest (mail .up b z))) q g
 
       none-of : (a i : ℕ) → VictimIn after a → Dec (t ≡ a) → after .session a .stored i ≡ 0
-      none-of a i s (no q) = ap (λ (r : Session). r .stored i) (updated-other (w .session) t (o .after) a q) ∙ c .victim-stores-none a i (omega (arith, s, ap isVictim (stage-other R o ac a q)))
+      none-of a i s (no q) = ap (λ (r : Session). r .stored i) (updated-other (w .session) t (o .after) a q) ∙ c .victim-stores-none a i (omega (arith, s, ap isVictim (stage-other R o acts a q)))
       none-of a i s (yes q) = ap (λ (u : ℕ). after .session u .stored i)
           (sym q) ∙ (ap (λ (r : Session). r .stored i) (updated-same (w .session) t (o .after)) ∙ k .sender-none i
-          (omega (arith, s, ap isVictim (stage-own R o ac), ap (λ (u : ℕ). isVictim (stageOf after u)) q)))
+          (omega (arith, s, ap isVictim (stage-own R o acts), ap (λ (u : ℕ). isVictim (stageOf after u)) q)))

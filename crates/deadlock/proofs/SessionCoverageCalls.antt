@@ -26,7 +26,7 @@ module _ {R : Rules} (L : Laws R) {w : World} (known : Known R w) (tr : Probes R
 
   pub request-call-covered : (1 ≤ t) × (t ≤ R .S) → (x : ℕ) (s : Stage) → w .session t .stage ≡ s → CallCovered (onRequestCall R x (w .session t) s)
   unfolding onRequestCall storedProbes probeReaches sentTo countKind behindRequest
-  request-call-covered tr0 x growing e = by-test CallCovered (w .session t .held x) _ _ (λ _. tt) (λ _ ac q. asked-cover ac q)
+  request-call-covered tr0 x growing e = by-test CallCovered (w .session t .held x) _ _ (λ _. tt) (λ _ acts q. asked-cover acts q)
     where
       out : Sends
       out = (x, request) ∷ probesFrom (w .session t .stored) x (oneTo (R .S))
@@ -38,7 +38,7 @@ module _ {R : Rules} (L : Laws R) {w : World} (known : Known R w) (tr : Probes R
       no-here z = ap (λ (b : Stage). awaits (seenFrom b z)) e
 
       asked-cover : SessionSends w t out mail → ((z : ℕ) → mail .down t z ≡ w .down t z) → Coverage R (worldAfterSession w t (o .after) mail)
-      asked-cover ac q = plain-coverage L known tr cov rg t mail o ac (λ y. ap (countKind Kind.clean) (q y)) (λ _. ap isLive e) (λ _ z k. k)
+      asked-cover acts q = plain-coverage L known tr cov rg t mail o acts (λ y. ap (countKind Kind.clean) (q y)) (λ _. ap isLive e) (λ _ z k. k)
           (λ _ i z. probeOf-some (freshProbes i (w .down t z) + unlessCleaned (countKind Kind.clean (w .down t z)) (stores w t i)) _
           (rw updated-same (omega (arith, ap (λ (d : List Message). freshProbes i d + unlessCleaned (countKind Kind.clean d) (stores w t i)) (q z)))))
           (λ z h i lo hi s. absurd (growing-not-queued L known tr cov rg t mail z lo hi (no-here z) .0 s))
@@ -82,7 +82,7 @@ module _ {R : Rules} (L : Laws R) {w : World} (known : Known R w) (tr : Probes R
 
   release-held-covered : (x : ℕ) → isVictim (stageOf w t) ≡ 0 → isWaiting (stageOf w t) ≡ 0 → CallCovered (releaseHeld R x (w .session t))
   unfolding releaseHeld
-  release-held-covered x vz tz = by-test CallCovered (w .session t .held x) _ _ (λ _ ac q. no-probe-coverage L known tr cov rg t mail _ ac refl (λ _. refl) (λ _. declared-still)) (λ _. tt)
+  release-held-covered x vz tz = by-test CallCovered (w .session t .held x) _ _ (λ _ acts q. no-probe-coverage L known tr cov rg t mail _ acts refl (λ _. refl) (λ _. declared-still)) (λ _. tt)
     where
       declared-still : VictimIn w t ⊎ AbortPending R w t
           → (1 ≤ isVictim shrinking) ⊎ ((1 ≤ isWaiting shrinking) × (y : ℕ) × (1 ≤ countKind Kind.abort (mail .down t y)))

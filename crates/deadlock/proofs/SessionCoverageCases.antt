@@ -56,7 +56,7 @@ module _ {R : Rules} (L : Laws R) {w : World} (known : Known R w) (tr : Probes R
   initiator-in-range z i s l ne = initiator-of i (rg .queue z t s) l ne
 
   -- ---- steps that take no clean
-  module _ (o : SessionStep) (ac : SessionSends w t (o .sends) mail) (d4 : (y : ℕ) → countKind Kind.clean (mail .down t y) ≡ countKind Kind.clean (w .down t y)) (lb : isLive (o .after .stage) ≡ true → Live w t)
+  module _ (o : SessionStep) (acts : SessionSends w t (o .sends) mail) (d4 : (y : ℕ) → countKind Kind.clean (mail .down t y) ≡ countKind Kind.clean (w .down t y)) (lb : isLive (o .after .stage) ≡ true → Live w t)
       (hm : isLive (o .after .stage) ≡ true → (z : ℕ) → w .session t .held z ≡ true → o .after .held z ≡ true)
       (gm : isLive (o .after .stage) ≡ true → (i z : ℕ) → (probeReaches R w i z t ≡ 0) ⊎ (1 ≤ probeReaches R (worldAfterSession w t (o .after) mail) i z t)) where
     abbrev pub after : World
@@ -78,16 +78,16 @@ module _ {R : Rules} (L : Laws R) {w : World} (known : Known R w) (tr : Probes R
         → (isStored (o .after .stored) h ≤ underWayAfter R w mail (o .sends) t z h h) ⊎ CycleDeclared R w t)
         → (FirstApart (Edge R w) t t → VictimIn w t ⊎ AbortPending R w t → (1 ≤ isVictim (o .after .stage)) ⊎ ((1 ≤ isWaiting (o .after .stage)) × (y : ℕ) × (1 ≤ countKind Kind.abort (mail .down t y))))
         → Covered o
-    plain-coverage t2 t4 t7 t3 ds = session-coverage R o ac (known .links) cov (record {
-      holder-initiator = λ a z ne lo hi s e l. three a (underWay R w a z t t) _ _ (omega (arith, due l z, cleansFromOthers-grows R o ac a z)) (cov .initiator-or-declared a z t lo hi s e (lb l));
+    plain-coverage t2 t4 t7 t3 ds = session-coverage R o acts (known .links) cov (record {
+      holder-initiator = λ a z ne lo hi s e l. three a (underWay R w a z t t) _ _ (omega (arith, due l z, cleansFromOthers-grows R o acts a z)) (cov .initiator-or-declared a z t lo hi s e (lb l));
       sender-initiator = λ z h _. t3 z h;
       declared-still = ds;
       holder-own = λ a z lo hi s e l sn. covers-one (rebroadcastDue R w z t + cleansFromQueue R w z) (probeReaches R w a z t) (probeReaches R after a z t)
           (rebroadcastDue R after z t + cleansFromQueue R after z) (cov .own-probe a z t lo hi s e (lb l) sn) (gm l a z)
-          (omega (arith, due l z, cleansFromQueue-grows R o ac z));
+          (omega (arith, due l z, cleansFromQueue-grows R o acts z));
       holder-forwarded = λ a z i ne lo hi s e l sn. covers-two (stores w a i) (underWay R w a z t i) (countKind Kind.clean (w .up a z)) (probeReaches R w i z t)
           (probeReaches R after i z t) (rebroadcastDue R after z t + cleansFromOthers R after a z + countKind Kind.resend (w .down a z) + freshProbes i (w .up a z))
-          (bit-le (not (eqb (w .session a .stored i) 0))) (cov .stored-forwarded a z t i lo hi s e (lb l) sn) (gm l i z) (omega (arith, due l z, cleansFromOthers-grows R o ac a z));
+          (bit-le (not (eqb (w .session a .stored i) 0))) (cov .stored-forwarded a z t i lo hi s e (lb l) sn) (gm l i z) (omega (arith, due l z, cleansFromOthers-grows R o acts a z));
       sender-forwarded = λ z h i _. t2 z h i;
       no-self = λ z lo hi s e l. no-self-edge (known .links) t (record { item = z; low = lo; high = hi; stands = s; held = e }) (lb l);
       sender-requested = t4;
@@ -99,13 +99,13 @@ module _ {R : Rules} (L : Laws R) {w : World} (known : Known R w) (tr : Probes R
         three a p q b l (inr d) = inr d
 
         due : isLive (o .after .stage) ≡ true → (z : ℕ) → rebroadcastDue R w z t ≤ rebroadcastDue R after z t
-        due l z = rebroadcastDue-own R o ac z (λ y _. omega (arith, d4 y)) (hm l z)
+        due l z = rebroadcastDue-own R o acts z (λ y _. omega (arith, d4 y)) (hm l z)
 
   -- no longer live, and nothing stored
   pub no-probe-coverage : (o : SessionStep) → SessionSends w t (o .sends) mail → isLive (o .after .stage) ≡ false → ((i : ℕ) → o .after .stored i ≡ 0)
       → (FirstApart (Edge R w) t t → VictimIn w t ⊎ AbortPending R w t → (1 ≤ isVictim (o .after .stage)) ⊎ ((1 ≤ isWaiting (o .after .stage)) × (y : ℕ) × (1 ≤ countKind Kind.abort (mail .down t y))))
       → Covered o
-  no-probe-coverage o ac d z ds = session-coverage R o ac (known .links) cov (record {
+  no-probe-coverage o acts d z ds = session-coverage R o acts (known .links) cov (record {
     holder-initiator = λ a y _ _ _ _ _ l. absurd (true≢false (sym l ∙ d));
     sender-initiator = λ y h _ _ _ _ _ _. inl (omega (arith, isStored-zero (o .after .stored) h (z h)));
     declared-still = ds;
@@ -166,7 +166,7 @@ module _ {R : Rules} (L : Laws R) {w : World} (known : Known R w) (tr : Probes R
         → (FirstApart (Edge R w) t t → VictimIn w t ⊎ AbortPending R w t → (1 ≤ isVictim s) ⊎ ((1 ≤ isWaiting s) × (y : ℕ) × (1 ≤ countKind Kind.abort (mail .down t y))))
         → Covered (record { after = record { stage = s; held = g; stored = w .session t .stored }; sends = [] })
     unfolding sentTo
-    quiet-coverage s g ac n4 np lb vc hm d8 ds = plain-coverage (record { after = record { stage = s; held = g; stored = w .session t .stored }; sends = [] }) ac
+    quiet-coverage s g acts n4 np lb vc hm d8 ds = plain-coverage (record { after = record { stage = s; held = g; stored = w .session t .stored }; sends = [] }) acts
         (λ y. down-kind-same Kind.clean y n4) lb (λ _. hm)
         (λ l i z. probeOf-some (probeReaches R w i z t) _ (probeReaches-same
         (record { after = record { stage = s; held = g; stored = w .session t .stored }; sends = [] }) n4 i z (np l i) (omega arith)))
@@ -197,7 +197,7 @@ module _ {R : Rules} (L : Laws R) {w : World} (known : Known R w) (tr : Probes R
 
     drop-covered : SessionSends w t [] mail → (eqb (kindOf m) Kind.abort ≡ false) ⊎ (isWaiting (stageOf w t) ≡ 0) → eqb (kindOf m) Kind.clean ≡ false
         → eqb (kindOf m) Kind.resend ≡ false → (Live w t → (i : ℕ) → probeOf i m ≡ 0) → Covered (sessionDrops (w .session t))
-    drop-covered ac n9 n4 n8 np = quiet-coverage (stageOf w t) (w .session t .held) ac n4 np (λ l. l) (omega arith) (λ z e. e) (λ z i lo′ hi′ s. inr (omega (arith, down-kind-same Kind.resend z n8))) (declared-same n9)
+    drop-covered acts n9 n4 n8 np = quiet-coverage (stageOf w t) (w .session t .held) acts n4 np (λ l. l) (omega arith) (λ z e. e) (λ z i lo′ hi′ s. inr (omega (arith, down-kind-same Kind.resend z n8))) (declared-same n9)
 
   module _ (x : ℕ) (lo : 1 ≤ x) (hi : x ≤ R .M) where
     abbrev pub CoverHeard : Message → SessionStep → Type 0
@@ -205,23 +205,23 @@ module _ {R : Rules} (L : Laws R) {w : World} (known : Known R w) (tr : Probes R
 
     cover-grant : (s : Stage) → w .session t .stage ≡ s → CoverHeard grant (onGrant R x (w .session t) s)
     unfolding onGrant
-    cover-grant growing e ac hr = drop-covered x lo hi grant hr ac (inl refl) refl refl (λ _ _. refl)
-    cover-grant shrinking e ac hr = drop-covered x lo hi grant hr ac (inl refl) refl refl (λ _ _. refl)
-    cover-grant rolledBack e ac hr = drop-covered x lo hi grant hr ac (inl refl) refl refl (λ _ _. refl)
-    cover-grant (victim y) e ac hr = drop-covered x lo hi grant hr ac (inl refl) refl refl (λ _ _. refl)
-    cover-grant (withdrawing y) e ac hr = drop-covered x lo hi grant hr ac (inl refl) refl refl (λ _ _. refl)
-    cover-grant (waiting y) e ac hr = by-test (CoverHeard grant) (eqb y x) _ _
-        (λ q ac hr. quiet-coverage x lo hi grant hr growing (updated (w .session t .held) x true) ac refl (λ _ _. refl) (λ _. ap isLive e) (omega arith)
+    cover-grant growing e acts hr = drop-covered x lo hi grant hr acts (inl refl) refl refl (λ _ _. refl)
+    cover-grant shrinking e acts hr = drop-covered x lo hi grant hr acts (inl refl) refl refl (λ _ _. refl)
+    cover-grant rolledBack e acts hr = drop-covered x lo hi grant hr acts (inl refl) refl refl (λ _ _. refl)
+    cover-grant (victim y) e acts hr = drop-covered x lo hi grant hr acts (inl refl) refl refl (λ _ _. refl)
+    cover-grant (withdrawing y) e acts hr = drop-covered x lo hi grant hr acts (inl refl) refl refl (λ _ _. refl)
+    cover-grant (waiting y) e acts hr = by-test (CoverHeard grant) (eqb y x) _ _
+        (λ q acts hr. quiet-coverage x lo hi grant hr growing (updated (w .session t .held) x true) acts refl (λ _ _. refl) (λ _. ap isLive e) (omega arith)
         (λ z k. elim (same? x z) [ yes p ↦ rw (← p, updated-same) | no p ↦ updated-other (w .session t .held) x true z p ∙ k ])
         (λ z i lo′ hi′ s. inr (omega (arith, down-kind-same x lo hi grant hr Kind.resend z refl)))
         (λ g _. absurd (no-grant-queued (known .links) lo hi (hr .head) (g .next) (g .out))))
-        (λ q ac hr. drop-covered x lo hi grant hr ac (inl refl) refl refl (λ _ _. refl)) ac hr
+        (λ q acts hr. drop-covered x lo hi grant hr acts (inl refl) refl refl (λ _ _. refl)) acts hr
 
     -- ---- resend
     cover-drop-resend : SessionSends w t [] mail → SessionTakes w t x resend mail
         → ((z i : ℕ) → 1 ≤ z → z ≤ R .M → Queued w t z → (stores w t i ≡ 0) ⊎ (x ≢ z))
         → Covered (sessionDrops (w .session t))
-    cover-drop-resend ac hr f = quiet-coverage x lo hi resend hr (stageOf w t) (w .session t .held) ac refl (λ _ _. refl) (λ l. l) (omega arith) (λ z e. e) (λ z i lo′ hi′ s. cases z i (f z i lo′ hi′ s)) (declared-same x lo hi resend hr (inl refl))
+    cover-drop-resend acts hr f = quiet-coverage x lo hi resend hr (stageOf w t) (w .session t .held) acts refl (λ _ _. refl) (λ l. l) (omega arith) (λ z e. e) (λ z i lo′ hi′ s. cases z i (f z i lo′ hi′ s)) (declared-same x lo hi resend hr (inl refl))
       where
         cases : (z i : ℕ) → (stores w t i ≡ 0) ⊎ (x ≢ z)
             → (stores w t i ≡ 0) ⊎ (countKind Kind.resend (w .down t z) ≤ countKind Kind.resend (mail .down t z))
@@ -234,7 +234,7 @@ module _ {R : Rules} (L : Laws R) {w : World} (known : Known R w) (tr : Probes R
 
     resent-coverage : (y : ℕ) → w .session t .stage ≡ waiting y → y ≡ x → SessionSends w t (probesFrom (w .session t .stored) x (oneTo (R .S))) mail → SessionTakes w t x
         resend mail → Covered (record { after = w .session t; sends = probesFrom (w .session t .stored) x (oneTo (R .S)) })
-    resent-coverage y e q ac hr = plain-coverage o ac (λ k. down-kind-same x lo hi resend hr Kind.clean k refl) (λ l. l) (λ _ z k. k)
+    resent-coverage y e q acts hr = plain-coverage o acts (λ k. down-kind-same x lo hi resend hr Kind.clean k refl) (λ l. l) (λ _ z k. k)
         (λ l i z. probeOf-some _ _ (probeReaches-same x lo hi resend hr o refl i z refl (omega arith))) forwarded requested (λ i v. cov .victim-stores-none t i v)
         initiator (declared-same x lo hi resend hr (inl refl))
       where
@@ -283,20 +283,20 @@ module _ {R : Rules} (L : Laws R) {w : World} (known : Known R w) (tr : Probes R
 
     cover-resend : (s : Stage) → w .session t .stage ≡ s → CoverHeard resend (onResend R x (w .session t) s)
     unfolding onResend storedProbes
-    cover-resend growing e ac hr = cover-drop-resend ac hr (resend-nowhere growing e (λ _. refl))
-    cover-resend shrinking e ac hr = cover-drop-resend ac hr (resend-nowhere shrinking e (λ _. refl))
-    cover-resend rolledBack e ac hr = cover-drop-resend ac hr (resend-nowhere rolledBack e (λ _. refl))
-    cover-resend (victim y) e ac hr = cover-drop-resend ac hr (λ z i _ _ _. inl (isStored-zero (w .session t .stored) i (cov .victim-stores-none t i (omega (arith, ap isVictim e)))))
-    cover-resend (withdrawing y) e ac hr = cover-drop-resend ac hr (λ z i _ _ _. inl (isStored-zero (w .session t .stored) i (cov .victim-stores-none t i (omega (arith, ap isVictim e)))))
-    cover-resend (waiting y) e ac hr = cases (eqb y x) refl ac
+    cover-resend growing e acts hr = cover-drop-resend acts hr (resend-nowhere growing e (λ _. refl))
+    cover-resend shrinking e acts hr = cover-drop-resend acts hr (resend-nowhere shrinking e (λ _. refl))
+    cover-resend rolledBack e acts hr = cover-drop-resend acts hr (resend-nowhere rolledBack e (λ _. refl))
+    cover-resend (victim y) e acts hr = cover-drop-resend acts hr (λ z i _ _ _. inl (isStored-zero (w .session t .stored) i (cov .victim-stores-none t i (omega (arith, ap isVictim e)))))
+    cover-resend (withdrawing y) e acts hr = cover-drop-resend acts hr (λ z i _ _ _. inl (isStored-zero (w .session t .stored) i (cov .victim-stores-none t i (omega (arith, ap isVictim e)))))
+    cover-resend (waiting y) e acts hr = cases (eqb y x) refl acts
       where
         off : eqb y x ≡ false → (z i : ℕ) → 1 ≤ z → z ≤ R .M → Queued w t z → (stores w t i ≡ 0) ⊎ (x ≢ z)
         off q z i lo′ hi′ p = inr (λ k. eqb-false y x q (bit-eqb y z (let f = known .links .linked t z lo′ hi′ in omega (arith, p, ap (λ (b : Stage). awaits (seenFrom b z)) e)) ∙ sym k))
 
         cases : (b : Bool) → eqb y x ≡ b → SessionSends w t (cond b (probesFrom (w .session t .stored) x (oneTo (R .S))) []) mail
             → Coverage R (worldAfterSession w t (w .session t) mail)
-        cases true q ac = resent-coverage y e (eqb-true y x q) ac hr
-        cases false q ac = cover-drop-resend ac hr (off q)
+        cases true q acts = resent-coverage y e (eqb-true y x q) acts hr
+        cases false q acts = cover-drop-resend acts hr (off q)
 
     -- ---- probe: what is stored is not 0
     junior-positive : (i j : ℕ) → SessionTakes w t x (probe i j) mail → Live w t → junior R j t ≢ 0
@@ -354,7 +354,7 @@ module _ {R : Rules} (L : Laws R) {w : World} (known : Known R w) (tr : Probes R
         → ((z : ℕ) → countKind Kind.request (sentTo z out) ≡ 0)
         → ((k z : ℕ) → 1 ≤ z → z ≤ R .M → 1 ≤ awaits (seenFrom (stageOf w t) z) → isStored f k ≤ stores w t k + freshProbes k (sentTo z out))
         → SessionSends w t out mail → Covered (record { after = record { stage = w .session t .stage; held = w .session t .held; stored = f }; sends = out })
-    probe-kept i j f out l hr ne hs nc nr up ac = plain-coverage o ac (λ y. down-kind-same x lo hi (probe i j) hr Kind.clean y refl) (λ k. k) (λ _ z k. k) (λ _ k z. probe-reached i j f out hr ne hs k z)
+    probe-kept i j f out l hr ne hs nc nr up acts = plain-coverage o acts (λ y. down-kind-same x lo hi (probe i j) hr Kind.clean y refl) (λ k. k) (λ _ z k. k) (λ _ k z. probe-reached i j f out hr ne hs k z)
         (λ z h k lo′ hi′ p e lh sn. let y = up k z lo′ hi′ (let q = known .links .linked t z lo′ hi′ in omega (arith, p)) in omega (
           arith,
           y,
@@ -385,23 +385,23 @@ module _ {R : Rules} (L : Laws R) {w : World} (known : Known R w) (tr : Probes R
         → CoverHeard (probe i j) (storeProbe R (w .session t) i (junior R j t) out)
     unfolding storeProbe sentTo cleansSent countKind
     cover-storeProbe i j out l nc nr up = by-test (CoverHeard (probe i j)) (isNews R (w .session t .stored) i (junior R j t)) _ _
-        (λ q ac hr. let f = updated (w .session t .stored) i (junior R j t) in let ne = junior-positive i j hr l in
+        (λ q acts hr. let f = updated (w .session t .stored) i (junior R j t) in let ne = junior-positive i j hr l in
         probe-kept i j f out l hr (λ z. ne (sym (updated-same (w .session t .stored) i (junior R j t)) ∙ z)) (λ k. isStored-updated (w .session t .stored) i (junior R j t) k ne) nc nr
         (λ k z lo′ hi′ h. elim (same? i k) [
           | yes p ↦ omega (arith, bit-le (not (eqb (f k) 0)), subst (λ (b : ℕ). 1 ≤ freshProbes b (sentTo z out)) p (up z h))
           | no p ↦ omega (arith, ap (λ (b : ℕ). bit (not (eqb b 0))) (updated-other (w .session t .stored) i (junior R j t) k p))
-        ]) ac)
-        (λ q ac hr. probe-kept i j (w .session t .stored) [] l hr (isNews-not (w .session t .stored) i (junior R j t) q) (λ k. omega arith) (λ v. refl) (λ z. refl) (λ k z _ _ _. omega arith) ac)
+        ]) acts)
+        (λ q acts hr. probe-kept i j (w .session t .stored) [] l hr (isNews-not (w .session t .stored) i (junior R j t) q) (λ k. omega arith) (λ v. refl) (λ z. refl) (λ k z _ _ _. omega arith) acts)
 
     cover-probe : (i j : ℕ) (s : Stage) → w .session t .stage ≡ s → CoverHeard (probe i j) (onProbe R t (w .session t) i j s)
     unfolding onProbe cleansSent sentTo countKind freshProbes unlessCleaned
     cover-probe i j growing e = cover-storeProbe i j [] (ap isLive e) (λ v. refl) (λ z. refl) (λ z h. absurd (omega (arith, h, ap (λ (b : Stage). awaits (seenFrom b z)) e)))
     cover-probe i j (waiting y) e = cover-storeProbe i j ((y, probe i (junior R j t)) ∷ []) (ap isLive e) (λ v. omega arith) (λ z. by-test (λ (q : List Message). countKind Kind.request q ≡ 0) (eqb z y) _ _ (λ _. omega arith) (λ _. refl))
         (λ z h. let q : y ≡ z = bit-eqb y z (omega (arith, h, ap (λ (b : Stage). awaits (seenFrom b z)) e)) in rw (← q, eqb-self) (omega (arith, ap bit (eqb-self i))))
-    cover-probe i j shrinking e = λ ac hr. drop-covered x lo hi (probe i j) hr ac (inl refl) refl refl (λ l. absurd (true≢false (sym l ∙ ap isLive e)))
-    cover-probe i j rolledBack e = λ ac hr. drop-covered x lo hi (probe i j) hr ac (inl refl) refl refl (λ l. absurd (true≢false (sym l ∙ ap isLive e)))
-    cover-probe i j (victim y) e = λ ac hr. drop-covered x lo hi (probe i j) hr ac (inl refl) refl refl (λ l. absurd (true≢false (sym l ∙ ap isLive e)))
-    cover-probe i j (withdrawing y) e = λ ac hr. drop-covered x lo hi (probe i j) hr ac (inl refl) refl refl (λ l. absurd (true≢false (sym l ∙ ap isLive e)))
+    cover-probe i j shrinking e = λ acts hr. drop-covered x lo hi (probe i j) hr acts (inl refl) refl refl (λ l. absurd (true≢false (sym l ∙ ap isLive e)))
+    cover-probe i j rolledBack e = λ acts hr. drop-covered x lo hi (probe i j) hr acts (inl refl) refl refl (λ l. absurd (true≢false (sym l ∙ ap isLive e)))
+    cover-probe i j (victim y) e = λ acts hr. drop-covered x lo hi (probe i j) hr acts (inl refl) refl refl (λ l. absurd (true≢false (sym l ∙ ap isLive e)))
+    cover-probe i j (withdrawing y) e = λ acts hr. drop-covered x lo hi (probe i j) hr acts (inl refl) refl refl (λ l. absurd (true≢false (sym l ∙ ap isLive e)))
 
     withdrawing-elsewhere : (d : List Message) → w .down t x ≡ withdrawn ∷ d → (h : ℕ) → Edge R w t h → ⊥
     unfolding countKind
@@ -415,21 +415,21 @@ module _ {R : Rules} (L : Laws R) {w : World} (known : Known R w) (tr : Probes R
 
     cover-withdrawn : (s : Stage) → w .session t .stage ≡ s → CoverHeard withdrawn (onWithdrawn R (w .session t) s)
     unfolding onWithdrawn
-    cover-withdrawn growing e ac hr = drop-covered x lo hi withdrawn hr ac (inl refl) refl refl (λ _ _. refl)
-    cover-withdrawn shrinking e ac hr = drop-covered x lo hi withdrawn hr ac (inl refl) refl refl (λ _ _. refl)
-    cover-withdrawn rolledBack e ac hr = drop-covered x lo hi withdrawn hr ac (inl refl) refl refl (λ _ _. refl)
-    cover-withdrawn (waiting y) e ac hr = drop-covered x lo hi withdrawn hr ac (inl refl) refl refl (λ _ _. refl)
-    cover-withdrawn (victim y) e ac hr = drop-covered x lo hi withdrawn hr ac (inl refl) refl refl (λ _ _. refl)
-    cover-withdrawn (withdrawing y) e ac hr = no-probe-coverage _ ac refl (λ i. cov .victim-stores-none t i (omega (arith, ap isVictim e))) (λ g _. absurd (withdrawing-elsewhere (mail .down t x) (hr .head) (g .next) (g .out)))
+    cover-withdrawn growing e acts hr = drop-covered x lo hi withdrawn hr acts (inl refl) refl refl (λ _ _. refl)
+    cover-withdrawn shrinking e acts hr = drop-covered x lo hi withdrawn hr acts (inl refl) refl refl (λ _ _. refl)
+    cover-withdrawn rolledBack e acts hr = drop-covered x lo hi withdrawn hr acts (inl refl) refl refl (λ _ _. refl)
+    cover-withdrawn (waiting y) e acts hr = drop-covered x lo hi withdrawn hr acts (inl refl) refl refl (λ _ _. refl)
+    cover-withdrawn (victim y) e acts hr = drop-covered x lo hi withdrawn hr acts (inl refl) refl refl (λ _ _. refl)
+    cover-withdrawn (withdrawing y) e acts hr = no-probe-coverage _ acts refl (λ i. cov .victim-stores-none t i (omega (arith, ap isVictim e))) (λ g _. absurd (withdrawing-elsewhere (mail .down t x) (hr .head) (g .next) (g .out)))
 
     cover-abort : (v i : ℕ) (s : Stage) → w .session t .stage ≡ s → CoverHeard (abort v i) (onAbort R (w .session t) v i s)
     unfolding onAbort
-    cover-abort v i growing e ac hr = drop-covered x lo hi (abort v i) hr ac (inr (ap isWaiting e)) refl refl (λ _ _. refl)
-    cover-abort v i shrinking e ac hr = drop-covered x lo hi (abort v i) hr ac (inr (ap isWaiting e)) refl refl (λ _ _. refl)
-    cover-abort v i rolledBack e ac hr = drop-covered x lo hi (abort v i) hr ac (inr (ap isWaiting e)) refl refl (λ _ _. refl)
-    cover-abort v i (waiting y) e ac hr = no-probe-coverage _ ac refl (λ _. refl) (λ _ _. inl (omega arith))
-    cover-abort v i (victim y) e ac hr = drop-covered x lo hi (abort v i) hr ac (inr (ap isWaiting e)) refl refl (λ _ _. refl)
-    cover-abort v i (withdrawing y) e ac hr = drop-covered x lo hi (abort v i) hr ac (inr (ap isWaiting e)) refl refl (λ _ _. refl)
+    cover-abort v i growing e acts hr = drop-covered x lo hi (abort v i) hr acts (inr (ap isWaiting e)) refl refl (λ _ _. refl)
+    cover-abort v i shrinking e acts hr = drop-covered x lo hi (abort v i) hr acts (inr (ap isWaiting e)) refl refl (λ _ _. refl)
+    cover-abort v i rolledBack e acts hr = drop-covered x lo hi (abort v i) hr acts (inr (ap isWaiting e)) refl refl (λ _ _. refl)
+    cover-abort v i (waiting y) e acts hr = no-probe-coverage _ acts refl (λ _. refl) (λ _ _. inl (omega arith))
+    cover-abort v i (victim y) e acts hr = drop-covered x lo hi (abort v i) hr acts (inr (ap isWaiting e)) refl refl (λ _ _. refl)
+    cover-abort v i (withdrawing y) e acts hr = drop-covered x lo hi (abort v i) hr acts (inr (ap isWaiting e)) refl refl (λ _ _. refl)
 
     -- ---- clean, at a member that waits
     member-coverage : (v i y : ℕ) → w .session t .stage ≡ waiting y → (h0 : ℕ) → Edge R w t h0 → (out : Sends)
@@ -437,7 +437,7 @@ module _ {R : Rules} (L : Laws R) {w : World} (known : Known R w) (tr : Probes R
         → SessionSends w t out mail → SessionTakes w t x (clean v i) mail
         → Covered (record { after = record { stage = w .session t .stage; held = w .session t .held; stored = λ (_ : ℕ). 0 }; sends = out })
     unfolding heldBy probeReaches countKind rebroadcastDue
-    member-coverage v i y e h0 d out reb ac hr = session-coverage R o ac (known .links) cov (record {
+    member-coverage v i y e h0 d out reb acts hr = session-coverage R o acts (known .links) cov (record {
       holder-initiator = λ a z _ lo′ hi′ s eh l. three a z lo′ hi′ s eh (same? x z);
       sender-initiator = λ _ _ _ _ _ _ _ _. inl (omega arith);
       declared-still = declared-same x lo hi (clean v i) hr (inl refl);
@@ -477,10 +477,10 @@ module _ {R : Rules} (L : Laws R) {w : World} (known : Known R w) (tr : Probes R
                     absurd (omega (arith, k, seen-facts (seenFrom (stageOf w t) z)))
 
         far : (z : ℕ) → 1 ≤ z → z ≤ R .M → HolderIs w z t → x ≢ z → 1 ≤ rebroadcastDue R cleaned z t
-        far z lo′ hi′ eh q = omega (arith, reb z lo′ hi′ q (mask z lo′ hi′ eh), ap (countKind Kind.rebroadcast) (ac .up-at z), countKind-append Kind.rebroadcast (w .up t z) (sentTo z out))
+        far z lo′ hi′ eh q = omega (arith, reb z lo′ hi′ q (mask z lo′ hi′ eh), ap (countKind Kind.rebroadcast) (acts .up-at z), countKind-append Kind.rebroadcast (w .up t z) (sentTo z out))
 
         due : rebroadcastDue R w x t ≤ rebroadcastDue R cleaned x t
-        due = rebroadcastDue-own R o ac x (λ b q. omega (arith, ap (countKind Kind.clean) (hr .down-else b q))) (λ k. k)
+        due = rebroadcastDue-own R o acts x (λ b q. omega (arith, ap (countKind Kind.clean) (hr .down-else b q))) (λ k. k)
 
         reaches : (k : ℕ) → probeReaches R w k x t ≤ probeReaches R cleaned k x t
         reaches k = omega (arith, ap (freshProbes k) (hr .head), freshProbes-skip k (clean v i) (mail .down t x) refl, unlessCleaned-shut (countKind Kind.clean (w .down t x)) (stores w t k) (omega (arith, ap (countKind Kind.clean) (hr .head))))
@@ -489,7 +489,7 @@ module _ {R : Rules} (L : Laws R) {w : World} (known : Known R w) (tr : Probes R
             → 1 ≤ rebroadcastDue R cleaned z t + cleansFromQueue R cleaned z + probeReaches R cleaned a z t
         one a z lo′ hi′ s eh sn (no q) = omega (arith, far z lo′ hi′ eh q)
         one a z lo′ hi′ s eh sn (yes q) = subst (λ (b : ℕ). 1 ≤ rebroadcastDue R cleaned b t + cleansFromQueue R cleaned b + probeReaches R cleaned a b t) q
-            (omega (arith, cov .own-probe a x t lo hi (subst (λ (b : ℕ). Queued w a b) (sym q) s) (subst (λ (b : ℕ). w .item b .holder ≡ some t) (sym q) eh) live-now sn, due, cleansFromQueue-grows R o ac x, reaches a))
+            (omega (arith, cov .own-probe a x t lo hi (subst (λ (b : ℕ). Queued w a b) (sym q) s) (subst (λ (b : ℕ). w .item b .holder ≡ some t) (sym q) eh) live-now sn, due, cleansFromQueue-grows R o acts x, reaches a))
 
         three : (a z : ℕ) → 1 ≤ z → z ≤ R .M → Queued w a z → HolderIs w z t → Dec (x ≡ z)
             → (stores w a t ≤ rebroadcastDue R cleaned z t + cleansFromOthers R cleaned a z + countKind Kind.resend (w .down a z) + freshProbes t (w .up a z)) ⊎ CycleDeclared R w a
@@ -499,7 +499,7 @@ module _ {R : Rules} (L : Laws R) {w : World} (known : Known R w) (tr : Probes R
           where
             cases : (stores w a t ≤ underWay R w a x t t) ⊎ CycleDeclared R w a
                 → (stores w a t ≤ rebroadcastDue R cleaned x t + cleansFromOthers R cleaned a x + countKind Kind.resend (w .down a x) + freshProbes t (w .up a x)) ⊎ CycleDeclared R w a
-            cases (inl k) = inl (omega (arith, k, due, cleansFromOthers-grows R o ac a x))
+            cases (inl k) = inl (omega (arith, k, due, cleansFromOthers-grows R o acts a x))
             cases (inr k) = inr k
 
         forwarded : (a z k : ℕ) → 1 ≤ z → z ≤ R .M → Queued w a z → HolderIs w z t → R .senior k t ≡ true → Dec (x ≡ z)
@@ -511,7 +511,7 @@ module _ {R : Rules} (L : Laws R) {w : World} (known : Known R w) (tr : Probes R
               arith,
               cov .stored-forwarded a x t k lo hi (subst (λ (b : ℕ). Queued w a b) (sym q) s) (subst (λ (b : ℕ). w .item b .holder ≡ some t) (sym q) eh) live-now sn,
               due,
-              cleansFromOthers-grows R o ac a x,
+              cleansFromOthers-grows R o acts a x,
               unlessCleaned-mono (countKind Kind.clean (w .up a x)) (probeReaches R w k x t) (probeReaches R cleaned k x t) (reaches k),
             ))
 
@@ -526,17 +526,17 @@ module _ {R : Rules} (L : Laws R) {w : World} (known : Known R w) (tr : Probes R
 
     cover-own-clean : (v i y : ℕ) → w .session t .stage ≡ victim y → CoverHeard (clean v i) (onClean R t x (w .session t) v i (victim y))
     unfolding onClean
-    cover-own-clean v i y e = by-test (CoverHeard (clean v i)) (eqb v t) _ _ (λ q ac hr. no-probe-coverage _ ac refl (λ k. cov .victim-stores-none t k (omega (arith, ap isVictim e))) (λ _ _. inl (omega arith)))
-        (λ q ac hr. absurd (eqb-false v t q (sym (clean-own L known t mail x lo hi v i hr (ap isWaiting e)))))
+    cover-own-clean v i y e = by-test (CoverHeard (clean v i)) (eqb v t) _ _ (λ q acts hr. no-probe-coverage _ acts refl (λ k. cov .victim-stores-none t k (omega (arith, ap isVictim e))) (λ _ _. inl (omega arith)))
+        (λ q acts hr. absurd (eqb-false v t q (sym (clean-own L known t mail x lo hi v i hr (ap isWaiting e)))))
 
     cover-clean : (v i : ℕ) (s : Stage) → w .session t .stage ≡ s → CoverHeard (clean v i) (onClean R t x (w .session t) v i s)
     unfolding onClean cleared rebroadcasts
-    cover-clean v i growing e ac hr = absurd (clean-nowhere L known t mail x lo hi v i hr (ap isVictimStage e) (ap isWaiting e))
-    cover-clean v i shrinking e ac hr = absurd (clean-nowhere L known t mail x lo hi v i hr (ap isVictimStage e) (ap isWaiting e))
-    cover-clean v i rolledBack e ac hr = absurd (clean-nowhere L known t mail x lo hi v i hr (ap isVictimStage e) (ap isWaiting e))
-    cover-clean v i (withdrawing y) e ac hr = absurd (clean-nowhere L known t mail x lo hi v i hr (ap isVictimStage e) (ap isWaiting e))
-    cover-clean v i (victim y) e ac hr = cover-own-clean v i y e ac hr
-    cover-clean v i (waiting y) e ac hr =
+    cover-clean v i growing e acts hr = absurd (clean-nowhere L known t mail x lo hi v i hr (ap isVictimStage e) (ap isWaiting e))
+    cover-clean v i shrinking e acts hr = absurd (clean-nowhere L known t mail x lo hi v i hr (ap isVictimStage e) (ap isWaiting e))
+    cover-clean v i rolledBack e acts hr = absurd (clean-nowhere L known t mail x lo hi v i hr (ap isVictimStage e) (ap isWaiting e))
+    cover-clean v i (withdrawing y) e acts hr = absurd (clean-nowhere L known t mail x lo hi v i hr (ap isVictimStage e) (ap isWaiting e))
+    cover-clean v i (victim y) e acts hr = cover-own-clean v i y e acts hr
+    cover-clean v i (waiting y) e acts hr =
         let f : ℕ → Bool = λ (k : ℕ). w .session t .held k && not (eqb k x) in
         let reb : Sends = toEach rebroadcast f (oneTo (R .M)) in
         let g = member-out-edge v i hr in
@@ -546,7 +546,7 @@ module _ {R : Rules} (L : Laws R) {w : World} (known : Known R w) (tr : Probes R
           ap (countKind Kind.rebroadcast) (sentTo-append z reb ((y, clean v i) ∷ [])),
           countKind-append Kind.rebroadcast (sentTo z reb) (sentTo z ((y, clean v i) ∷ [])),
           rebroadcasts-sent z f (ap (λ (b : Bool). b && not (eqb z x)) h ∙ ap (λ (b : Bool). true && not b) (eqb-ne z x (λ q. ne (sym q)))) (oneTo (R .M)) (omega (arith, occurs-oneTo (R .M) z lo′ hi′)),
-        )) ac hr
+        )) acts hr
 
     pub session-covered : (m : Message) → CoverHeard m (sessionReceives R t x (w .session t) m)
     unfolding sessionReceives
@@ -556,7 +556,7 @@ module _ {R : Rules} (L : Laws R) {w : World} (known : Known R w) (tr : Probes R
     session-covered (abort v i) = cover-abort v i (w .session t .stage) refl
     session-covered (clean v i) = cover-clean v i (w .session t .stage) refl
     session-covered withdrawn = cover-withdrawn (w .session t .stage) refl
-    session-covered request = λ ac hr. drop-covered x lo hi request hr ac (inl refl) refl refl (λ _ _. refl)
-    session-covered release = λ ac hr. drop-covered x lo hi release hr ac (inl refl) refl refl (λ _ _. refl)
-    session-covered rebroadcast = λ ac hr. drop-covered x lo hi rebroadcast hr ac (inl refl) refl refl (λ _ _. refl)
-    session-covered withdraw = λ ac hr. drop-covered x lo hi withdraw hr ac (inl refl) refl refl (λ _ _. refl)
+    session-covered request = λ acts hr. drop-covered x lo hi request hr acts (inl refl) refl refl (λ _ _. refl)
+    session-covered release = λ acts hr. drop-covered x lo hi release hr acts (inl refl) refl refl (λ _ _. refl)
+    session-covered rebroadcast = λ acts hr. drop-covered x lo hi rebroadcast hr acts (inl refl) refl refl (λ _ _. refl)
+    session-covered withdraw = λ acts hr. drop-covered x lo hi withdraw hr acts (inl refl) refl refl (λ _ _. refl)

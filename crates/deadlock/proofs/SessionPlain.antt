@@ -70,7 +70,7 @@ module _ {R : Rules} (L : Laws R) {w : World} (known : Known R w) where
       (λ sn. record { places = c .from ∷ c .places; path = path; avoid = avoid; ranks = c .ranks; last = sn })
 
 -- an edge that is clear now was clear before, but for a clean taken
-module _ (R : Rules) {w : World} {t : ℕ} (o : SessionStep) {mail : Mail} (ac : SessionSends w t (o .sends) mail) where
+module _ (R : Rules) {w : World} {t : ℕ} (o : SessionStep) {mail : Mail} (acts : SessionSends w t (o .sends) mail) where
   abbrev pub afterStep : World
   afterStep = worldAfterSession w t (o .after) mail
 
@@ -80,27 +80,27 @@ module _ (R : Rules) {w : World} {t : ℕ} (o : SessionStep) {mail : Mail} (ac :
       above-of : Dec (t ≡ a) → cleansOf v (w .up a (c .edge .item)) ≡ 0
       above-of (yes q) =
           rw (← q)
-          (let k : cleansOf v (mail .up t (c .edge .item)) ≡ 0 = rw q (c .above) in omega (arith, ap (cleansOf v) (ac .up-at (c .edge .item)), cleansOf-append v (w .up t (c .edge .item)) (sentTo (c .edge .item) (o .sends))))
-      above-of (no q) = rw (← ac .up-off a (c .edge .item) q) (c .above)
+          (let k : cleansOf v (mail .up t (c .edge .item)) ≡ 0 = rw q (c .above) in omega (arith, ap (cleansOf v) (acts .up-at (c .edge .item)), cleansOf-append v (w .up t (c .edge .item)) (sentTo (c .edge .item) (o .sends))))
+      above-of (no q) = rw (← acts .up-off a (c .edge .item) q) (c .above)
 
       under-of : Dec (t ≡ b) → cleansOf v (w .down b (c .edge .item)) ≡ 0
       under-of (yes q) = rw (← q) (let k : cleansOf v (mail .down t (c .edge .item)) ≡ 0 = rw q (c .under) in omega (arith, cvd q (c .edge .item)))
-      under-of (no q) = rw (← ac .down-off b (c .edge .item) q) (c .under)
+      under-of (no q) = rw (← acts .down-off b (c .edge .item) q) (c .under)
 
-module _ {R : Rules} (L : Laws R) {w : World} (known : Known R w) {t : ℕ} (o : SessionStep) {mail : Mail} (ac : SessionSends w t (o .sends) mail)
+module _ {R : Rules} (L : Laws R) {w : World} (known : Known R w) {t : ℕ} (o : SessionStep) {mail : Mail} (acts : SessionSends w t (o .sends) mail)
     (cvd : (v z : ℕ) → cleansOf v (w .down t z) ≡ cleansOf v (mail .down t z)) (vc : isVictim (o .after .stage) ≤ isVictim (stageOf w t)) where
   abbrev pub after : World
   after = worldAfterSession w t (o .after) mail
 
   plain-clear-back : (v a b : ℕ) → ClearEdge R after v a b → ClearEdge R w v a b
-  plain-clear-back v a b = clear-edge-back R o ac v a b (λ _. cvd v)
+  plain-clear-back v a b = clear-edge-back R o acts v a b (λ _. cvd v)
 
   plain-passed-back : (v a : ℕ) → Passed R after v a → Passed R w v a
   plain-passed-back v a p = record { is-victim = victim-before (same? t v); past = record { from = p .past .from; walk = walk-map (plain-clear-back v) (p .past .walk); last = plain-clear-back v (p .past .from) a (p .past .last) } }
     where
       victim-before : Dec (t ≡ v) → VictimIn w v
-      victim-before (yes q) = rw (← q) (omega (arith, vc, p .is-victim, ap isVictim (stage-own R o ac), ap (λ (u : ℕ). isVictim (stageOf after u)) q))
-      victim-before (no q) = omega (arith, p .is-victim, ap isVictim (stage-other R o ac v q))
+      victim-before (yes q) = rw (← q) (omega (arith, vc, p .is-victim, ap isVictim (stage-own R o acts), ap (λ (u : ℕ). isVictim (stageOf after u)) q))
+      victim-before (no q) = omega (arith, p .is-victim, ap isVictim (stage-other R o acts v q))
 
   plain-told : {i j : ℕ} → StoredTold R w t i j → StoredTold R after t i j
   plain-told c = told-map R w after c (c .path) (λ v. plain-passed-back v t)
@@ -121,7 +121,7 @@ module _ {R : Rules} (L : Laws R) {w : World} (known : Known R w) {t : ℕ} (o :
     plain-behindRequest z h (inr k) = rw (behindRequest-append (w .up t z) (sentTo z (o .sends)) k) (plain-old-up z (behindRequest (w .up t z)) h)
 
     pub plain-probes : Probes R w → Probes R after
-    plain-probes h = session-probes R o ac (λ v a _. plain-passed-back v a) (record {
+    plain-probes h = session-probes R o acts (λ v a _. plain-passed-back v a) (record {
       own-stored = λ l i ne. plain-told (stores l i ne);
       own-up = λ z lo hi s. plain-old-up z (w .up t z) (h .up-true t z lo hi s);
       own-behind-request = λ z lo hi. plain-behindRequest z (h .up-true-behind-request t z lo hi) (zero-or-more (countKind Kind.request (w .up t z)));

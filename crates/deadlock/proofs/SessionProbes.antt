@@ -41,7 +41,7 @@ module _ {w : World} {t x : ℕ} {m : Message} {mail : Mail} (hr : SessionTakes 
   unfolding cleansOf
   cleansOf-taken v z = elim (same? x z) [ yes q ↦ rw (← q) (omega (arith, ap (cleansOf v) (hr .head))) | no q ↦ omega (arith, ap (cleansOf v) (hr .down-else z q)) ]
 
-module _ (R : Rules) {w : World} {t : ℕ} (o : SessionStep) {mail : Mail} (ac : SessionSends w t (o .sends) mail) where
+module _ (R : Rules) {w : World} {t : ℕ} (o : SessionStep) {mail : Mail} (acts : SessionSends w t (o .sends) mail) where
   abbrev pub after : World
   after = worldAfterSession w t (o .after) mail
 
@@ -83,25 +83,25 @@ module _ (R : Rules) {w : World} {t : ℕ} (o : SessionStep) {mail : Mail} (ac :
           rw (updated-other (w .session) t (o .after) a q) (told (λ v. f v a q) (h .stored-true a (off-live a q l) i (λ z. ne (e ∙ z))))
 
       up-of : (a z : ℕ) → 1 ≤ z → z ≤ R .M → Queued w a z → Dec (t ≡ a) → EachBehind (TellsUp R after a) (mail .up a z)
-      up-of a z lo hi s (yes q) = rw (← q, ac .up-at z) (own .own-up z lo hi (rw q s))
+      up-of a z lo hi s (yes q) = rw (← q, acts .up-at z) (own .own-up z lo hi (rw q s))
       up-of a z lo hi s (no q) =
-          rw (ac .up-off a z q) (behind-same (countKind Kind.clean (w .up a z)) (λ m r b. ofProbe-map (λ i j. told (λ v k. (k .0, f v a q (k .1)))) m) (omega arith) (h .up-true a z lo hi s))
+          rw (acts .up-off a z q) (behind-same (countKind Kind.clean (w .up a z)) (λ m r b. ofProbe-map (λ i j. told (λ v k. (k .0, f v a q (k .1)))) m) (omega arith) (h .up-true a z lo hi s))
 
       behind-request-of : (a z : ℕ) → 1 ≤ z → z ≤ R .M → Dec (t ≡ a) → EachBehind (TellsUp R after a) (behindRequest (mail .up a z))
-      behind-request-of a z lo hi (yes q) = rw (← q, ac .up-at z) (own .own-behind-request z lo hi)
+      behind-request-of a z lo hi (yes q) = rw (← q, acts .up-at z) (own .own-behind-request z lo hi)
       behind-request-of a z lo hi (no q) =
-          rw (ac .up-off a z q) (behind-same (countKind Kind.clean (behindRequest (w .up a z))) (λ m r b. ofProbe-map (λ i j. told (λ v k. (k .0, f v a q (k .1)))) m) (omega arith) (h .up-true-behind-request a z lo hi))
+          rw (acts .up-off a z q) (behind-same (countKind Kind.clean (behindRequest (w .up a z))) (λ m r b. ofProbe-map (λ i j. told (λ v k. (k .0, f v a q (k .1)))) m) (omega arith) (h .up-true-behind-request a z lo hi))
 
       down-of : (a z : ℕ) → Dec (t ≡ a) → Live after a → EachBehind (TellsDown R after a z) (mail .down a z)
       down-of a z (yes q) l = rw (← q) (own .own-down (own-live a q l) z)
       down-of a z (no q) l =
           let old = h .down-true a z (off-live a q l) in
           let g : EachBehind (TellsDown R after a z) (w .down a z) = behind-same (countKind Kind.clean (w .down a z)) (λ m r b. ofProbe-map (λ i j c. came-map R w after c (c .path) (c .stands) (c .held) (avoid-back a z q r)) m) (omega arith) old in
-          rw (ac .down-off a z q) g
+          rw (acts .down-off a z q) g
         where
           avoid-back : (a z : ℕ) → t ≢ a → (r : List Message) (v : ℕ) → MustAvoidDown R after a z r v → MustAvoidDown R w a z r v
           avoid-back a z q r v k = (k .0, cases (k .1))
             where
               cases : Passed R after v a ⊎ (1 ≤ cleansOf v (mail .down a z)) → Passed R w v a ⊎ (1 ≤ cleansOf v (w .down a z))
               cases (inl p) = inl (f v a q p)
-              cases (inr p) = inr (omega (arith, ap (cleansOf v) (ac .down-off a z q)))
+              cases (inr p) = inr (omega (arith, ap (cleansOf v) (acts .down-off a z q)))

@@ -20,7 +20,7 @@ use Rattle.deadlock.proofs.SessionProbes.{SessionSends, stage-other, st
 abbrev pub CleanBehind : Message → List Message → Type 0
 CleanBehind m r = OfProbe (λ _ _. 1 ≤ countKind Kind.clean r) m
 
-module _ {R : Rules} (L : Laws R) {w : World} (known : Known R w) {t : ℕ} (o : SessionStep) {mail : Mail} (ac : SessionSends w t (o .sends) mail) where
+module _ {R : Rules} (L : Laws R) {w : World} (known : Known R w) {t : ℕ} (o : SessionStep) {mail : Mail} (acts : SessionSends w t (o .sends) mail) where
   abbrev pub after : World
   after = worldAfterSession w t (o .after) mail
 
@@ -53,10 +53,10 @@ module _ {R : Rules} (L : Laws R) {w : World} (known : Known R w) {t : ℕ} (o :
   }
     where
       own : (f : Stage → ℕ) → f (stageOf after t) ≡ f (o .after .stage)
-      own f = ap f (stage-own R o ac)
+      own f = ap f (stage-own R o acts)
 
       off : (f : Stage → ℕ) (a : ℕ) → t ≢ a → f (stageOf after a) ≡ f (stageOf w a)
-      off f a q = ap f (stage-other R o ac a q)
+      off f a q = ap f (stage-other R o acts a q)
 
       stage-at : (f : Stage → ℕ) (a : ℕ) → t ≡ a → f (stageOf after a) ≡ f (o .after .stage)
       stage-at f a q = ap (λ (z : ℕ). f (stageOf after z)) (sym q) ∙ own f
@@ -100,15 +100,15 @@ module _ {R : Rules} (L : Laws R) {w : World} (known : Known R w) {t : ℕ} (o :
       down-of c = record { low = c .low; high = c .high; held = c .held; from = c .from; stands = c .stands; walk = c .walk }
 
       clean-up-of : (v a z : ℕ) → 1 ≤ cleansOf v (mail .up a z) → Dec (t ≡ a) → CleanGoesUp R after v a z
-      clean-up-of v a z p (no q) = up-of (known .victims .clean-up-on-cycle v a z (omega (arith, p, ap (cleansOf v) (ac .up-off a z q))))
+      clean-up-of v a z p (no q) = up-of (known .victims .clean-up-on-cycle v a z (omega (arith, p, ap (cleansOf v) (acts .up-off a z q))))
       clean-up-of v a z p (yes q) = rw (← q) (cases (zero-or-more (cleansOf v (w .up t z))))
         where
           cases : (cleansOf v (w .up t z) ≡ 0) ⊎ (1 ≤ cleansOf v (w .up t z)) → CleanGoesUp R after v t z
           cases (inr y) = up-of (known .victims .clean-up-on-cycle v t z y)
-          cases (inl y) = let p2 : 1 ≤ cleansOf v (mail .up t z) = rw q p in up-of (k .new-clean v z (omega (arith, ap (cleansOf v) (ac .up-at z), cleansOf-append v (w .up t z) (sentTo z (o .sends)))))
+          cases (inl y) = let p2 : 1 ≤ cleansOf v (mail .up t z) = rw q p in up-of (k .new-clean v z (omega (arith, ap (cleansOf v) (acts .up-at z), cleansOf-append v (w .up t z) (sentTo z (o .sends)))))
 
       clean-down-of : (v a z : ℕ) → 1 ≤ cleansOf v (mail .down a z) → Dec (t ≡ a) → CleanGoesDown R after v a z
-      clean-down-of v a z p (no q) = down-of (known .victims .clean-down-on-cycle v a z (omega (arith, p, ap (cleansOf v) (ac .down-off a z q))))
+      clean-down-of v a z p (no q) = down-of (known .victims .clean-down-on-cycle v a z (omega (arith, p, ap (cleansOf v) (acts .down-off a z q))))
       clean-down-of v a z p (yes q) = rw (← q) (let p2 : 1 ≤ cleansOf v (mail .down t z) = rw q p in down-of (known .victims .clean-down-on-cycle v t z (omega (arith, p2, k .down-le v z))))
 
       abort-after : (a : ℕ) (s : Stage) → AbortTo R w a s → AbortTo R after a s
@@ -116,21 +116,21 @@ module _ {R : Rules} (L : Laws R) {w : World} (known : Known R w) {t : ℕ} (o :
 
       aborts-of : (a z : ℕ) → Dec (t ≡ a) → Every (OfAbort R after a) (mail .down a z)
       aborts-of a z (no q) =
-          rw (ac .down-off a z q) (every-map (ofAbort-map R w after a (λ b. subst (AbortTo R after a) (sym (stage-other R o ac a q)) (abort-after a (stageOf w a) b))) (known .victims .aborts a z))
+          rw (acts .down-off a z q) (every-map (ofAbort-map R w after a (λ b. subst (AbortTo R after a) (sym (stage-other R o acts a q)) (abort-after a (stageOf w a) b))) (known .victims .aborts a z))
       aborts-of a z (yes q) =
-          rw (← q) (k .down-each z (every-map (ofAbort-map R w after t (λ b. subst (AbortTo R after t) (sym (stage-own R o ac)) (abort-after t (o .after .stage) (k .own-abort b)))) (known .victims .aborts t z)))
+          rw (← q) (k .down-each z (every-map (ofAbort-map R w after t (λ b. subst (AbortTo R after t) (sym (stage-own R o acts)) (abort-after t (o .after .stage) (k .own-abort b)))) (known .victims .aborts t z)))
 
       no-request-of : (v z : ℕ) → 1 ≤ z → z ≤ R .M → VictimIn after v → Dec (t ≡ v) → countKind Kind.request (mail .up v z) ≡ 0
-      no-request-of v z lo hi s (yes q) = rw (← q) (omega (arith, ap (countKind Kind.request) (ac .up-at z), k .own-no-request (omega (arith, s, stage-at isVictim v q)) z lo hi))
-      no-request-of v z lo hi s (no q) = omega (arith, ap (countKind Kind.request) (ac .up-off v z q), known .victims .no-request v z lo hi (omega (arith, s, off isVictim v q)))
+      no-request-of v z lo hi s (yes q) = rw (← q) (omega (arith, ap (countKind Kind.request) (acts .up-at z), k .own-no-request (omega (arith, s, stage-at isVictim v q)) z lo hi))
+      no-request-of v z lo hi s (no q) = omega (arith, ap (countKind Kind.request) (acts .up-off v z q), known .victims .no-request v z lo hi (omega (arith, s, off isVictim v q)))
 
       clean-behind-of : (v z : ℕ) → 1 ≤ z → z ≤ R .M → VictimIn after v → Queued w v z → Dec (t ≡ v)
           → EachBehind CleanBehind (mail .up v z)
-      clean-behind-of v z lo hi s p (yes q) = rw (← q, ac .up-at z) (k .own-clean-behind (omega (arith, s, stage-at isVictim v q)) z lo hi (rw q p))
-      clean-behind-of v z lo hi s p (no q) = rw (ac .up-off v z q) (known .victims .clean-behind-probes v z lo hi (omega (arith, s, off isVictim v q)) p)
+      clean-behind-of v z lo hi s p (yes q) = rw (← q, acts .up-at z) (k .own-clean-behind (omega (arith, s, stage-at isVictim v q)) z lo hi (rw q p))
+      clean-behind-of v z lo hi s p (no q) = rw (acts .up-off v z q) (known .victims .clean-behind-probes v z lo hi (omega (arith, s, off isVictim v q)) p)
 
 -- ---- steps that move no clean and make no victim
-module _ {R : Rules} (L : Laws R) {w : World} (known : Known R w) {t : ℕ} (o : SessionStep) {mail : Mail} (ac : SessionSends w t (o .sends) mail) where
+module _ {R : Rules} (L : Laws R) {w : World} (known : Known R w) {t : ℕ} (o : SessionStep) {mail : Mail} (acts : SessionSends w t (o .sends) mail) where
   abbrev pub afterPlain : World
   afterPlain = worldAfterSession w t (o .after) mail
 
@@ -141,7 +141,7 @@ module _ {R : Rules} (L : Laws R) {w : World} (known : Known R w) {t : ℕ} (o :
       → ((v z : ℕ) → cleansOf v (w .down t z) ≡ cleansOf v (mail .down t z))
       → ((z : ℕ) → Every (OfAbort R afterPlain t) (w .down t z) → Every (OfAbort R afterPlain t) (mail .down t z)) → Victims R afterPlain
   unfolding sentTo
-  plain-victims vc fc keep ab tots z nil cvd de = session-victims L known o ac (record {
+  plain-victims vc fc keep ab tots z nil cvd de = session-victims L known o acts (record {
     mate-waits = λ v h q s e y. let g = cycle-next (one-edge (known .links)) (known .victims .victim-on-cycle v h s e .cycle) y in keep (g .next) (g .out);
     own-on-cycle = λ h s e. known .victims .victim-on-cycle t h (omega (arith, s, vc)) e;
     own-waits = λ s. known .victims .victim-waits t (omega (arith, s, fc));
