@@ -2,9 +2,6 @@ pub mod ReadingLists
 pub mod ItemAgrees
 pub mod ReadingSession
 pub mod SessionAgrees
-pub mod Entries
-pub mod ItemKeeps
-pub mod SessionKeeps
 pub mod MailboxAgrees
 pub mod MoveAgrees
 pub mod EventAgrees

@@ -1,22 +1,20 @@
 -- The entries of the mailbox are read as the machine's, and the earliest of a route is the one that the machine takes.
 use mathlib.Core.Path.{_≡_, refl, ap}
-use mathlib.Core.Bool.{Bool, true, false, cond, _&&_, _||_, Bool·beq}
+use mathlib.Core.Bool.{Bool, true, false, cond, Bool·beq, and-assoc}
+use mathlib.Core.Logic.{_⊎_, inl, inr}
 use mathlib.Core.List.{List, [], _∷_, _++_, map}
 use Prim.Native.Nat.{ℕ, suc}
-use native.Mathlib.Omega.{arith}
 use lib.Dec.{eqb, eqb·zero-suc, eqb·suc-suc}
 use lib.ListN.{length, getD}
-use borrow.Author.Tests.{eqb-true}
-use Rattle.buffer.specs.Lists.{between, all, place, removeAt}
+use Rattle.lists.specs.Lists.{all, findIndex, removeAt}
+use Rattle.lists.proofs.Tests.{and-both, eqb-sym}
 use Rattle.message.specs.Kind
 use Rattle.message.specs.declared.Message.{Message}
 use Rattle.mailbox.specs.Entry as Entry
-use Rattle.mailbox.specs.Entry.{Entry, toItem, toSession, unused, carried, onRoute, earliest, fromSession, fromItem}
-use Rattle.item.proofs.Pigeonhole.{and-both}
+use Rattle.mailbox.specs.Entry.{Entry, toItem, toSession, unused, onRoute, earliest, fromSession, fromItem}
 use Rattle.deadlock.specs.Machine
 use Rattle.agreement.specs.Reading.{readMessage, readSends, readEntry, readEntries, directionOf}
-use Rattle.agreement.proofs.ReadingLists.{eqb-comm}
-use Rattle.agreement.proofs.Entries.{entry-facts}
+use Rattle.mailbox.proofs.EntryLaws.{entry-facts}
 
 pub readEntries-append : (k l : List Entry) → readEntries (k ++ l) ≡ readEntries k ++ readEntries l
 unfolding readEntries
@@ -34,27 +32,17 @@ unfolding readEntries readSends Machine.fromItem
 from-item x [] = refl
 from-item x (m ∷ l) = ap (λ (r : List Machine.Entry). readEntry (fromItem x m) ∷ r) (from-item x l)
 
--- an entry's direction is one of two
-direction-agrees : (d : Bool) (e : Entry) → carried (e .direction) (e .kind) ≡ true → eqb (e .direction) (directionOf d) ≡ Bool·beq d (eqb (e .direction) toItem)
-direction-agrees d e c = go d (eqb (e .direction) toItem) refl
-  where
-    second : (b : Bool) → b || eqb (e .direction) toSession && (eqb (e .kind) Kind.probe || eqb (e .kind) Kind.clean || between Kind.grant Kind.withdrawn (e .kind)) ≡ true → b ≡ false → eqb (e .direction) toSession ≡ true
-    second true f g = let z : _≡_ {A = ℕ} 0 1 = cc in absurd (omega arith)
-    second false f g = and-both (eqb (e .direction) toSession) _ f .0
+-- an entry runs in one of the two directions
+direction-agrees : (d : Bool) (e : Entry) → (e .direction ≡ toItem) ⊎ (e .direction ≡ toSession) → eqb (e .direction) (directionOf d) ≡ Bool·beq d (eqb (e .direction) toItem)
+direction-agrees true e (inl q) = rw (q) refl
+direction-agrees true e (inr q) = rw (q) refl
+direction-agrees false e (inl q) = rw (q) refl
+direction-agrees false e (inr q) = rw (q) refl
 
-    go : (d b : Bool) → eqb (e .direction) toItem ≡ b → eqb (e .direction) (directionOf d) ≡ Bool·beq d b
-    go true true f = f
-    go true false f = f
-    go false true f = rw (eqb-true (e .direction) toItem f) refl
-    go false false f = second (eqb (e .direction) toItem && between Kind.request Kind.withdraw (e .kind)) c (rw (f) refl)
-
-route-agrees : (d : Bool) (t x : ℕ) (e : Entry) → carried (e .direction) (e .kind) ≡ true → onRoute (directionOf d) t x e ≡ Machine.isOnRoute d t x (readEntry e)
+route-agrees : (d : Bool) (t x : ℕ) (e : Entry) → (e .direction ≡ toItem) ⊎ (e .direction ≡ toSession) → onRoute (directionOf d) t x e ≡ Machine.isOnRoute d t x (readEntry e)
 unfolding Machine.isOnRoute
-route-agrees d t x e c = rw (direction-agrees d e c, eqb-comm t (e .session), eqb-comm x (e .item)) (assoc (Bool·beq d (eqb (e .direction) toItem)) (eqb (e .session) t) (eqb (e .item) x))
-  where
-    assoc : (a b c : Bool) → a && b && c ≡ a && (b && c)
-    assoc true b c = refl
-    assoc false b c = refl
+route-agrees d t x e c =
+    rw (direction-agrees d e c, eqb-sym t (e .session), eqb-sym x (e .item)) (and-assoc (Bool·beq d (eqb (e .direction) toItem)) (eqb (e .session) t) (eqb (e .item) x))
 
 -- what is taken at a place: nothing past the end
 unfoldable pub takenAt : ℕ → List Entry → Machine.Taken
@@ -65,12 +53,12 @@ takenAt k l =
 module _ (S M : ℕ) where
   pub take-agrees : (d : Bool) (t x : ℕ) (l : List Entry) → all (Entry.wellFormed S M) l ≡ true
       → Machine.take d t x (readEntries l) ≡ takenAt (earliest (directionOf d) t x l) l
-  unfolding Machine.take Machine.putBack readEntries takenAt place removeAt all
+  unfolding Machine.take Machine.putBack readEntries takenAt findIndex removeAt all
   take-agrees d t x [] w = refl
   take-agrees d t x (e ∷ l) w =
       let h = and-both (Entry.wellFormed S M e) (all (Entry.wellFormed S M) l) w in
-      let same = route-agrees d t x e (entry-facts S M e (h .0) .kind) in
-      rw (← same) (go (onRoute (directionOf d) t x e) (place (onRoute (directionOf d) t x) l) (take-agrees d t x l (h .1)))
+      let same = route-agrees d t x e (entry-facts S M e (h .0) .kinds .direction) in
+      rw (← same) (go (onRoute (directionOf d) t x e) (findIndex (onRoute (directionOf d) t x) l) (take-agrees d t x l (h .1)))
     where
       again : (b : Bool) (m : Machine.Message) (r : List Machine.Entry)
           → Machine.putBack (readEntry e) (cond b Machine.noEntry (Machine.taken m r)) ≡ cond b Machine.noEntry (Machine.taken m (readEntry e ∷ r))

@@ -8,12 +8,13 @@ use native.Mathlib.Omega.{arith}
 use lib.Dec.{eqb}
 use lib.ListN.{length, getD}
 use borrow.Author.Tests.{eqb-true, eqb-false}
-use Rattle.buffer.specs.Lists.{between, all, removeAt}
-use Rattle.buffer.proofs.ListLaws.{place-found, place-length}
+use Rattle.lists.specs.Lists.{between, all, removeAt}
+use Rattle.lists.proofs.Laws.{all-getD, all-join, all-map, all-removeAt, findIndex-found, findIndex-length}
+use Rattle.lists.proofs.Tests.{and-both, within}
 use Rattle.bitset.specs.Bitset.{has}
 use Rattle.message.specs.Kind
 use Rattle.mailbox.specs.Entry as Entry
-use Rattle.mailbox.specs.Entry.{Entry, toItem, toSession, unused, onRoute, earliest, fromSession, fromItem, seenByItem, seenBySession}
+use Rattle.mailbox.specs.Entry.{Entry, unused, onRoute, earliest, fromSession, fromItem, seenByItem, seenBySession}
 use Rattle.session.specs.Stage
 use Rattle.session.specs.declared.Session.{Session}
 use Rattle.session.specs.Record as SessionRecord
@@ -21,40 +22,17 @@ use Rattle.session.specs.Rules as SessionRules
 use Rattle.item.specs.Record as ItemRecord
 use Rattle.item.specs.Record.{Lock}
 use Rattle.item.specs.Rules as ItemRules
-use Rattle.item.proofs.Pigeonhole.{and-both}
 use Rattle.deadlock.specs.Lists.{updated}
 use Rattle.deadlock.specs.Machine
-use Rattle.agreement.specs.Reading.{readStage, readHolder, readHeld, readSession, readItem, readMessage, readSessionStep, readItemStep, readEntries, readSessions, readItems, readState, directionOf, LockWellFormed, rules}
-use Rattle.agreement.proofs.ReadingLists.{between-low, between-high, all-getD}
+use Rattle.wellformed.specs.Records.{LockWellFormed}
+use Rattle.agreement.specs.Reading.{readStage, readHolder, readHeld, readSession, readItem, readMessage, readSessionStep, readItemStep, readEntries, readSessions, readItems, readState, directionOf, rules}
 use Rattle.agreement.proofs.ReadingSession.{held-none, stored-none}
-use Rattle.agreement.proofs.Entries.{all-none, all-append, all-map, entry-facts}
+use Rattle.mailbox.proofs.EntryLaws.{entry-facts}
 use Rattle.agreement.proofs.ItemAgrees.{item-agrees}
-use Rattle.agreement.proofs.ItemKeeps.{ItemKept, item-kept, removeAt-all, free-lock}
+use Rattle.wellformed.proofs.Items.{ItemKept, item-kept}
 use Rattle.agreement.proofs.SessionAgrees.{session-agrees, request-agrees, release-agrees, held-read}
-use Rattle.agreement.proofs.SessionKeeps.{fresh-formed, SessionKept, session-kept, request-kept, release-kept}
+use Rattle.wellformed.proofs.Sessions.{SessionKept, session-kept, request-kept, release-kept}
 use Rattle.agreement.proofs.MailboxAgrees.{takenAt, take-agrees, readEntries-append, from-session, from-item}
-
--- the kinds are 1 to 10
-carried-range : (direction kind : ℕ) → Entry.carried direction kind ≡ true → (1 ≤ kind) × (kind ≤ 10)
-carried-range direction kind e = go (eqb direction toItem) (eqb direction toSession) e
-  where
-    last : between Kind.grant Kind.withdrawn kind ≡ true → (1 ≤ kind) × (kind ≤ 10)
-    last f = (omega (arith, between-low 7 10 kind f), between-high 7 10 kind f)
-
-    second : (p c : Bool) → eqb kind Kind.probe ≡ p → eqb kind Kind.clean ≡ c → p || c || between Kind.grant Kind.withdrawn kind ≡ true → (1 ≤ kind) × (kind ≤ 10)
-    second true c q r f = (omega (arith, eqb-true kind 3 q), omega (arith, eqb-true kind 3 q))
-    second false true q r f = (omega (arith, eqb-true kind 4 r), omega (arith, eqb-true kind 4 r))
-    second false false q r f = last f
-
-    first : (b : Bool) → between Kind.request Kind.withdraw kind ≡ b → (c : Bool) → b || c && (eqb kind Kind.probe || eqb kind Kind.clean || between Kind.grant Kind.withdrawn kind) ≡ true → (1 ≤ kind) × (kind ≤ 10)
-    first true f c h = (between-low 1 6 kind f, omega (arith, between-high 1 6 kind f))
-    first false f true h = second (eqb kind Kind.probe) (eqb kind Kind.clean) refl refl h
-    first false f false h = let z : _≡_ {A = ℕ} 0 1 = cc in absurd (omega arith)
-
-    go : (a c : Bool) → a && between Kind.request Kind.withdraw kind || c && (eqb kind Kind.probe || eqb kind Kind.clean || between Kind.grant Kind.withdrawn kind) ≡ true → (1 ≤ kind) × (kind ≤ 10)
-    go true c h = first (between Kind.request Kind.withdraw kind) refl c h
-    go false true h = second (eqb kind Kind.probe) (eqb kind Kind.clean) refl refl h
-    go false false h = let z : _≡_ {A = ℕ} 0 1 = cc in absurd (omega arith)
 
 -- of the records 1 to n, the one at k is now a, and the others are as they were
 pub record Replaced {A : Type 0} (n : ℕ) (f g : ℕ → A) (k : ℕ) (a : A) : Type 0 where
@@ -146,7 +124,7 @@ module _ (senior : ℕ → ℕ → Bool) (next : List ℕ → ℕ) (S M : ℕ) (
     session = λ j f. at j f (eqb t j) refl .0;
     juniors = λ j f. at j f (eqb t j) refl .1;
     lock = w .lock;
-    entries = all-append (Entry.wellFormed S M) rest _ e (all-map (Entry.wellFormed S M) (fromSession t) (r .sends) (k .sends));
+    entries = all-join (Entry.wellFormed S M) rest _ e (all-map (Entry.wellFormed S M) (fromSession t) (r .sends) (k .sends));
   }
     where
       at : (j : ℕ) → between 1 S j ≡ true → (b : Bool) → eqb t j ≡ b → (SessionRecord.wellFormed S M (g j) ≡ true) × (length (g j .juniors) ≡ 64)
@@ -159,7 +137,7 @@ module _ (senior : ℕ → ℕ → Bool) (next : List ℕ → ℕ) (S M : ℕ) (
     session = w .session;
     juniors = w .juniors;
     lock = λ j f. at j f (eqb x j) refl;
-    entries = all-append (Entry.wellFormed S M) rest _ e (all-map (Entry.wellFormed S M) (fromItem x) (r .sends) (k .sends));
+    entries = all-join (Entry.wellFormed S M) rest _ e (all-map (Entry.wellFormed S M) (fromItem x) (r .sends) (k .sends));
   }
     where
       at : (j : ℕ) → between 1 M j ≡ true → (b : Bool) → eqb x j ≡ b → LockWellFormed S (g j)
@@ -171,7 +149,7 @@ module _ (senior : ℕ → ℕ → Bool) (next : List ℕ → ℕ) (S M : ℕ) (
 
   -- what the mask says of item x
   held-at : readHeld (sessions t .held) x ≡ has x (sessions t .held)
-  held-at = held-read (sessions t .held) x (between-low 1 M x x-range) (omega (arith, between-high 1 M x x-range))
+  held-at = held-read (sessions t .held) x (within 1 M x x-range .0) (omega (arith, within 1 M x x-range .1))
 
   -- ---- the calls
   request-answer : Machine.onRequestCall R x (readSession (sessions t)) (readSession (sessions t) .stage)
@@ -180,7 +158,7 @@ module _ (senior : ℕ → ℕ → Bool) (next : List ℕ → ℕ) (S M : ℕ) (
 
   release-answer : Machine.onReleaseCall R x (readSession (sessions t)) (readSession (sessions t) .stage)
       ≡ cond ((eqb (sessions t .stage) Stage.growing || eqb (sessions t .stage) Stage.shrinking) && has x (sessions t .held)) (Machine.accepted (readSessionStep (SessionRules.released x (sessions t)))) Machine.refused
-  release-answer = rw (← held-at) (release-agrees senior next S M few-sessions few-items (sessions t) (w .session t t-range) (w .juniors t t-range) x (between-low 1 M x x-range) (between-high 1 M x x-range))
+  release-answer = rw (← held-at) (release-agrees senior next S M few-sessions few-items (sessions t) (w .session t t-range) (w .juniors t t-range) x (within 1 M x x-range .0) (within 1 M x x-range .1))
 
   -- a request in stage 1 for an item not held
   pub request-move : eqb (sessions t .stage) Stage.growing && not (has x (sessions t .held)) ≡ true → (g : ℕ → Session) → Replaced S sessions g t (SessionRules.requested x (sessions t) .session)
@@ -194,15 +172,6 @@ module _ (senior : ℕ → ℕ → Bool) (next : List ℕ → ℕ) (S M : ℕ) (
   unfolding Machine.move Machine.afterAnswer
   release-move e g h = rw (session-at, release-answer, e) (session-state l (SessionRules.released x (sessions t)) g h)
 
-  -- any other request or release is no move
-  pub request-no-move : eqb (sessions t .stage) Stage.growing && not (has x (sessions t .held)) ≡ false → Machine.move R before (Machine.requestCall t x) ≡ before
-  unfolding Machine.move Machine.afterAnswer
-  request-no-move e = rw (session-at, request-answer, e) refl
-
-  pub release-no-move : (eqb (sessions t .stage) Stage.growing || eqb (sessions t .stage) Stage.shrinking) && has x (sessions t .held) ≡ false → Machine.move R before (Machine.releaseCall t x) ≡ before
-  unfolding Machine.move Machine.afterAnswer
-  release-no-move e = rw (session-at, release-answer, e) refl
-
   pub request-move-kept : (g : ℕ → Session) → Replaced S sessions g t (SessionRules.requested x (sessions t) .session)
       → StateWellFormed S M g locks (l ++ map (fromSession t) (SessionRules.requested x (sessions t) .sends))
   request-move-kept g h = session-state-kept l (w .entries) (SessionRules.requested x (sessions t)) (request-kept S M t x t-range x-range (sessions t) (w .session t t-range) (w .juniors t t-range)) g h
@@ -214,13 +183,13 @@ module _ (senior : ℕ → ℕ → Bool) (next : List ℕ → ℕ) (S M : ℕ) (
   -- ---- the deliveries
   module _ (d : Bool) (found : eqb (placeOf t x l d) (length l) ≡ false) where
     inside : placeOf t x l d < length l
-    inside = omega (arith, place-length (onRoute (directionOf d) t x) l, eqb-false (placeOf t x l d) (length l) found)
+    inside = omega (arith, findIndex-length (onRoute (directionOf d) t x) l, eqb-false (placeOf t x l d) (length l) found)
 
     pub entry-formed : Entry.wellFormed S M (entryOf t x l d) ≡ true
     entry-formed = all-getD (Entry.wellFormed S M) l (placeOf t x l d) unused (w .entries) inside
 
     on-route : onRoute (directionOf d) t x (entryOf t x l d) ≡ true
-    on-route = place-found (onRoute (directionOf d) t x) l unused inside
+    on-route = findIndex-found (onRoute (directionOf d) t x) l unused inside
 
     pub entry-session : entryOf t x l d .session ≡ t
     entry-session =
@@ -231,30 +200,21 @@ module _ (senior : ℕ → ℕ → Bool) (next : List ℕ → ℕ) (S M : ℕ) (
     entry-item = eqb-true (entryOf t x l d .item) x (and-both (eqb (entryOf t x l d .direction) (directionOf d) && eqb (entryOf t x l d .session) t) (eqb (entryOf t x l d .item) x) on-route .1)
 
     others-formed : all (Entry.wellFormed S M) (othersOf t x l d) ≡ true
-    others-formed = removeAt-all (Entry.wellFormed S M) (placeOf t x l d) l (w .entries)
+    others-formed = all-removeAt (Entry.wellFormed S M) (placeOf t x l d) l (w .entries)
 
     pub taken-eq : Machine.take d t x (readEntries l) ≡ Machine.taken (readMessage (entryOf t x l d .kind) (entryOf t x l d .a) (entryOf t x l d .b)) (readEntries (othersOf t x l d))
     unfolding takenAt
     taken-eq = take-agrees S M d t x l (w .entries) ∙ rw (found) refl
 
     pub kind-range : (1 ≤ entryOf t x l d .kind) × (entryOf t x l d .kind ≤ 10)
-    kind-range = carried-range (entryOf t x l d .direction) (entryOf t x l d .kind) (entry-facts S M (entryOf t x l d) entry-formed .kind)
-
-  -- with no entry on the route a delivery is no move
-  pub item-no-move : eqb (placeOf t x l true) (length l) ≡ true → Machine.move R before (Machine.deliverToItem t x) ≡ before
-  unfolding Machine.move Machine.itemTakes takenAt
-  item-no-move e = let none : Machine.take true t x (readEntries l) ≡ Machine.noEntry = take-agrees S M true t x l (w .entries) ∙ rw (e) refl in rw (none) refl
-
-  pub session-no-move : eqb (placeOf t x l false) (length l) ≡ true → Machine.move R before (Machine.deliverToSession t x) ≡ before
-  unfolding Machine.move Machine.sessionTakes takenAt
-  session-no-move e = let none : Machine.take false t x (readEntries l) ≡ Machine.noEntry = take-agrees S M false t x l (w .entries) ∙ rw (e) refl in rw (none) refl
+    kind-range = let f = entry-facts S M (entryOf t x l d) entry-formed .kinds in (f .low, f .high)
 
   -- the earliest entry to item x
   module _ (found : eqb (placeOf t x l true) (length l) ≡ false) (inside-queue : (q : List ℕ) → 0 < length q → next q < length q) where
-    item-step-agrees : readItemStep (itemStep senior next locks t x l) ≡ Machine.itemReceives R t (readItem (locks x)) (readMessage (entryOf t x l true .kind) (entryOf t x l true .a) (entryOf t x l true .b))
+    pub item-step-agrees : readItemStep (itemStep senior next locks t x l) ≡ Machine.itemReceives R t (readItem (locks x)) (readMessage (entryOf t x l true .kind) (entryOf t x l true .a) (entryOf t x l true .b))
     item-step-agrees =
         let kind = kind-range true found in
-        let low : 1 ≤ entryOf t x l true .session = rw (entry-session true found) (between-low 1 S t t-range) in
+        let low : 1 ≤ entryOf t x l true .session = rw (entry-session true found) (within 1 S t t-range .0) in
         item-agrees senior next S M (locks x) (seenByItem (entryOf t x l true)) low (kind .0) (kind .1) (w .lock x x-range) (inside-queue (locks x .queue))
         ∙ ap (λ (n : ℕ). Machine.itemReceives R n (readItem (locks x)) (readMessage (entryOf t x l true .kind) (entryOf t x l true .a) (entryOf t x l true .b))) (entry-session true found)
 
@@ -275,10 +235,8 @@ module _ (senior : ℕ → ℕ → Bool) (next : List ℕ → ℕ) (S M : ℕ) (
         let e = entryOf t x l false in
         let kind = kind-range false found in
         let facts = entry-facts S M e (entry-formed false found) in
-        let low : 1 ≤ e .item = between-low 1 M (e .item) (facts .item) in
-        let high : e .item ≤ M = between-high 1 M (e .item) (facts .item) in
-        let first : e .kind ≡ Kind.probe → (1 ≤ e .a) × (e .a ≤ S) = λ q. let r = facts .first (ap Kind.carries q) in (between-low 1 S (e .a) r, between-high 1 S (e .a) r) in
-        session-agrees senior next S M few-sessions few-items (sessions t) (w .session t t-range) (w .juniors t t-range) t (seenBySession e) low high (kind .0) (kind .1) first
+        let first : e .kind ≡ Kind.probe → (1 ≤ e .a) × (e .a ≤ S) = λ q. (facts .a-low (ap Kind.carries q), facts .a-high) in
+        session-agrees senior next S M few-sessions few-items (sessions t) (w .session t t-range) (w .juniors t t-range) t (seenBySession e) (facts .item-low) (facts .item-high) (kind .0) (kind .1) first
         ∙ ap (λ (n : ℕ). Machine.sessionReceives R t n (readSession (sessions t)) (readMessage (e .kind) (e .a) (e .b))) (entry-item false found)
 
     pub session-move : (g : ℕ → Session) → Replaced S sessions g t (sessionStep senior sessions t x l .session)
@@ -308,11 +266,3 @@ module _ (S M : ℕ) (sessions : ℕ → Session) (locks : ℕ → Lock) (fresh 
       other : (x : ℕ) (b : Bool) → between 1 M x ≡ b → cond b (readItem (locks x)) (record { holder = none; queue = [] }) ≡ record { holder = none; queue = [] }
       other x false e = refl
       other x true e = ap readItem (free x e)
-
-  pub start-kept : StateWellFormed S M sessions locks []
-  start-kept = record {
-    session = λ t r. rw (fresh t r) (fresh-formed S M);
-    juniors = λ t r. ap (λ (s : Session). length (s .juniors)) (fresh t r);
-    lock = λ x r. rw (free x r) (free-lock S);
-    entries = all-none (Entry.wellFormed S M);
-  }

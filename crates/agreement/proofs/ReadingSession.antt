@@ -1,6 +1,6 @@
 -- How the parts of a session's record are read after each change: the mask of held items, the stored juniors, and what is sent from them.
 use mathlib.Core.Path.{_≡_, refl, sym, ap, _∙_, fun-ext}
-use mathlib.Core.Bool.{Bool, true, false, cond, not, _&&_}
+use mathlib.Core.Bool.{Bool, true, false, cond, not, _&&_, and-false, and-true}
 use mathlib.Core.List.{List, [], _∷_, _++_, map, append-nil}
 use Prim.Native.Nat.{ℕ, zero, suc, _+_, _-_, _^_, _≤_, _<_}
 use native.Mathlib.Nat.{add-zero, zero-add, suc-add}
@@ -9,9 +9,11 @@ use native.Mathlib.Omega.{arith}
 use lib.Dec.{eqb}
 use lib.ListN.{length, getD, set, drop, replicate}
 use lib.Seq.{getD-set-same, getD-set-other, getD-drop}
-use borrow.Author.Tests.{eqb-true, eqb-false, ne-eqb, le-leb}
-use Rattle.buffer.specs.Lists as Product
-use Rattle.buffer.specs.Lists.{between, all}
+use borrow.Author.Tests.{eqb-true, eqb-false, ne-eqb}
+use Rattle.lists.specs.Lists as Product
+use Rattle.lists.specs.Lists.{between, all}
+use Rattle.lists.proofs.Laws.{zeros-getD}
+use Rattle.lists.proofs.Tests.{and-agrees, between-intro, within}
 use Rattle.bitset.specs.Bitset.{has, insert, remove}
 use Rattle.bitset.proofs.MemberLaws.{rising, thoseIn, members-rising, has-insert-same, has-insert-other, has-remove-same, has-remove-other, has-none, has-above}
 use Rattle.message.specs.Kind
@@ -19,26 +21,9 @@ use Rattle.message.specs.declared.Message.{Message}
 use Rattle.message.specs.Outbox.{message, plain}
 use Rattle.session.specs.Record as SessionRecord
 use Rattle.session.specs.Rules as SessionRules
-use Rattle.item.proofs.Pigeonhole.{and-both}
 use Rattle.deadlock.specs.Lists.{updated, oneTo}
 use Rattle.deadlock.specs.Machine
 use Rattle.agreement.specs.Reading.{readHeld, readStored, readMessage, readSends}
-use Rattle.agreement.proofs.ReadingLists.{between-low}
-
-and-agrees : (b : Bool) {c d : Bool} → (b ≡ true → c ≡ d) → b && c ≡ b && d
-and-agrees true f = f refl
-and-agrees false f = refl
-
-and-false : (b : Bool) → b && false ≡ false
-and-false true = refl
-and-false false = refl
-
-and-true : (b : Bool) → b && true ≡ b
-and-true true = refl
-and-true false = refl
-
-pub between-true : (low high n : ℕ) → low ≤ n → n ≤ high → between low high n ≡ true
-between-true low high n l h = rw (le-leb low n l, le-leb n high h) refl
 
 module _ (x mask : ℕ) (low : 1 ≤ x) (high : x ≤ 64) where
   -- the mask with x in it
@@ -47,9 +32,9 @@ module _ (x mask : ℕ) (low : 1 ≤ x) (high : x ≤ 64) where
   held-insert = fun-ext (λ k. go k (eqb x k) refl)
     where
       go : (k : ℕ) (b : Bool) → eqb x k ≡ b → between 1 64 k && has k (insert x mask) ≡ cond b true (between 1 64 k && has k mask)
-      go k true e = rw (← eqb-true x k e, between-true 1 64 x low high) (has-insert-same x mask)
+      go k true e = rw (← eqb-true x k e, between-intro 1 64 x low high) (has-insert-same x mask)
       go k false e =
-          and-agrees (between 1 64 k) (λ f. has-insert-other x mask k low (between-low 1 64 k f) (λ q. eqb-false x k e (sym q)))
+          and-agrees (between 1 64 k) (λ f. has-insert-other x mask k low (within 1 64 k f .0) (λ q. eqb-false x k e (sym q)))
 
   -- the mask without x
   pub held-remove : readHeld (remove x mask) ≡ updated (readHeld mask) x false
@@ -59,7 +44,7 @@ module _ (x mask : ℕ) (low : 1 ≤ x) (high : x ≤ 64) where
       go : (k : ℕ) (b : Bool) → eqb x k ≡ b → between 1 64 k && has k (remove x mask) ≡ cond b false (between 1 64 k && has k mask)
       go k true e = rw (← eqb-true x k e, has-remove-same x mask) (and-false (between 1 64 x))
       go k false e =
-          and-agrees (between 1 64 k) (λ f. has-remove-other x mask k low (between-low 1 64 k f) (λ q. eqb-false x k e (sym q)))
+          and-agrees (between 1 64 k) (λ f. has-remove-other x mask k low (within 1 64 k f .0) (λ q. eqb-false x k e (sym q)))
 
 pub held-none : readHeld 0 ≡ (λ (_ : ℕ). false)
 unfolding readHeld
@@ -81,7 +66,7 @@ stored-none = fun-ext (λ i. rw (getD-zeros 64 (i - 1)) (cond-same (between 1 64
 module _ (js : List ℕ) (i : ℕ) (low : 1 ≤ i) (high : i ≤ 64) where
   pub stored-read : readStored js i ≡ getD js (i - 1) 0
   unfolding readStored
-  stored-read = rw (between-true 1 64 i low high) refl
+  stored-read = rw (between-intro 1 64 i low high) refl
 
   -- the juniors with v for initiator i
   pub stored-set : length js ≡ 64 → (v : ℕ) → readStored (set js (i - 1) v) ≡ updated (readStored js) i v
@@ -90,11 +75,11 @@ module _ (js : List ℕ) (i : ℕ) (low : 1 ≤ i) (high : i ≤ 64) where
     where
       other : (n : ℕ) (b : Bool) → between 1 64 n ≡ b → (i ≡ n → ⊥) → cond b (getD (set js (i - 1) v) (n - 1) 0) 0 ≡ cond b (getD js (n - 1) 0) 0
       other n false e f = refl
-      other n true e f = getD-set-other js (i - 1) (n - 1) v 0 (λ q. f (omega (arith, between-low 1 64 n e)))
+      other n true e f = getD-set-other js (i - 1) (n - 1) v 0 (λ q. f (omega (arith, within 1 64 n e .0)))
 
       go : (n : ℕ) (b : Bool) → eqb i n ≡ b
           → cond (between 1 64 n) (getD (set js (i - 1) v) (n - 1) 0) 0 ≡ cond b v (cond (between 1 64 n) (getD js (n - 1) 0) 0)
-      go n true e = rw (← eqb-true i n e, between-true 1 64 i low high) (getD-set-same js (i - 1) v 0 (omega arith))
+      go n true e = rw (← eqb-true i n e, between-intro 1 64 i low high) (getD-set-same js (i - 1) v 0 (omega arith))
       go n false e = other n (between 1 64 n) refl (eqb-false i n e)
 
 -- ---- lists of numbers that rise
@@ -150,13 +135,6 @@ module _ (f : ℕ → ℕ) (x : ℕ) where
   probes-none zero k h = refl
   probes-none (suc n) k h = rw (h k (omega arith)) (probes-none n (suc k) (λ j l. h j (omega arith)))
 
--- every number of such a list is 0
-pub zeros-getD : (l : List ℕ) (n : ℕ) → all (λ j. eqb j 0) l ≡ true → getD l n 0 ≡ 0
-unfolding all
-zeros-getD [] n e = refl
-zeros-getD (j ∷ l) zero e = eqb-true j 0 (and-both (eqb j 0) (all (λ j. eqb j 0) l) e .0)
-zeros-getD (j ∷ l) (suc n) e = zeros-getD l n (and-both (eqb j 0) (all (λ j. eqb j 0) l) e .1)
-
 module _ (S : ℕ) (js : List ℕ) (few : S ≤ 64) (len : length js ≡ 64) (zeros : all (λ j. eqb j 0) (drop S js) ≡ true) where
   stored-above : (i : ℕ) → 1 + S ≤ i → readStored js i ≡ 0
   unfolding readStored
@@ -198,14 +176,14 @@ module _ (m : Machine.Message) (f : ℕ → Bool) where
   each-agrees g (suc n) k h = rw (h k (omega arith) (omega arith), each-agrees g n (suc k) (λ j l u. h j (omega arith) (omega arith))) refl
 
 held-read : (kind mask : ℕ) (p : ℕ → Bool) (l : List ℕ)
-    → readSends (map (λ y. plain y kind) (Product.only p (thoseIn mask l))) ≡ Machine.toEach (readMessage kind 0 0) (λ j. has j mask && p j) l
-unfolding Product.only thoseIn Machine.toEach readSends
+    → readSends (map (λ y. plain y kind) (Product.filter p (thoseIn mask l))) ≡ Machine.toEach (readMessage kind 0 0) (λ j. has j mask && p j) l
+unfolding Product.filter thoseIn Machine.toEach readSends
 held-read kind mask p [] = refl
 held-read kind mask p (k ∷ l) = go (has k mask) (p k) refl (held-read kind mask p l)
   where
     go : (b c : Bool) → p k ≡ c
-        → readSends (map (λ y. plain y kind) (Product.only p (thoseIn mask l))) ≡ Machine.toEach (readMessage kind 0 0) (λ j. has j mask && p j) l
-        → readSends (map (λ y. plain y kind) (Product.only p (cond b (k ∷ thoseIn mask l) (thoseIn mask l))))
+        → readSends (map (λ y. plain y kind) (Product.filter p (thoseIn mask l))) ≡ Machine.toEach (readMessage kind 0 0) (λ j. has j mask && p j) l
+        → readSends (map (λ y. plain y kind) (Product.filter p (cond b (k ∷ thoseIn mask l) (thoseIn mask l))))
         ≡ cond (b && c) ((k, readMessage kind 0 0) ∷ Machine.toEach (readMessage kind 0 0) (λ j. has j mask && p j) l) (Machine.toEach (readMessage kind 0 0) (λ j. has j mask && p j) l)
     go false c e ih = ih
     go true true e ih = rw (e) (ap (λ (n : Machine.Sends). (k, readMessage kind 0 0) ∷ n) ih)
@@ -220,15 +198,15 @@ module _ (M mask : ℕ) (few : M ≤ 64) (low : mask < 2 ^ M) where
       let m = readMessage kind 0 0 in
       let f : ℕ → Bool = λ j. has j mask && not (eqb j x) in
       let above : (j : ℕ) → 1 + M ≤ j → f j ≡ false = λ j l. rw (has-above M j mask low (omega arith)) refl in
-      ap (λ (l : List ℕ). readSends (map (λ y. plain y kind) (Product.only (λ y. not (eqb y x)) l))) (members-rising mask)
+      ap (λ (l : List ℕ). readSends (map (λ y. plain y kind) (Product.filter (λ y. not (eqb y x)) l))) (members-rising mask)
       ∙ held-read kind mask (λ y. not (eqb y x)) (rising 64 1) ∙ ap (Machine.toEach m f) (cut M few) ∙ each-append m f (oneTo M) (rising (64 - M) (1 + M))
       ∙ ap (λ (l : Machine.Sends). Machine.toEach m f (oneTo M) ++ l) (each-none m f (64 - M) (1 + M) above) ∙ append-nil (Machine.toEach m f (oneTo M))
       ∙ ap (Machine.toEach m f) (sym (oneTo-rising M)) ∙ each-agrees m f g M 1 (λ j l u. h j l (omega arith)) ∙ ap (Machine.toEach m g) (oneTo-rising M)
 
-  pub rebroadcasts-agree : (x : ℕ) → readSends (SessionRules.toHeld Kind.rebroadcast x mask) ≡ Machine.toEach Machine.rebroadcast (λ k. readHeld mask k && not (eqb k x)) (oneTo M)
+  pub rebroadcasts-agree : (x : ℕ) → readSends (SessionRules.toHeld Kind.rebroadcast x mask) ≡ Machine.toEach (Machine.up Machine.rebroadcast) (λ k. readHeld mask k && not (eqb k x)) (oneTo M)
   unfolding readMessage readHeld
-  rebroadcasts-agree x = to-held Kind.rebroadcast x _ (λ j l h. rw (between-true 1 64 j l h) refl)
+  rebroadcasts-agree x = to-held Kind.rebroadcast x _ (λ j l h. rw (between-intro 1 64 j l h) refl)
 
-  pub releases-agree : readSends (SessionRules.toHeld Kind.release 0 mask) ≡ Machine.toEach Machine.release (readHeld mask) (oneTo M)
+  pub releases-agree : readSends (SessionRules.toHeld Kind.release 0 mask) ≡ Machine.toEach (Machine.up Machine.release) (readHeld mask) (oneTo M)
   unfolding readMessage readHeld
-  releases-agree = to-held Kind.release 0 (readHeld mask) (λ j l h. rw (between-true 1 64 j l h, ne-eqb j 0 (λ q. omega arith)) (and-true (has j mask)))
+  releases-agree = to-held Kind.release 0 (readHeld mask) (λ j l h. rw (between-intro 1 64 j l h, ne-eqb j 0 (λ q. omega arith)) (and-true (has j mask)))

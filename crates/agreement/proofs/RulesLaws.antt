@@ -1,16 +1,16 @@
 -- The lock manager's seniority is a strict total order, and its next holder comes from the queue: the machine's theorem holds of its rules.
-use mathlib.Core.Path.{_≡_, sym, _∙_}
+use mathlib.Core.Path.{_≡_}
 use mathlib.Core.Bool.{false}
 use mathlib.Core.List.{List, _∷_}
 use Prim.Native.Nat.{ℕ, _<_}
 use native.Mathlib.Omega.{arith}
 use lib.ListN.{length}
 use borrow.Author.Tests.{ltb-true, ltb-false, lt-ltb, le-ltb}
+use Rattle.lists.proofs.Laws.{getD-member}
 use Rattle.session.specs.Seniority.{senior}
 use Rattle.item.specs.NextHolder.{nextHolder}
 use Rattle.deadlock.specs.Machine
 use Rattle.agreement.specs.Reading.{rules}
-use Rattle.agreement.proofs.ReadingLists.{getD-member}
 
 -- the next holder has a place in the queue
 pub next-inside : (q : List ℕ) → 0 < length q → nextHolder q < length q

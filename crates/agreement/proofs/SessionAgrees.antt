@@ -4,10 +4,11 @@ use mathlib.Core.Bool.{Bool, true, false, cond, not, _&&_, _||_}
 use mathlib.Core.List.{List, [], _∷_, _++_}
 use Prim.Native.Nat.{ℕ, zero, suc, _^_, _≤_, _<_}
 use native.Mathlib.Omega.{arith}
-use lib.Dec.{eqb, leb, ltb}
-use lib.ListN.{length, take, drop}
-use borrow.Author.Tests.{eqb-true, ltb-true}
-use Rattle.buffer.specs.Lists.{between, all}
+use lib.Dec.{eqb}
+use lib.ListN.{length, drop}
+use borrow.Author.Tests.{eqb-true}
+use Rattle.lists.specs.Lists.{all}
+use Rattle.lists.proofs.Tests.{between-intro, cond-agrees, eqb-sym}
 use Rattle.bitset.specs.Bitset.{has}
 use Rattle.message.specs.Kind
 use Rattle.message.specs.declared.Message.{Message}
@@ -17,13 +18,13 @@ use Rattle.session.specs.declared.Session.{Session}
 use Rattle.session.specs.Record.{wellFormed}
 use Rattle.session.specs.Rules as SessionRules
 use Rattle.session.specs.Rules.{received, requested, released}
-use Rattle.item.proofs.Pigeonhole.{and-both}
+use Rattle.wellformed.proofs.Sessions.{session-facts}
 use Rattle.deadlock.specs.Lists.{oneTo}
 use Rattle.deadlock.specs.Machine
 use Rattle.deadlock.specs.Machine.{sessionReceives, onRequestCall, onReleaseCall}
 use Rattle.agreement.specs.Reading.{readStage, readHeld, readStored, readSession, readMessage, readSends, readSessionStep, rules}
-use Rattle.agreement.proofs.ReadingLists.{eqb-comm, cond-agrees, readSends-append, between-low, between-high}
-use Rattle.agreement.proofs.ReadingSession.{held-insert, held-remove, held-none, stored-none, stored-read, stored-set, stored-probes, rebroadcasts-agree, releases-agree, between-true}
+use Rattle.agreement.proofs.ReadingLists.{readSends-append}
+use Rattle.agreement.proofs.ReadingSession.{held-insert, held-remove, held-none, stored-none, stored-read, stored-set, stored-probes, rebroadcasts-agree, releases-agree}
 use Rattle.agreement.proofs.ItemAgrees.{by-kind}
 
 -- stages are 1 to 6
@@ -36,31 +37,6 @@ by-stage P a b c d e f (suc (suc (suc (suc zero)))) l u = d
 by-stage P a b c d e f (suc (suc (suc (suc (suc zero))))) l u = e
 by-stage P a b c d e f (suc (suc (suc (suc (suc (suc zero)))))) l u = f
 by-stage P a b c d e f (suc (suc (suc (suc (suc (suc (suc n))))))) l u = absurd (omega arith)
-
--- what a well-formed record says
-pub record SessionWellFormed (S M : ℕ) (s : Session) : Type 0 where
-  pub stage-low : 1 ≤ s .stage
-  pub stage-high : s .stage ≤ 6
-  pub awaited : cond (Stage.awaits (s .stage)) (between 1 M (s .awaited)) (eqb (s .awaited) 0) ≡ true
-  pub held : s .held < 2 ^ M
-  pub juniors : all (λ j. leb j S) (take S (s .juniors)) ≡ true
-  pub zeros : all (λ j. eqb j 0) (drop S (s .juniors)) ≡ true
-
-pub session-facts : (S M : ℕ) (s : Session) → wellFormed S M s ≡ true → SessionWellFormed S M s
-unfolding wellFormed
-session-facts S M s w =
-    let e = and-both _ (all (λ j. eqb j 0) (drop S (s .juniors))) w in
-    let d = and-both _ (all (λ j. leb j S) (take S (s .juniors))) (e .0) in
-    let c = and-both _ (ltb (s .held) (2 ^ M)) (d .0) in
-    let b = and-both _ (cond (Stage.awaits (s .stage)) (between 1 M (s .awaited)) (eqb (s .awaited) 0)) (c .0) in
-    record {
-      stage-low = between-low 1 6 (s .stage) (b .0);
-      stage-high = between-high 1 6 (s .stage) (b .0);
-      awaited = b .1;
-      held = ltb-true (s .held) (2 ^ M) (c .1);
-      juniors = d .1;
-      zeros = e .1;
-    }
 
 -- two steps with equal parts
 step-eq : {g : Machine.Stage} {h k : ℕ → Bool} {p q : ℕ → ℕ} {m n : Machine.Sends} → h ≡ k → p ≡ q → m ≡ n
@@ -81,7 +57,7 @@ module _ (senior : ℕ → ℕ → Bool) (next : List ℕ → ℕ) (S M : ℕ) (
 
     grant-waiting : Agrees Kind.grant Stage.waiting
     unfolding received sessionReceives readMessage readStage SessionRules.granted Machine.onGrant readSends
-    grant-waiting = cond-agrees readSessionStep (eqb x y) (eqb y x) (eqb-comm x y) (λ e. step-eq (held-insert x mask x-low x-high) refl refl) (λ e. refl)
+    grant-waiting = cond-agrees readSessionStep (eqb x y) (eqb y x) (eqb-sym x y) (λ e. step-eq (held-insert x mask x-low x-high) refl refl) (λ e. refl)
 
     on-grant : (stage : ℕ) → 1 ≤ stage → stage ≤ 6 → Agrees Kind.grant stage
     unfolding received sessionReceives readMessage readStage Machine.onGrant readSends
@@ -96,14 +72,14 @@ module _ (senior : ℕ → ℕ → Bool) (next : List ℕ → ℕ) (S M : ℕ) (
         cond-agrees readSessionStep (eqb (SessionRules.stored (at stage) i) 0 || senior (SessionRules.stored (at stage) i) j) _ (ap (λ (v : ℕ). eqb v 0 || senior v j) at-i) (λ _. step-eq refl (stored-set js i l h len j) (ap readSends e ∙ f)) (λ _. refl)
 
     on-probe : 1 ≤ a → a ≤ 64 → (stage : ℕ) → 1 ≤ stage → stage ≤ 6 → Agrees Kind.probe stage
-    unfolding received sessionReceives readMessage readStage SessionRules.probed Machine.onProbe readSends SessionRules.junior Machine.junior
+    unfolding received sessionReceives readMessage readStage SessionRules.probed Machine.onProbe Machine.toAwaited readSends SessionRules.junior Machine.junior
     on-probe l h =
         by-stage (Agrees Kind.probe) (kept Stage.growing a (SessionRules.junior senior b t) [] [] l h refl refl)
         (kept Stage.waiting a (SessionRules.junior senior b t) (message y Kind.probe a (SessionRules.junior senior b t) ∷ []) ((y, Machine.probe a (SessionRules.junior senior b t)) ∷ []) l h refl refl) refl refl refl refl
 
     resend-waiting : Agrees Kind.resend Stage.waiting
     unfolding received sessionReceives readMessage readStage SessionRules.resent Machine.onResend readSends Machine.storedProbes
-    resend-waiting = go (eqb x y) refl ∙ ap (λ (c : Bool). record { after = readSession (at Stage.waiting); sends = cond c (Machine.storedProbes R (readSession (at Stage.waiting)) x) [] }) (eqb-comm x y)
+    resend-waiting = go (eqb x y) refl ∙ ap (λ (c : Bool). record { after = readSession (at Stage.waiting); sends = cond c (Machine.storedProbes R (readSession (at Stage.waiting)) x) [] }) (eqb-sym x y)
       where
         go : (c : Bool) → eqb x y ≡ c
             → readSessionStep (cond c (SessionRules.after (at Stage.waiting) (SessionRules.storedProbes (at Stage.waiting) y)) (SessionRules.dropped (at Stage.waiting)))
@@ -147,10 +123,10 @@ module _ (senior : ℕ → ℕ → Bool) (next : List ℕ → ℕ) (S M : ℕ) (
     unfolding onRequestCall requested readStage readMessage readSends Machine.storedProbes
     request-growing = go (readHeld mask x)
       where
-        go : (c : Bool) → cond c Machine.refused (Machine.accepted (record { after = record { stage = Machine.waiting x; held = readHeld mask; stored = readStored js }; sends = (x, Machine.request) ∷ Machine.probesFrom (readStored js) x (oneTo S) }))
+        go : (c : Bool) → cond c Machine.refused (Machine.accepted (record { after = record { stage = Machine.waiting x; held = readHeld mask; stored = readStored js }; sends = (x, Machine.up Machine.request) ∷ Machine.probesFrom (readStored js) x (oneTo S) }))
             ≡ cond (not c) (Machine.accepted (readSessionStep (requested x (at Stage.growing)))) Machine.refused
         go true = refl
-        go false = ap Machine.accepted (step-eq refl refl (ap (λ (l : Machine.Sends). (x, Machine.request) ∷ l) (sym (stored-probes S js few-sessions len zeros x))))
+        go false = ap Machine.accepted (step-eq refl refl (ap (λ (l : Machine.Sends). (x, Machine.up Machine.request) ∷ l) (sym (stored-probes S js few-sessions len zeros x))))
 
     requests : (stage : ℕ) → 1 ≤ stage → stage ≤ 6 → Requests stage
     unfolding onRequestCall readStage
@@ -198,4 +174,4 @@ module _ (senior : ℕ → ℕ → Bool) (next : List ℕ → ℕ) (S M : ℕ) (
 -- within 1 to 64 an item is read as held where the mask has it
 pub held-read : (mask x : ℕ) → 1 ≤ x → x ≤ 64 → readHeld mask x ≡ has x mask
 unfolding readHeld
-held-read mask x l h = rw (between-true 1 64 x l h) refl
+held-read mask x l h = rw (between-intro 1 64 x l h) refl

@@ -6,15 +6,15 @@ use Prim.Native.Nat.{ℕ, _≤_}
 use native.Mathlib.Omega.{arith}
 use lib.Dec.{eqb}
 use borrow.Author.Tests.{eqb-true, eqb-false}
-use Rattle.buffer.specs.Lists.{lowest, member}
+use Rattle.lists.specs.Lists.{lowest, member}
+use Rattle.lists.proofs.Searches.{lowest-le, lowest-same}
+use Rattle.lists.proofs.Tests.{between-intro}
 use Rattle.mailbox.specs.Entry.{Entry}
 use Rattle.session.specs.declared.Session.{Session}
 use Rattle.item.specs.Record.{Lock}
 use Rattle.waits.specs.Waits
-use Rattle.waits.proofs.Searches.{lowest-le, lowest-same}
 use Rattle.deadlock.specs.Machine
 use Rattle.agreement.specs.Reading.{readHolder, readItem, readItems, readState, rules}
-use Rattle.agreement.proofs.ReadingSession.{between-true}
 use Rattle.agreement.proofs.ItemAgrees.{on-holder}
 
 holder-read : (h : ℕ) → Machine.holderOr0 (readHolder h) ≡ h
@@ -27,7 +27,7 @@ holder-read h = on-holder Machine.holderOr0 h ∙ go (eqb h 0) refl
 module _ (S M : ℕ) (sessions : ℕ → Session) (locks : ℕ → Lock) (l : List Entry) where
   item-at : (x : ℕ) → 1 ≤ x → x ≤ M → readItems M locks x ≡ readItem (locks x)
   unfolding readItems
-  item-at x low high = rw (between-true 1 M x low high) refl
+  item-at x low high = rw (between-intro 1 M x low high) refl
 
   holder-at : (x : ℕ) → 1 ≤ x → x ≤ M → Machine.holderOr0 (readItems M locks x .holder) ≡ locks x .holder
   holder-at x low high = rw (item-at x low high) (holder-read (locks x .holder))
@@ -50,12 +50,9 @@ module _ (S M : ℕ) (sessions : ℕ → Session) (locks : ℕ → Lock) (l : Li
     waits-agree : Machine.waitsFor (rules S M senior next) (readState S M sessions locks l) ≡ Waits.waitsFor M locks
     waits-agree = fun-ext waits-for-agrees
 
-    -- the session reached by a number of waits, the length of the cycle on which a session lies, and whether it lies on one
+    -- the session reached by a number of waits, and whether a session lies on a cycle
     pub reached-agrees : (n t : ℕ) → Machine.reached (rules S M senior next) (readState S M sessions locks l) n t ≡ Waits.reached (Waits.waitsFor M locks) n t
     reached-agrees n t = ap (λ (f : ℕ → ℕ). Waits.reached f n t) waits-agree
-
-    pub cycle-length-agrees : (t : ℕ) → Machine.cycleLength (rules S M senior next) (readState S M sessions locks l) t ≡ Waits.cycleLength (Waits.waitsFor M locks) S t
-    cycle-length-agrees t = ap (λ (f : ℕ → ℕ). Waits.cycleLength f S t) waits-agree
 
     pub on-cycle-agrees : (t : ℕ) → Machine.onCycle (rules S M senior next) (readState S M sessions locks l) t ≡ Waits.onCycle (Waits.waitsFor M locks) S t
     on-cycle-agrees t = ap (λ (f : ℕ → ℕ). Waits.onCycle f S t) waits-agree

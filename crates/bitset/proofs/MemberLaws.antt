@@ -1,6 +1,6 @@
 -- Laws of membership in a mask: after a number is put in or taken out, in the empty mask, above the mask's bound, and as the list of members.
 use mathlib.Core.Path.{_≡_, refl, sym, ap, _∙_}
-use mathlib.Core.Bool.{Bool, true, false, cond}
+use mathlib.Core.Bool.{Bool, true, false, cond, _||_, or-false, or-true}
 use mathlib.Core.List.{List, [], _∷_}
 use Prim.Native.Nat.{ℕ, zero, suc, _+_, _-_, _*_, _/_, _%_, _^_, _≤_, _<_}
 use native.Mathlib.Nat.{add-mul, mod-lt, div-eq-of-lt}
@@ -9,7 +9,8 @@ use native.Mathlib.Omega.{arith}
 use lib.Dec.{eqb, ltb}
 use lib.Pow.{pow-pos, pow-mono, split, high, low, shr-shr, field, mod-mod-pow}
 use borrow.Author.Tests.{ltb-true, ltb-false, eqb-true, eqb-false, eq-eqb, ne-eqb}
-use Rattle.bitset.specs.Bitset.{has, insert, remove, withBit, bitsFrom, members}
+use Rattle.lists.proofs.Tests.{by-answer, eqb-self}
+use Rattle.bitset.specs.Bitset.{has, single, insert, remove, withBit, bitsFrom, members}
 use Rattle.bitset.proofs.Laws.{room, present-fits}
 
 -- the digits of a number below place t are those of its remainder, the digits above it those of half its quotient
@@ -115,6 +116,26 @@ has-above M k mask h l =
 pub has-none : (k : ℕ) → has k 0 ≡ false
 unfolding has
 has-none k = let e : 0 / 2 ^ (k - 1) ≡ 0 = div-eq-of-lt (pow-pos (k - 1)) in rw (e) refl
+
+pub insert-none : (x : ℕ) → 1 ≤ x → insert x 0 ≡ single x
+unfolding insert single
+insert-none x l = rw (has-none x, ne-eqb x 0 (λ e. omega arith)) (omega arith)
+
+-- the one member of a mask
+pub has-single : (k h : ℕ) → 1 ≤ k → has k (single h) ≡ eqb h k
+unfolding single
+has-single k zero l = rw (has-none k, ne-eqb 0 k (λ e. omega arith)) refl
+has-single k (suc h) l = by-answer (eqb k (suc h))
+    (λ e. rw (← insert-none (suc h) (omega arith), eqb-true k (suc h) e, eqb-self (suc h)) (has-insert-same (suc h) 0))
+    (λ e. let other = eqb-false k (suc h) e in
+    rw (← insert-none (suc h) (omega arith), has-insert-other (suc h) 0 k (omega arith) l other, ne-eqb (suc h) k (λ q. other (sym q))) (has-none k))
+
+-- one member more
+pub has-insert : (k x mask : ℕ) → 1 ≤ k → 1 ≤ x → has k (insert x mask) ≡ has k mask || eqb x k
+has-insert k x mask l h = by-answer (eqb k x)
+    (λ e. rw (eqb-true k x e, eqb-self x, has-insert-same x mask) (sym (or-true (has x mask))))
+    (λ e. let other = eqb-false k x e in
+    rw (has-insert-other x mask k h l other, ne-eqb x k (λ q. other (sym q))) (sym (or-false (has k mask))))
 
 module _ (M x mask : ℕ) (h : mask < 2 ^ M) where
   pub insert-below : 1 ≤ x → x ≤ M → insert x mask < 2 ^ M

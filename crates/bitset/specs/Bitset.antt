@@ -8,6 +8,14 @@ use lib.Dec.{eqb}
 unfoldable pub has : ℕ → ℕ → Bool
 has k mask = eqb (mask / 2 ^ (k - 1) % 2) 1
 
+-- the mask of k alone, empty where k is 0
+unfoldable pub single : ℕ → ℕ
+single k = cond (eqb k 0) 0 (2 ^ (k - 1))
+
+-- the mask of 1 to m
+abbrev pub full : ℕ → ℕ
+full m = 2 ^ m - 1
+
 -- the mask with k in it
 unfoldable pub insert : ℕ → ℕ → ℕ
 insert k mask = cond (has k mask) mask (mask + 2 ^ (k - 1))

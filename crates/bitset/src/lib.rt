@@ -2,7 +2,7 @@
 ghost use mathlib.Core.Path.{_≡_};
 ghost use mathlib.Core.List.{_∷_};
 ghost use Prim.Native.Nat.{_≤_, _<_};
-ghost use Rattle.bitset.specs.Bitset.{has, insert, remove, members};
+ghost use Rattle.bitset.specs.Bitset.{has, single, full, insert, remove, members};
 
 // The lowest member of a mask, and the mask without it.
 pub struct Split {
@@ -19,6 +19,26 @@ pub fn lowest(mask: u64) -> Split
     Split {
         member: (k + 1) as u8,
         rest: mask - (1u64 << k),
+    }
+}
+
+// The mask of k alone, empty where k is 0.
+pub fn single(k: u8) -> u64
+    requires { ⌜ k ≤ 64 ⌝ }
+    ensures { λ r. ⌜ r ≡ single k ⌝ }
+{
+    if k == 0 { 0 } else { 1u64 << (k - 1) }
+}
+
+// The mask of 1 to m.
+pub fn full(m: u8) -> u64
+    requires { ⌜ m ≤ 64 ⌝ }
+    ensures { λ r. ⌜ r ≡ full m ⌝ }
+{
+    if m == 64 {
+        18446744073709551615
+    } else {
+        (1u64 << m) - 1
     }
 }
 

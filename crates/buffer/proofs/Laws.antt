@@ -7,88 +7,88 @@ use native.Mathlib.Numerals.{add-one, towards-suc}
 use native.Mathlib.Omega.{arith}
 use lib.ListN.{length, getD, take, drop, set, length-append, length-drop, take-append-drop}
 use lib.Seq.{set-split, set-append-seam, take-at, take-add, take-append-le, take-append-seam, drop-at, drop-append-add, drop-append-le, drop-drop, length-take-le, drop-cons, getD-drop, getD-take, take-suc, take-length, paste, sets, sets-eq}
-use Rattle.buffer.specs.Bytes.{part, fromBytes, toBytes, over, padded}
+use Rattle.buffer.specs.Bytes.{slice, fromBytes, toBytes, splice, padded}
 
 -- every element is a byte
 abbrev pub AreBytes : List ℕ → Type 0
 AreBytes l = (i : ℕ) → i < length l → getD l i 0 < 256
 
 -- a store of one byte
-pub set-over : (t : List ℕ) (at b : ℕ) → at < length t → set t at b ≡ over t at (b ∷ [])
-unfolding over
-set-over t at b h = rw (add-one) (set-split t at b h)
+pub set-splice : (t : List ℕ) (at b : ℕ) → at < length t → set t at b ≡ splice t at (b ∷ [])
+unfolding splice
+set-splice t at b h = rw (add-one) (set-split t at b h)
 
-pub length-part : (t : List ℕ) (at n : ℕ) → at + n ≤ length t → length (part t at n) ≡ n
-length-part t at n h = length-take-le n (drop at t) (rw (length-drop) (omega arith))
+pub length-slice : (t : List ℕ) (at n : ℕ) → at + n ≤ length t → length (slice t at n) ≡ n
+length-slice t at n h = length-take-le n (drop at t) (rw (length-drop) (omega arith))
 
-pub getD-part : (t : List ℕ) (at n i : ℕ) → i < n → getD (part t at n) i 0 ≡ getD t (at + i) 0
-getD-part t at n i h = getD-take n (drop at t) i 0 h ∙ getD-drop at t i 0
+pub getD-slice : (t : List ℕ) (at n i : ℕ) → i < n → getD (slice t at n) i 0 ≡ getD t (at + i) 0
+getD-slice t at n i h = getD-take n (drop at t) i 0 h ∙ getD-drop at t i 0
 
 -- a part in two
-pub part-split : (t : List ℕ) (at n m : ℕ) → part t at (n + m) ≡ part t at n ++ part t (at + n) m
-part-split t at n m = take-add n m (drop at t) ∙ ap (λ (l : List ℕ). take n (drop at t) ++ take m l) (drop-drop n at t)
+pub slice-split : (t : List ℕ) (at n m : ℕ) → slice t at (n + m) ≡ slice t at n ++ slice t (at + n) m
+slice-split t at n m = take-add n m (drop at t) ∙ ap (λ (l : List ℕ). take n (drop at t) ++ take m l) (drop-drop n at t)
 
 -- a part of the front of two lists
-part-front : (k l : List ℕ) (at n : ℕ) → at + n ≤ length k → part (k ++ l) at n ≡ part k at n
-part-front k l at n h =
+slice-front : (k l : List ℕ) (at n : ℕ) → at + n ≤ length k → slice (k ++ l) at n ≡ slice k at n
+slice-front k l at n h =
     ap (take n) (drop-append-le at k l (omega arith)) ∙ take-append-le n (drop at k) l (rw (length-drop) (omega arith))
 
 -- one element more of a part
-pub part-more : (t : List ℕ) (at n : ℕ) → at + n < length t → part t at (n + 1) ≡ part t at n ++ (getD t (at + n) 0 ∷ [])
-part-more t at n h = rw (add-one, ← getD-drop at t n 0) (take-suc (drop at t) n 0 (rw (length-drop) (omega arith)))
+pub slice-more : (t : List ℕ) (at n : ℕ) → at + n < length t → slice t at (n + 1) ≡ slice t at n ++ (getD t (at + n) 0 ∷ [])
+slice-more t at n h = rw (add-one, ← getD-drop at t n 0) (take-suc (drop at t) n 0 (rw (length-drop) (omega arith)))
 
 -- the elements of a part of two
-pub part-two : (t : List ℕ) (at : ℕ) → at + 2 ≤ length t → part t at 2 ≡ getD t at 0 ∷ getD t (at + 1) 0 ∷ []
-part-two t at h = simp towards-suc (rw (drop-cons t at 0 (omega arith), drop-cons t (suc at) 0 (omega arith)) refl)
+pub slice-two : (t : List ℕ) (at : ℕ) → at + 2 ≤ length t → slice t at 2 ≡ getD t at 0 ∷ getD t (at + 1) 0 ∷ []
+slice-two t at h = simp towards-suc (rw (drop-cons t at 0 (omega arith), drop-cons t (suc at) 0 (omega arith)) refl)
 
 module _ (t : List ℕ) (at : ℕ) (a : List ℕ) (h : at + length a ≤ length t) where
   head-length : length (take at t ++ a) ≡ at + length a
   head-length = length-append (take at t) a ∙ ap (λ (n : ℕ). n + length a) (length-take-le at t (omega arith))
 
-  pub length-over : length (over t at a) ≡ length t
-  unfolding over
-  length-over = simp (length-append, length-drop, length-take-le at t (omega arith)) (omega arith)
+  pub length-splice : length (splice t at a) ≡ length t
+  unfolding splice
+  length-splice = simp (length-append, length-drop, length-take-le at t (omega arith)) (omega arith)
 
-  pub drop-over : drop at (over t at a) ≡ a ++ drop (at + length a) t
-  unfolding over
-  drop-over = drop-at (take at t) (a ++ drop (at + length a) t) at (length-take-le at t (omega arith))
+  pub drop-splice : drop at (splice t at a) ≡ a ++ drop (at + length a) t
+  unfolding splice
+  drop-splice = drop-at (take at t) (a ++ drop (at + length a) t) at (length-take-le at t (omega arith))
 
   -- what was written is read again
-  pub part-over : part (over t at a) at (length a) ≡ a
-  part-over = ap (take (length a)) drop-over ∙ take-append-seam a (drop (at + length a) t)
+  pub slice-splice : slice (splice t at a) at (length a) ≡ a
+  slice-splice = ap (take (length a)) drop-splice ∙ take-append-seam a (drop (at + length a) t)
 
   -- and what stands before it stays
-  pub part-over-before : (p n : ℕ) → p + n ≤ at → part (over t at a) p n ≡ part t p n
-  unfolding over
-  part-over-before p n f =
+  pub slice-splice-before : (p n : ℕ) → p + n ≤ at → slice (splice t at a) p n ≡ slice t p n
+  unfolding splice
+  slice-splice-before p n f =
       let fits : p + n ≤ length (take at t) = rw (length-take-le at t (omega arith)) f in
-      part-front (take at t) (a ++ drop (at + length a) t) p n fits
-      ∙ sym (part-front (take at t) (drop at t) p n fits) ∙ ap (λ (l : List ℕ). part l p n) (take-append-drop at t)
+      slice-front (take at t) (a ++ drop (at + length a) t) p n fits
+      ∙ sym (slice-front (take at t) (drop at t) p n fits) ∙ ap (λ (l : List ℕ). slice l p n) (take-append-drop at t)
 
-  seam : over t at a ≡ (take at t ++ a) ++ drop (at + length a) t
-  unfolding over
+  seam : splice t at a ≡ (take at t ++ a) ++ drop (at + length a) t
+  unfolding splice
   seam = sym (append-assoc (take at t) a (drop (at + length a) t))
 
   -- past what was written
-  drop-past : (n : ℕ) → drop (at + length a + n) (over t at a) ≡ drop (at + length a + n) t
+  drop-past : (n : ℕ) → drop (at + length a + n) (splice t at a) ≡ drop (at + length a + n) t
   drop-past n =
       ap (drop (at + length a + n)) seam
       ∙ ap (λ (k : ℕ). drop (k + n) ((take at t ++ a) ++ drop (at + length a) t)) (sym head-length)
       ∙ drop-append-add (take at t ++ a) (drop (at + length a) t) n ∙ drop-drop n (at + length a) t
 
   -- and what stands behind it stays
-  pub part-over-after : (p n : ℕ) → at + length a ≤ p → part (over t at a) p n ≡ part t p n
-  part-over-after p n f =
+  pub slice-splice-after : (p n : ℕ) → at + length a ≤ p → slice (splice t at a) p n ≡ slice t p n
+  slice-splice-after p n f =
       let past : at + length a + (p - (at + length a)) ≡ p = omega arith in
       ap (take n) (rw (past) at (drop-past (p - (at + length a))))
 
   -- a second run of bytes right behind the first
-  pub over-over : (b : List ℕ) → over (over t at a) (at + length a) b ≡ over t at (a ++ b)
-  unfolding over
-  over-over b =
-      let front : take (at + length a) (over t at a) ≡ take at t ++ a =
+  pub splice-splice : (b : List ℕ) → splice (splice t at a) (at + length a) b ≡ splice t at (a ++ b)
+  unfolding splice
+  splice-splice b =
+      let front : take (at + length a) (splice t at a) ≡ take at t ++ a =
       ap (take (at + length a)) seam ∙ take-at (take at t ++ a) (drop (at + length a) t) (at + length a) head-length in
-      let back : drop (at + length a + length b) (over t at a) ≡ drop (at + length (a ++ b)) t =
+      let back : drop (at + length a + length b) (splice t at a) ≡ drop (at + length (a ++ b)) t =
       drop-past (length b) ∙ ap (λ (n : ℕ). drop n t) (add-assoc at (length a) (length b) ∙ ap (λ (n : ℕ). at + n) (sym (length-append a b))) in
       rw (front, back) (simp append-assoc)
 
@@ -100,25 +100,25 @@ put-padded m p x h =
     rw (left, set-append-seam, more, append-assoc) refl
 
 -- a padded part grows by one store
-pub part-put : (m : ℕ) (t : List ℕ) (at n : ℕ) → at + n < length t → n < m → set (padded m (part t at n)) n (getD t (at + n) 0) ≡ padded m (part t at (n + 1))
-part-put m t at n h l =
-    let len = length-part t at n (omega arith) in
-    ap (λ (k : ℕ). set (padded m (part t at n)) k (getD t (at + n) 0)) (sym len)
-    ∙ put-padded m (part t at n) (getD t (at + n) 0) (omega arith) ∙ ap (padded m) (sym (part-more t at n h))
+pub slice-put : (m : ℕ) (t : List ℕ) (at n : ℕ) → at + n < length t → n < m → set (padded m (slice t at n)) n (getD t (at + n) 0) ≡ padded m (slice t at (n + 1))
+slice-put m t at n h l =
+    let len = length-slice t at n (omega arith) in
+    ap (λ (k : ℕ). set (padded m (slice t at n)) k (getD t (at + n) 0)) (sym len)
+    ∙ put-padded m (slice t at n) (getD t (at + n) 0) (omega arith) ∙ ap (padded m) (sym (slice-more t at n h))
 
 -- padding adds nothing to a list that is long enough
 pub padded-full : (m : ℕ) (l : List ℕ) → length l ≡ m → padded m l ≡ l
 padded-full m l h = let none : m - length l ≡ 0 = omega arith in rw (none) (append-nil l)
 
 -- a run of stores
-pub sets-over : (t : List ℕ) (at : ℕ) (vs : List ℕ) → at + length vs ≤ length t → sets t at vs ≡ over t at vs
-unfolding over
-sets-over t at vs h = sets-eq vs t at h ∙ append-assoc (take at t) vs (drop (at + length vs) t)
+pub sets-splice : (t : List ℕ) (at : ℕ) (vs : List ℕ) → at + length vs ≤ length t → sets t at vs ≡ splice t at vs
+unfolding splice
+sets-splice t at vs h = sets-eq vs t at h ∙ append-assoc (take at t) vs (drop (at + length vs) t)
 
 -- a copy of a whole list
-pub paste-over : (t : List ℕ) (at : ℕ) (l : List ℕ) (n : ℕ) → length l ≡ n → paste t at l n ≡ over t at l
-unfolding over
-paste-over t at l n e = rw (← e, take-length) (append-assoc (take at t) l (drop (at + length l) t))
+pub paste-splice : (t : List ℕ) (at : ℕ) (l : List ℕ) (n : ℕ) → length l ≡ n → paste t at l n ≡ splice t at l
+unfolding splice
+paste-splice t at l n e = rw (← e, take-length) (append-assoc (take at t) l (drop (at + length l) t))
 
 pub length-toBytes : (k n : ℕ) → length (toBytes k n) ≡ k
 length-toBytes zero n = refl
@@ -150,12 +150,12 @@ fromBytes-bound [] h = omega arith
 fromBytes-bound (b ∷ l) h = omega (arith, pow-suc 256 (length l), first-byte b l h, fromBytes-bound l (other-bytes b l h))
 
 -- a part of bytes is bytes
-pub bytes-part : (t : List ℕ) (at n : ℕ) → at + n ≤ length t → AreBytes t → AreBytes (part t at n)
-bytes-part t at n h f i g =
-    let len = length-part t at n h in rw (getD-part t at n i (omega arith)) (f (at + i) (omega arith))
+pub bytes-slice : (t : List ℕ) (at n : ℕ) → at + n ≤ length t → AreBytes t → AreBytes (slice t at n)
+bytes-slice t at n h f i g =
+    let len = length-slice t at n h in rw (getD-slice t at n i (omega arith)) (f (at + i) (omega arith))
 
-pub fromBytes-part-bound : (t : List ℕ) (at n : ℕ) → at + n ≤ length t → AreBytes t → fromBytes (part t at n) < 256 ^ n
-fromBytes-part-bound t at n h f = rw (length-part t at n h) at (fromBytes-bound (part t at n) (bytes-part t at n h f))
+pub fromBytes-slice-bound : (t : List ℕ) (at n : ℕ) → at + n ≤ length t → AreBytes t → fromBytes (slice t at n) < 256 ^ n
+fromBytes-slice-bound t at n h f = rw (length-slice t at n h) at (fromBytes-bound (slice t at n) (bytes-slice t at n h f))
 
 pub fromBytes-append : (k l : List ℕ) → fromBytes (k ++ l) ≡ fromBytes k + 256 ^ length k * fromBytes l
 fromBytes-append [] l = sym (zero-add (1 * fromBytes l) ∙ one-mul (fromBytes l))
@@ -164,10 +164,10 @@ fromBytes-append (b ∷ k) l =
 
 -- a number read in two
 pub fromBytes-split : (t : List ℕ) (at n m : ℕ) → at + n ≤ length t
-    → fromBytes (part t at (n + m)) ≡ fromBytes (part t at n) + 256 ^ n * fromBytes (part t (at + n) m)
+    → fromBytes (slice t at (n + m)) ≡ fromBytes (slice t at n) + 256 ^ n * fromBytes (slice t (at + n) m)
 fromBytes-split t at n m h =
-    ap fromBytes (part-split t at n m) ∙ fromBytes-append (part t at n) (part t (at + n) m)
-    ∙ ap (λ (k : ℕ). fromBytes (part t at n) + 256 ^ k * fromBytes (part t (at + n) m)) (length-part t at n h)
+    ap fromBytes (slice-split t at n m) ∙ fromBytes-append (slice t at n) (slice t (at + n) m)
+    ∙ ap (λ (k : ℕ). fromBytes (slice t at n) + 256 ^ k * fromBytes (slice t (at + n) m)) (length-slice t at n h)
 
 pub toBytes-split : (j k n : ℕ) → toBytes (j + k) n ≡ toBytes j n ++ toBytes k (n / 256 ^ j)
 toBytes-split zero k n = rw (zero-add, div-one) refl
@@ -175,8 +175,8 @@ toBytes-split (suc j) k n =
     rw (suc-add j k, pow-suc 256 j, mul-comm (256 ^ j) 256, ← div-div-eq-div-mul n 256 (256 ^ j)) (ap (λ (l : List ℕ). n % 256 ∷ l) (toBytes-split j k (n / 256)))
 
 -- a number written in two: x has the j lowest bytes, and y the next k
-pub over-split : {x y : List ℕ} (t : List ℕ) (at j k n : ℕ) → at + j ≤ length t → x ≡ over t at (toBytes j n)
-    → y ≡ over x (at + j) (toBytes k (n / 256 ^ j)) → y ≡ over t at (toBytes (j + k) n)
-over-split t at j k n h e f =
+pub splice-split : {x y : List ℕ} (t : List ℕ) (at j k n : ℕ) → at + j ≤ length t → x ≡ splice t at (toBytes j n)
+    → y ≡ splice x (at + j) (toBytes k (n / 256 ^ j)) → y ≡ splice t at (toBytes (j + k) n)
+splice-split t at j k n h e f =
     let len = length-toBytes j n in
-    f ∙ rw (e, toBytes-split j k n) (rw (len) at (over-over t at (toBytes j n) (omega arith) (toBytes k (n / 256 ^ j))))
+    f ∙ rw (e, toBytes-split j k n) (rw (len) at (splice-splice t at (toBytes j n) (omega arith) (toBytes k (n / 256 ^ j))))

@@ -4,12 +4,12 @@ use mathlib.Core.List.{List, [], _∷_, _++_}
 use lib.ListN.{length, take, drop, replicate}
 
 -- n bytes of t from `at` on
-abbrev pub part : List ℕ → ℕ → ℕ → List ℕ
-part t at n = take n (drop at t)
+abbrev pub slice : List ℕ → ℕ → ℕ → List ℕ
+slice t at n = take n (drop at t)
 
 -- t with l written over what stands from `at` on
-unfoldable pub over : List ℕ → ℕ → List ℕ → List ℕ
-over t at l = take at t ++ (l ++ drop (at + length l) t)
+unfoldable pub splice : List ℕ → ℕ → List ℕ → List ℕ
+splice t at l = take at t ++ (l ++ drop (at + length l) t)
 
 -- the number whose bytes, lowest first, are l
 abbrev pub fromBytes : List ℕ → ℕ

@@ -1,8 +1,10 @@
 // Little-endian numbers and runs of bytes in a buffer.
 ghost use mathlib.Core.Path.{_≡_};
 ghost use Prim.Native.Nat.{_+_, _≤_, _<_};
-ghost use lib.ListN.{length, getD};
-ghost use Rattle.buffer.specs.Bytes.{part, fromBytes, toBytes, over};
+ghost use lib.Dec.{eqb};
+ghost use lib.ListN.{length, getD, replicate};
+ghost use Rattle.lists.specs.Lists.{all};
+ghost use Rattle.buffer.specs.Bytes.{slice, fromBytes, toBytes, splice};
 
 // The byte at i, as a wide number.
 pub fn byte(t: &[u8], i: usize) -> u64
@@ -15,7 +17,7 @@ pub fn byte(t: &[u8], i: usize) -> u64
 // The number of two bytes at `at`.
 pub fn get16(t: &[u8], at: usize) -> u64
     requires { ⌜ at + 2 ≤ length (now t) ⌝ }
-    ensures { λ r. ⌜ r ≡ fromBytes (part (now (t .entry)) at 2) ⌝ }
+    ensures { λ r. ⌜ r ≡ fromBytes (slice (now (t .entry)) at 2) ⌝ }
 {
     byte(t, at) + 256 * byte(t, at + 1)
 }
@@ -23,7 +25,7 @@ pub fn get16(t: &[u8], at: usize) -> u64
 // Writes the two lowest bytes of v at `at`.
 pub fn put16(t: &mut [u8], at: usize, v: u64)
     requires { ⌜ at + 2 ≤ length (now t) ⌝ }
-    ensures { λ _. ⌜ now (t .exit) ≡ over (now (t .entry)) at (toBytes 2 v) ⌝ }
+    ensures { λ _. ⌜ now (t .exit) ≡ splice (now (t .entry)) at (toBytes 2 v) ⌝ }
 {
     t[at] = (v % 256) as u8;
     t[at + 1] = (v / 256 % 256) as u8;
@@ -32,7 +34,7 @@ pub fn put16(t: &mut [u8], at: usize, v: u64)
 // The number of eight bytes at `at`.
 pub fn get64(t: &[u8], at: usize) -> u64
     requires { ⌜ at + 8 ≤ length (now t) ⌝ }
-    ensures { λ r. ⌜ r ≡ fromBytes (part (now (t .entry)) at 8) ⌝ }
+    ensures { λ r. ⌜ r ≡ fromBytes (slice (now (t .entry)) at 8) ⌝ }
 {
     get16(t, at)
         + 65536 * get16(t, at + 2)
@@ -43,7 +45,7 @@ pub fn get64(t: &[u8], at: usize) -> u64
 // Writes the eight bytes of v at `at`.
 pub fn put64(t: &mut [u8], at: usize, v: u64)
     requires { ⌜ at + 8 ≤ length (now t) ⌝ }
-    ensures { λ _. ⌜ now (t .exit) ≡ over (now (t .entry)) at (toBytes 8 v) ⌝ }
+    ensures { λ _. ⌜ now (t .exit) ≡ splice (now (t .entry)) at (toBytes 8 v) ⌝ }
 {
     put16(t, at, v);
     put16(t, at + 2, v / 65536);
@@ -54,7 +56,7 @@ pub fn put64(t: &mut [u8], at: usize, v: u64)
 // The 64 bytes at `at`.
 pub fn get_row(t: &[u8], at: usize) -> [u8; 64]
     requires { ⌜ at + 64 ≤ length (now t) ⌝ }
-    ensures { λ r. ⌜ r ≡ part (now (t .entry)) at 64 ⌝ }
+    ensures { λ r. ⌜ r ≡ slice (now (t .entry)) at 64 ⌝ }
 {
     let mut row = [0u8; 64];
     let mut i: usize = 0;
@@ -68,11 +70,36 @@ pub fn get_row(t: &[u8], at: usize) -> [u8; 64]
 // Writes 64 bytes at `at`.
 pub fn put_row(t: &mut [u8], at: usize, row: [u8; 64])
     requires { ⌜ at + 64 ≤ length (now t) ⌝ }
-    ensures { λ _. ⌜ now (t .exit) ≡ over (now (t .entry)) at row ⌝ }
+    ensures { λ _. ⌜ now (t .exit) ≡ splice (now (t .entry)) at row ⌝ }
 {
     let mut i: usize = 0;
     while i < 64 {
         t[at + i] = row[i];
+        i += 1;
+    }
+}
+
+// Whether n bytes from `at` on are zero; with no early exit, so that the loop is done by vectors.
+pub fn is_zero(t: &[u8], at: usize, n: usize) -> bool
+    requires { ⌜ at + n ≤ length (now t) ⌝ }
+    ensures { λ r. ⌜ r ≡ all (λ b. eqb b 0) (slice (now (t .entry)) at n) ⌝ }
+{
+    let mut acc: u8 = 0;
+    let mut i: usize = 0;
+    while i < n {
+        acc = acc | t[at + i];
+        i += 1;
+    }
+    acc == 0
+}
+
+// Writes zeros.
+pub fn clear(t: &mut [u8])
+    ensures { λ _. ⌜ now (t .exit) ≡ replicate (length (now (t .entry))) 0 ⌝ }
+{
+    let mut i: usize = 0;
+    while i < t.len() {
+        t[i] = 0;
         i += 1;
     }
 }

@@ -14,12 +14,13 @@ use Rattle.deadlock.specs.Machine
 use Rattle.deadlock.specs.Statement as MachineStatement
 use Rattle.deadlock.proofs.Theorem as MachineTheorem
 use Rattle.agreement.proofs.RulesLaws.{rules-laws}
-use Rattle.clause.specs.Statement.{Call, step, report, left, TrueDeclaration, DeclarationsTrue}
+use Rattle.lockmgr.specs.Run.{Call, step, report, buffers, performed, steps}
+use Rattle.clause.specs.Statement.{TrueDeclaration, DeclarationsTrue}
 use Rattle.clause.proofs.State.{machineOf, stateOf, Good}
 use Rattle.clause.proofs.Cycles.{reached-of, on-cycle-of}
 use Rattle.clause.proofs.Moves.{Moved}
 use Rattle.clause.proofs.Step.{by-step}
-use Rattle.clause.proofs.Follow.{buffers, anything, ran, step-is}
+use Rattle.clause.proofs.Follow.{anything, ran, step-is}
 
 -- what is guaranteed of the machine with the lock manager's seniority and next holder
 pub guaranteed : (S M : ℕ) → MachineStatement.Guarantees (machineOf S M) anything
@@ -49,7 +50,7 @@ run-then S M s (d ∷ cs) c = run-then S M (Machine.step (machineOf S M) anythin
 abbrev From : List Call → Stepped → Type 0
 From calls r =
     (r .answer .victim ≢ 0 → r .answer .initiator ≢ 0 → TrueDeclaration (r .table) (r .answer .victim) (r .answer .initiator))
-    × DeclarationsTrue (buffers (r .table) (r .mail)) calls
+    × DeclarationsTrue (steps (buffers (r .table) (r .mail)) calls)
 
 module _ (S M C : ℕ) where
   abbrev begun : Machine.State
@@ -71,10 +72,10 @@ module _ (S M C : ℕ) where
         true-in-table S M C (r .table) (m .entries) (m .good) (r .answer .victim) (r .answer .initiator) (rw (stepped-to) at told)
 
   pub declarations : (calls : List Call) (table mail : List ℕ) (l : List Entry) → Good S M C table l → mail ≡ Mail.mailBytes C l
-      → (cs : List Machine.Call) → ran S M begun cs .state ≡ stateOf S M table l → DeclarationsTrue (buffers table mail) calls
-  unfolding left
+      → (cs : List Machine.Call) → ran S M begun cs .state ≡ stateOf S M table l → DeclarationsTrue (steps (buffers table mail) calls)
+  unfolding steps performed
   declarations [] table mail l g b cs e = tt
-  declarations (report t ∷ calls) table mail l g b cs e = (tt, declarations calls table mail l g b cs e)
+  declarations (report t ∷ calls) table mail l g b cs e = declarations calls table mail l g b cs e
   declarations (step verb t x ∷ calls) table mail l g b cs e =
       rw (b) (by-step S M C table l g verb t x (From calls)
       (λ n. ((λ v. absurd (v refl)), declarations calls table (Mail.mailBytes C l) l g refl cs e))

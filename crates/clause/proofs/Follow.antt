@@ -5,22 +5,19 @@ use mathlib.Core.List.{List, [], _∷_}
 use Prim.Native.Nat.{ℕ, _+_}
 use native.Mathlib.Omega.{arith}
 use lib.Dec.{eqb}
-use Rattle.buffer.specs.Lists.{between}
+use Rattle.lists.specs.Lists.{between}
 use Rattle.session.specs.Stage
 use Rattle.mailbox.specs.Entry.{Entry}
 use Rattle.mailbox.specs.Layout as Mail
 use Rattle.table.specs.Layout as Table
 use Rattle.lockmgr.specs.Calls as Calls
 use Rattle.lockmgr.specs.Calls.{Stepped, stepped, refusedAnswer}
-use Rattle.lockmgr.specs.Run.{rollsBack, one}
+use Rattle.lockmgr.specs.Run.{Call, step, report, Buffers, buffers, performed, after, steps, rollsBack, one}
 use Rattle.deadlock.specs.Machine
-use Rattle.clause.specs.Statement.{Call, step, report, Buffers, left, after, closedBy, closed, rolledBackBy, rolledBack}
+use Rattle.clause.specs.Statement.{closed, rolledBack}
 use Rattle.clause.proofs.State.{machineOf, stateOf, Good}
 use Rattle.clause.proofs.Moves.{Moved, one-is-bit, never-both}
 use Rattle.clause.proofs.Step.{by-step}
-
-abbrev pub buffers : List ℕ → List ℕ → Buffers
-buffers table mail = record { table = table; mail = mail }
 
 -- the policy that refuses nothing: a refused step is no call of the machine
 abbrev pub anything : Machine.State → Machine.Call → Bool
@@ -50,8 +47,8 @@ pub record Followed (S M C : ℕ) (s : Machine.State) (b : Buffers) (calls : Lis
   pub mail : after b calls .mail ≡ Mail.mailBytes C entries
   pub good : Good S M C (after b calls .table) entries
   pub state : ran S M s run .state ≡ stateOf S M (after b calls .table) entries
-  pub closes : k + closed b calls ≡ Machine.countClosed (ran S M s run .events)
-  pub rolls : j + rolledBack b calls ≡ Machine.countRolledBack (ran S M s run .events)
+  pub closes : k + closed (steps b calls) ≡ Machine.countClosed (ran S M s run .events)
+  pub rolls : j + rolledBack (steps b calls) ≡ Machine.countRolledBack (ran S M s run .events)
 
 module _ (S M C : ℕ) (verb t : ℕ) (calls : List Call) (table mail : List ℕ) (l : List Entry) where
   abbrev delivery : Bool
@@ -91,16 +88,16 @@ module _ (S M C : ℕ) (table mail : List ℕ) (l : List Entry) where
   All calls = Followed S M C (stateOf S M table l) (buffers table mail) calls 0 0
 
   no-calls : Good S M C table l → mail ≡ Mail.mailBytes C l → All []
-  unfolding after closed rolledBack Machine.run Machine.countClosed Machine.countRolledBack
+  unfolding after steps closed rolledBack Machine.run Machine.countClosed Machine.countRolledBack
   no-calls g e = record { run = []; entries = l; mail = e; good = g; state = refl; closes = refl; rolls = refl }
 
   after-report : (t : ℕ) (calls : List Call) → All calls → All (report t ∷ calls)
-  unfolding after left closed closedBy rolledBack rolledBackBy
+  unfolding after steps performed closed rolledBack
   after-report t calls h =
       record { run = h .run; entries = h .entries; mail = h .mail; good = h .good; state = h .state; closes = omega (arith, h .closes); rolls = omega (arith, h .rolls) }
 
   after-step : (verb t x : ℕ) (calls : List Call) → After S M C verb t calls table mail l (Calls.step verb t x table mail) → All (step verb t x ∷ calls)
-  unfolding after left closed closedBy rolledBack rolledBackBy
+  unfolding after steps performed closed rolledBack
   after-step verb t x calls h =
       record { run = h .run; entries = h .entries; mail = h .mail; good = h .good; state = h .state; closes = omega (arith, h .closes); rolls = omega (arith, h .rolls) }
 

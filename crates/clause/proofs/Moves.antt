@@ -7,7 +7,7 @@ use mathlib.Core.Option.{none, some}
 use Prim.Native.Nat.{ℕ, _≤_}
 use lib.Dec.{eqb}
 use lib.ListN.{length}
-use Rattle.buffer.specs.Lists.{between}
+use Rattle.lists.specs.Lists.{between}
 use Rattle.session.specs.Stage
 use Rattle.session.specs.declared.Session.{Session}
 use Rattle.session.specs.Rules as Session
@@ -24,7 +24,7 @@ use Rattle.lockmgr.specs.Calls.{Stepped, committed, sessionPlan, itemPlan}
 use Rattle.lockmgr.specs.Run.{rollsBack}
 use Rattle.deadlock.specs.Lists.{bit}
 use Rattle.deadlock.specs.Machine
-use Rattle.agreement.specs.Reading.{readState, readEvent}
+use Rattle.agreement.specs.Reading.{readState}
 use Rattle.agreement.proofs.MoveAgrees.{Replaced, StateWellFormed}
 use Rattle.clause.proofs.State
 use Rattle.clause.proofs.State.{machineOf, stateOf, Good}
@@ -113,7 +113,7 @@ module _ (S M C : ℕ) (table : List ℕ) (l : List Entry) (g : Good S M C table
 
     module _ (fits : length answered ≤ C) (kept : (f : ℕ → Lock) → PutLock f → StateWellFormed S M (Table.session table) f answered)
         (moves : (f : ℕ → Lock) → PutLock f → readState S M (Table.session table) f answered ≡ Machine.move (machineOf S M) before call)
-        (happens : (after : Machine.State) → Machine.eventOf (machineOf S M) before call after ≡ readEvent (r .event) (Machine.onCycle (machineOf S M) after t)) where
+        (happens : (after : Machine.State) → Machine.eventOf (machineOf S M) before call after ≡ Machine.itemEvent (r .event) (Machine.onCycle (machineOf S M) after t)) where
       abbrev item-after : List ℕ
       item-after = Table.withItem table x (packed (r .lock))
 
@@ -126,20 +126,20 @@ module _ (S M C : ℕ) (table : List ℕ) (l : List Entry) (g : Good S M C table
       same-stage : rollsBack t table item-after ≡ false
       same-stage = rw (State.session-same S M C table l g x x-range (r .lock) answered fits kept t t-range) (never-both (eqb (Table.session table t .stage) Stage.rolledBack))
 
-      closes : (e : Event) → Calls.closed t item-after e ≡ bit (readEvent e (Machine.onCycle (machineOf S M) (stateOf S M item-after answered) t) .closed)
-      unfolding readEvent
+      closes : (e : Event) → Calls.closed t item-after e ≡ bit (Machine.itemEvent e (Machine.onCycle (machineOf S M) (stateOf S M item-after answered) t) .closed)
+      unfolding Machine.itemEvent
       closes Nothing = one-is-bit false
       closes Joined = rw (on-cycle-of S M C item-after answered good t) (one-is-bit (not (eqb (cycleLength item-after t) 0)))
       closes (Declared v i) = one-is-bit false
 
-      declares : (e : Event) (b : Bool) → Item.victim e ≢ 0 → readEvent e b .declared ≡ some (record { victim = Item.victim e; initiator = Item.initiator e })
-      unfolding readEvent
+      declares : (e : Event) (b : Bool) → Item.victim e ≢ 0 → Machine.itemEvent e b .declared ≡ some (record { victim = Item.victim e; initiator = Item.initiator e })
+      unfolding Machine.itemEvent
       declares Nothing b n = absurd (n refl)
       declares Joined b n = absurd (n refl)
       declares (Declared v i) b n = refl
 
-      never-rolls : (e : Event) (b : Bool) → false ≡ readEvent e b .rolledBack
-      unfolding readEvent
+      never-rolls : (e : Event) (b : Bool) → false ≡ Machine.itemEvent e b .rolledBack
+      unfolding Machine.itemEvent
       never-rolls Nothing b = refl
       never-rolls Joined b = refl
       never-rolls (Declared v i) b = refl
@@ -152,7 +152,7 @@ module _ (S M C : ℕ) (table : List ℕ) (l : List Entry) (g : Good S M C table
         mail = refl;
         good = good;
         moves = State.item-state S M C table l g x x-range (r .lock) answered fits kept ∙ moves (locks item-after) put-lock;
-        event = readEvent (r .event) (Machine.onCycle (machineOf S M) (stateOf S M item-after answered) t);
+        event = Machine.itemEvent (r .event) (Machine.onCycle (machineOf S M) (stateOf S M item-after answered) t);
         happens = happens (stateOf S M item-after answered);
         closes = closes (r .event);
         declares = declares (r .event) (Machine.onCycle (machineOf S M) (stateOf S M item-after answered) t);

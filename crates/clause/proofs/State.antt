@@ -7,14 +7,15 @@ use native.Mathlib.Omega.{arith}
 use lib.Dec.{eqb}
 use lib.ListN.{length}
 use borrow.Author.Tests.{eq-eqb, ne-eqb}
-use Rattle.buffer.specs.Lists.{between, all}
+use Rattle.lists.specs.Lists.{between, all}
+use Rattle.lists.proofs.Searches.{distinct-length}
+use Rattle.lists.proofs.Tests.{within}
 use Rattle.session.specs.Seniority.{senior}
 use Rattle.session.specs.declared.Session.{Session}
 use Rattle.session.specs.Record as SessionRecord
 use Rattle.item.specs.NextHolder.{nextHolder}
 use Rattle.item.specs.Record.{Lock, packed, unpacked}
 use Rattle.item.proofs.Laws.{unpacked-packed, length-packed}
-use Rattle.item.proofs.Pigeonhole.{pigeonhole}
 use Rattle.mailbox.specs.Entry as Entry
 use Rattle.mailbox.specs.Entry.{Entry}
 use Rattle.mailbox.specs.Layout as Mail
@@ -22,9 +23,9 @@ use Rattle.table.specs.Layout as Table
 use Rattle.table.proofs.Laws as TableLaws
 use Rattle.waits.specs.OnTable.{locks}
 use Rattle.deadlock.specs.Machine
-use Rattle.agreement.specs.Reading.{readSession, readSessions, readState, rules, LockWellFormed}
-use Rattle.agreement.proofs.ReadingLists.{between-low, between-high}
-use Rattle.agreement.proofs.ItemKeeps.{unpacked-lock, packed-lock}
+use Rattle.wellformed.specs.Records.{LockWellFormed}
+use Rattle.agreement.specs.Reading.{readSession, readSessions, readState, rules}
+use Rattle.wellformed.proofs.Items.{unpacked-lock, packed-lock}
 use Rattle.agreement.proofs.MoveAgrees.{Replaced, StateWellFormed}
 
 -- the machine of S sessions and M items with the lock manager's seniority and next holder
@@ -48,16 +49,16 @@ pub record Good (S M C : ℕ) (table : List ℕ) (l : List Entry) : Type 0 where
 
 module _ (S M C : ℕ) (table : List ℕ) (l : List Entry) (g : Good S M C table l) where
   pub few-sessions : S ≤ 64
-  few-sessions = omega (arith, TableLaws.sized-facts table (g .sized) .most-sessions, g .sessions)
+  few-sessions = omega (arith, TableLaws.sized-facts table (g .sized) .max-sessions, g .sessions)
 
   pub few-items : M ≤ 64
-  few-items = omega (arith, TableLaws.sized-facts table (g .sized) .most-items, g .items)
+  few-items = omega (arith, TableLaws.sized-facts table (g .sized) .max-items, g .items)
 
   session-known : (t : ℕ) → between 1 S t ≡ true → (1 ≤ t) × (t ≤ Table.sessionsOf table)
-  session-known t r = (between-low 1 S t r, omega (arith, between-high 1 S t r, g .sessions))
+  session-known t r = (within 1 S t r .0, omega (arith, within 1 S t r .1, g .sessions))
 
   item-known : (x : ℕ) → between 1 M x ≡ true → (1 ≤ x) × (x ≤ Table.itemsOf table)
-  item-known x r = (between-low 1 M x r, omega (arith, between-high 1 M x r, g .items))
+  item-known x r = (within 1 M x r .0, omega (arith, within 1 M x r .1, g .items))
 
   -- every record and every entry is well-formed
   pub all-formed : StateWellFormed S M (Table.session table) (locks table) l
@@ -94,7 +95,7 @@ module _ (S M C : ℕ) (table : List ℕ) (l : List Entry) (g : Good S M C table
     session-replaced =
         let n = session-known t r in record {
           here = TableLaws.session-withSession table (g .sized) t (n .0) (n .1) s new-juniors (TableLaws.held-fits S M s few-items new-session);
-          elsewhere = λ j q d. TableLaws.other-withSession table (g .sized) t (n .0) (n .1) s new-juniors j (between-low 1 S j q) (λ e. d (sym e));
+          elsewhere = λ j q d. TableLaws.other-withSession table (g .sized) t (n .0) (n .1) s new-juniors j (within 1 S j q .0) (λ e. d (sym e));
         }
 
     locks-same : locks with-session ≡ locks table
@@ -133,7 +134,7 @@ module _ (S M C : ℕ) (table : List ℕ) (l : List Entry) (g : Good S M C table
     new-lock = rw (lock-put .here) at (kept put-lock lock-put .lock x r)
 
     queue-whole : length (packed i .queue) ≡ 64
-    queue-whole = length-packed i (omega (arith, pigeonhole S (i .queue) (new-lock .once) (new-lock .sessions), few-sessions))
+    queue-whole = length-packed i (omega (arith, distinct-length S (i .queue) (new-lock .once) (new-lock .sessions), few-sessions))
 
     abbrev with-item : List ℕ
     with-item = Table.withItem table x (packed i)
@@ -143,7 +144,7 @@ module _ (S M C : ℕ) (table : List ℕ) (l : List Entry) (g : Good S M C table
     lock-replaced =
         let n = item-known x r in record {
           here = ap unpacked (TableLaws.item-withItem table (g .sized) x (n .0) (n .1) (packed i) queue-whole) ∙ unpacked-packed i;
-          elsewhere = λ j q d. ap unpacked (TableLaws.other-withItem table (g .sized) x (n .0) (n .1) (packed i) queue-whole j (between-low 1 M j q) (λ e. d (sym e)));
+          elsewhere = λ j q d. ap unpacked (TableLaws.other-withItem table (g .sized) x (n .0) (n .1) (packed i) queue-whole j (within 1 M j q .0) (λ e. d (sym e)));
         }
 
     pub session-same : (t : ℕ) → between 1 S t ≡ true → Table.session with-item t ≡ Table.session table t

@@ -3,12 +3,13 @@ use mathlib.Core.Path.{_≡_, refl}
 use mathlib.Core.Bool.{Bool, true, false, not, _&&_, _||_}
 use mathlib.Core.List.{List}
 use mathlib.Core.Option.{none}
-use Prim.Native.Nat.{ℕ, zero, suc, _≤_}
+use Prim.Native.Nat.{ℕ, _≤_}
 use native.Mathlib.Omega.{arith}
-use lib.Dec.{eqb, ltb}
+use lib.Dec.{eqb}
 use lib.ListN.{length}
 use borrow.Author.Tests.{eqb-true, ltb-false, not-false}
-use Rattle.buffer.specs.Lists.{between}
+use Rattle.lists.specs.Lists.{between}
+use Rattle.lists.proofs.Tests.{and-intro, between-intro, by-test, or-neither}
 use Rattle.bitset.specs.Bitset.{has}
 use Rattle.session.specs.Stage
 use Rattle.session.specs.Seniority.{senior}
@@ -20,26 +21,17 @@ use Rattle.mailbox.proofs.Laws as MailLaws
 use Rattle.table.specs.Layout as Table
 use Rattle.waits.specs.OnTable.{locks}
 use Rattle.lockmgr.specs.Calls as Calls
-use Rattle.lockmgr.specs.Calls.{Stepped, stepped, refusedAnswer, judged, hindered, plan, acted, committed, step, stageForbids, maskForbids, nothingToDeliver}
-use Rattle.lockmgr.proofs.Judging.{unmet, judged-zero}
+use Rattle.lockmgr.specs.Calls.{Stepped, stepped, refusedAnswer, judged, hindered, delivered, sessionActs, overfull, plan, acted, committed, step, stageForbids, maskForbids, nothingToDeliver}
+use Rattle.lockmgr.proofs.Causes.{unmet}
+use Rattle.lockmgr.proofs.Judging.{judged-zero}
+use Rattle.lockmgr.proofs.Acting.{by-verb, request-plan, release-plan}
 use Rattle.deadlock.specs.Machine
-use Rattle.agreement.proofs.ReadingSession.{between-true}
-use Rattle.agreement.proofs.Entries.{by-test, both, or-neither}
-use Rattle.agreement.proofs.RulesLaws.{next-inside, senior-irreflexive}
+use Rattle.agreement.proofs.RulesLaws.{next-inside}
 use Rattle.agreement.proofs.MoveAgrees as Agrees
 use Rattle.agreement.proofs.EventAgrees as Events
 use Rattle.clause.proofs.State
 use Rattle.clause.proofs.State.{machineOf, Good}
 use Rattle.clause.proofs.Moves.{Moved, session-moved, item-moved}
-
--- the verbs are 1 to 4
-by-verb : (P : ℕ → Type 0) → P 1 → P 2 → P 3 → P 4 → (n : ℕ) → 1 ≤ n → n ≤ 4 → P n
-by-verb P a b c d zero l h = absurd (omega arith)
-by-verb P a b c d (suc zero) l h = a
-by-verb P a b c d (suc (suc zero)) l h = b
-by-verb P a b c d (suc (suc (suc zero))) l h = c
-by-verb P a b c d (suc (suc (suc (suc zero)))) l h = d
-by-verb P a b c d (suc (suc (suc (suc (suc n))))) l h = absurd (omega arith)
 
 -- nothing happens, for no test and another is passed
 quiet : (b : Bool) → Machine.nothing ≡ record { closed = false; declared = none; rolledBack = b && false }
@@ -48,19 +40,19 @@ quiet false = refl
 
 -- what a step knows that is not hindered
 pub record Unhindered (verb t x : ℕ) (table mail : List ℕ) : Type 0 where
-  pub stage : stageForbids verb (Table.session table t) ≡ false
-  pub mask : maskForbids verb x (Table.session table t) ≡ false
-  pub route : nothingToDeliver verb t x (Mail.entriesOf mail) ≡ false
+  pub stage : stageForbids verb (Table.session table t .stage) ≡ false
+  pub mask : maskForbids verb x (Table.session table t .held) ≡ false
+  pub route : nothingToDeliver verb (delivered verb t x (Mail.entriesOf mail)) (Mail.entriesOf mail) ≡ false
   pub room : length (plan verb t x table (Mail.entriesOf mail) .entries) ≤ Mail.capacityOf mail
 
 module _ (verb t x : ℕ) (table mail : List ℕ) where
   unhindered : hindered verb t x table mail ≡ 0 → Unhindered verb t x table mail
   unfolding hindered
   unhindered e =
-      let s = unmet (stageForbids verb (Table.session table t)) 5 _ e in
-      let m = unmet (maskForbids verb x (Table.session table t)) 6 _ (s .1) in
-      let r = unmet (nothingToDeliver verb t x (Mail.entriesOf mail)) 7 _ (m .1) in
-      let n = unmet (ltb (Mail.capacityOf mail) (length (plan verb t x table (Mail.entriesOf mail) .entries))) 8 _ (r .1) in
+      let s = unmet (stageForbids verb (Table.session table t .stage)) 5 _ e in
+      let m = unmet (maskForbids verb x (Table.session table t .held)) 6 _ (s .1) in
+      let r = unmet (nothingToDeliver verb (delivered verb t x (Mail.entriesOf mail)) (Mail.entriesOf mail)) 7 _ (m .1) in
+      let n = unmet (overfull (Mail.capacityOf mail) (plan verb t x table (Mail.entriesOf mail) .entries)) 8 _ (r .1) in
       record {
         stage = s .0;
         mask = m .0;
@@ -93,7 +85,7 @@ module _ (S M C : ℕ) (table : List ℕ) (l : List Entry) (g : Good S M C table
   module _ (t x : ℕ) (t-range : between 1 S t ≡ true) (x-range : between 1 M x ≡ true) where
     in-range : Machine.inRange (machineOf S M) t x ≡ true
     unfolding Machine.inRange
-    in-range = both t-range x-range
+    in-range = and-intro t-range x-range
 
     abbrev Done : ℕ → Type 0
     Done verb = Unhindered verb t x table mail → Moved S M C table l verb t (committed t C (plan verb t x table l))
@@ -108,44 +100,46 @@ module _ (S M C : ℕ) (table : List ℕ) (l : List Entry) (g : Good S M C table
     formed = State.all-formed S M C table l g
 
     request-done : Done Calls.request
-    unfolding plan Machine.ofMachine Machine.eventOf Session.requested
+    unfolding Machine.ofMachine Machine.eventOf Session.requested
     request-done u =
         let s = Table.session table t in
         let stage = or-neither (not (eqb (s .stage) Stage.growing)) _ (u .stage) .0 in
         let mask = or-neither (has x (s .held)) _ (u .mask) .0 in
-        let allowed : eqb (s .stage) Stage.growing && not (has x (s .held)) ≡ true = both (not-false (eqb (s .stage) Stage.growing) stage) (rw (mask) refl) in
-        session-moved S M C table l g Calls.request t t-range (Machine.requestCall t x) in-range l (Session.requested x s)
-        (rw (capacity-is, entries-are) at (u .room))
+        let allowed : eqb (s .stage) Stage.growing && not (has x (s .held)) ≡ true = and-intro (not-false (eqb (s .stage) Stage.growing) stage) (rw (mask) refl) in
+        rw (request-plan t x table l)
+        (session-moved S M C table l g Calls.request t t-range (Machine.requestCall t x) in-range l (Session.requested x s)
+        (rw (capacity-is, entries-are, request-plan t x table l) at (u .room))
         (λ f h. Agrees.request-move-kept senior nextHolder S M few-sessions few-items (Table.session table) (locks table) l formed t x t-range x-range f h)
         (λ f h. Agrees.request-move senior nextHolder S M few-sessions few-items (Table.session table) (locks table) l formed t x t-range x-range allowed f h)
         (λ f h _. rw (h .here) (quiet (not (eqb (s .stage) Stage.rolledBack))))
-        refl
+        refl)
 
     release-done : Done Calls.release
-    unfolding plan Machine.ofMachine Machine.eventOf Session.released
+    unfolding Machine.ofMachine Machine.eventOf Session.released
     release-done u =
         let s = Table.session table t in
         let stage : eqb (s .stage) Stage.growing || eqb (s .stage) Stage.shrinking ≡ true = not-false (eqb (s .stage) Stage.growing || eqb (s .stage) Stage.shrinking) (u .stage) in
-        let allowed : (eqb (s .stage) Stage.growing || eqb (s .stage) Stage.shrinking) && has x (s .held) ≡ true = both stage (not-false (has x (s .held)) (u .mask)) in
-        session-moved S M C table l g Calls.release t t-range (Machine.releaseCall t x) in-range l (Session.released x s)
-        (rw (capacity-is, entries-are) at (u .room))
+        let allowed : (eqb (s .stage) Stage.growing || eqb (s .stage) Stage.shrinking) && has x (s .held) ≡ true = and-intro stage (not-false (has x (s .held)) (u .mask)) in
+        rw (release-plan t x table l)
+        (session-moved S M C table l g Calls.release t t-range (Machine.releaseCall t x) in-range l (Session.released x s)
+        (rw (capacity-is, entries-are, release-plan t x table l) at (u .room))
         (λ f h. Agrees.release-move-kept senior nextHolder S M few-sessions few-items (Table.session table) (locks table) l formed t x t-range x-range stage f h)
         (λ f h. Agrees.release-move senior nextHolder S M few-sessions few-items (Table.session table) (locks table) l formed t x t-range x-range allowed f h)
         (λ f h _. rw (h .here) (quiet (not (eqb (s .stage) Stage.rolledBack))))
-        refl
+        refl)
 
     item-done : Done Calls.deliverToItem
-    unfolding plan Machine.ofMachine
+    unfolding plan delivered Machine.ofMachine
     item-done u =
-        let found : eqb (Agrees.placeOf t x l true) (length l) ≡ false = rw (entries-are) at (or-neither (eqb (Agrees.placeOf t x (Mail.entriesOf mail) true) (length (Mail.entriesOf mail))) _ (u .route) .0) in
+        let found : eqb (Agrees.placeOf t x l true) (length l) ≡ false = rw (entries-are) at (u .route) in
         item-moved S M C table l g Calls.deliverToItem t t-range x x-range (Machine.deliverToItem t x) in-range (Agrees.othersOf t x l true) (Agrees.itemStep senior nextHolder (locks table) t x l)
         (rw (capacity-is, entries-are) at (u .room))
         (λ f h. Agrees.item-move-kept senior nextHolder S M few-sessions few-items (Table.session table) (locks table) l formed t x t-range x-range found next-inside f h)
         (λ f h. Agrees.item-move senior nextHolder S M few-sessions few-items (Table.session table) (locks table) l formed t x t-range x-range found next-inside f h)
-        (λ after. Events.item-move-event senior nextHolder S M few-sessions few-items (Table.session table) (locks table) l formed t x t-range x-range found next-inside senior-irreflexive after)
+        (λ after. Events.item-move-event senior nextHolder S M few-sessions few-items (Table.session table) (locks table) l formed t x t-range x-range found next-inside after)
 
     session-done : Done Calls.deliverToSession
-    unfolding plan Machine.ofMachine
+    unfolding plan delivered sessionActs Machine.ofMachine
     session-done u =
         let found : eqb (Agrees.placeOf t x l false) (length l) ≡ false = rw (entries-are) at (u .route) in
         session-moved S M C table l g Calls.deliverToSession t t-range (Machine.deliverToSession t x) in-range (Agrees.othersOf t x l false) (Agrees.sessionStep senior (Table.session table) t x l)
@@ -162,8 +156,8 @@ module _ (S M C : ℕ) (table : List ℕ) (l : List Entry) (g : Good S M C table
       outcome verb t x table mail P refused (λ e u.
       let known = judged-zero verb t x table mail e in
       let j = known .2 in
-      let t-range = between-true 1 S t (j .session-low) (omega (arith, j .session-high, g .sessions)) in
-      let x-range = between-true 1 M x (j .item-low) (omega (arith, j .item-high, g .items)) in
+      let t-range = between-intro 1 S t (j .session-low) (omega (arith, j .session-high, g .sessions)) in
+      let x-range = between-intro 1 M x (j .item-low) (omega (arith, j .item-high, g .items)) in
       rw (capacity-is, entries-are)
       (moved (committed t C (plan verb t x table l))
       (by-verb (Done t x t-range x-range) (request-done t x t-range x-range) (release-done t x t-range x-range) (item-done t x t-range x-range) (session-done t x t-range x-range) verb (known .0) (known .1) u)))

@@ -1,12 +1,14 @@
 -- The clause: a list of calls is a run of the machine, whose theorem holds of the lock manager's rules.
 use mathlib.Core.Path.{_≡_, refl, sym, ap, _∙_}
-use mathlib.Core.Bool.{Bool, true, false, cond, not}
+use mathlib.Core.Bool.{false, not}
 use mathlib.Core.List.{List, [], _∷_}
 use Prim.Native.Nat.{ℕ, _≤_}
 use native.Mathlib.Omega.{arith}
 use lib.Dec.{eqb}
 use lib.ListN.{length}
 use borrow.Author.Tests.{eqb-true, not-false}
+use Rattle.lists.proofs.Tests.{by-test, within}
+use Rattle.lists.proofs.Laws.{all-none}
 use Rattle.session.specs.Seniority.{senior}
 use Rattle.item.specs.NextHolder.{nextHolder}
 use Rattle.item.specs.Record as ItemRecord
@@ -20,47 +22,41 @@ use Rattle.waits.specs.Waits
 use Rattle.waits.specs.OnTable.{locks, waitsFor, cycleLength}
 use Rattle.waits.proofs.Leaders.{cycles-none}
 use Rattle.lockmgr.specs.Calls as Calls
+use Rattle.lockmgr.specs.Calls.{Config, config}
 use Rattle.lockmgr.proofs.Judging.{Startable, start-zero, report-none}
 use Rattle.deadlock.specs.Machine
 use Rattle.agreement.specs.Reading.{readEntries}
-use Rattle.agreement.proofs.ReadingLists.{between-low, between-high}
-use Rattle.agreement.proofs.Entries.{all-none}
 use Rattle.agreement.proofs.MoveAgrees.{start-agrees}
-use Rattle.clause.specs.Statement.{Call, Buffers, opened, after, Settled, WellFormed, Clause}
+use Rattle.lockmgr.specs.Run.{Call, Buffers, buffers, after}
+use Rattle.clause.specs.Statement.{opened, Settled, WellFormed, Clause}
 use Rattle.clause.proofs.State.{machineOf, stateOf, Good}
 use Rattle.clause.proofs.Cycles.{on-cycle-of}
-use Rattle.clause.proofs.Follow.{buffers, ran, Followed, follow}
+use Rattle.clause.proofs.Follow.{ran, Followed, follow}
 use Rattle.clause.proofs.Declarations.{guaranteed, declarations}
 
 -- a start that is not refused
-pub start-accepted : (S M C : ℕ) (table mail : List ℕ) → Calls.start S M C table mail .refusal ≡ 0 → Calls.startRefusal S M C table mail ≡ 0
-unfolding Calls.start
-start-accepted S M C table mail e = go (eqb (Calls.startRefusal S M C table mail) 0) refl e
-  where
-    go : (b : Bool) → eqb (Calls.startRefusal S M C table mail) 0 ≡ b
-        → (cond b (Calls.opened 0 (Table.started S M) (Mail.mailBytes C [])) (Calls.opened (Calls.startRefusal S M C table mail) table mail)) .refusal ≡ 0
-        → Calls.startRefusal S M C table mail ≡ 0
-    go true f g = eqb-true (Calls.startRefusal S M C table mail) 0 f
-    go false f g = g
+module _ (c : Config) (table mail : List ℕ) (e : Calls.start c table mail .refusal ≡ 0) where
+  pub start-accepted : Calls.startRefusal c table mail ≡ 0
+  unfolding Calls.start
+  start-accepted = by-test (λ (r : Calls.Started). r .refusal ≡ 0 → Calls.startRefusal c table mail ≡ 0) (eqb (Calls.startRefusal c table mail) 0) (λ f _. eqb-true (Calls.startRefusal c table mail) 0 f) (λ _ g. g) e
 
--- what it leaves
-pub start-leaves : (S M C : ℕ) (table mail : List ℕ) → Calls.start S M C table mail .refusal ≡ 0
-    → opened S M C table mail ≡ buffers (Table.started S M) (Mail.mailBytes C [])
-unfolding opened Calls.start
-start-leaves S M C table mail e = rw (start-accepted S M C table mail e) refl
+  -- what it leaves
+  pub start-leaves : opened c table mail ≡ buffers (Table.started (c .sessions) (c .items)) (Mail.mailBytes (c .capacity) [])
+  unfolding opened Calls.start
+  start-leaves = rw (start-accepted) refl
 
 module _ (S M C : ℕ) where
   abbrev begun : List ℕ
   begun = Table.started S M
 
-  pub begun-good : {table mail : List ℕ} → Startable S M C table mail → Good S M C begun []
+  pub begun-good : {table mail : List ℕ} → Startable (config S M C) table mail → Good S M C begun []
   begun-good f = record {
-    sized = StartLaws.sized-started S M (f .some-sessions) (f .most-sessions) (f .some-items) (f .most-items);
+    sized = StartLaws.sized-started S M (f .some-sessions) (f .max-sessions) (f .some-items) (f .max-items);
     sessions = StartLaws.sessionsOf-started S M;
     items = StartLaws.itemsOf-started S M;
     formed = StartLaws.wellFormed-started S M;
     low = f .some-room;
-    high = f .most-room;
+    high = f .max-room;
     room = omega arith;
     entries = all-none (Entry.wellFormed S M);
   }
@@ -69,8 +65,8 @@ module _ (S M C : ℕ) where
   unfolding locks
   begun-state =
       start-agrees S M (Table.session begun) (locks begun)
-      (λ t r. StartLaws.session-started S M t (between-low 1 S t r) (between-high 1 S t r))
-      (λ x r. ap ItemRecord.unpacked (StartLaws.item-started S M x (between-low 1 M x r) (between-high 1 M x r)))
+      (λ t r. StartLaws.session-started S M t (within 1 S t r .0) (within 1 S t r .1))
+      (λ x r. ap ItemRecord.unpacked (StartLaws.item-started S M x (within 1 M x r .0) (within 1 M x r .1)))
       senior nextHolder
 
 no-entries : (l : List Entry) → length l ≡ 0 → l ≡ []
@@ -86,16 +82,17 @@ module _ (S M C : ℕ) (b : Buffers) (calls : List Call) (h : Followed S M C (Ma
   abbrev table-left : List ℕ
   table-left = after b calls .table
 
-  well-formed : WellFormed S M C (after b calls)
+  well-formed : WellFormed (config S M C) (after b calls)
   well-formed =
       let g = h .good in record {
-        table-sized = g .sized;
+        formed = record {
+          records = record { sized = g .sized; formed = g .formed };
+          mail-sized = rw (h .mail) (MailLaws.sized-mail C (h .entries) (g .low) (g .high) (g .room));
+          mail-formed = rw (h .mail, g .sessions, g .items) (MailLaws.wellFormed-mail C (h .entries) (g .low) (g .high) (g .room) S M (g .entries));
+        };
         sessions = g .sessions;
         items = g .items;
-        table-formed = g .formed;
-        mail-sized = rw (h .mail) (MailLaws.sized-mail C (h .entries) (g .low) (g .high) (g .room));
         capacity = rw (h .mail) (MailLaws.capacity-mail C (h .entries) (g .low) (g .high) (g .room));
-        mail-formed = rw (h .mail) (MailLaws.wellFormed-mail C (h .entries) (g .low) (g .high) (g .room) S M (g .entries));
       }
 
   module _ (empty : Mail.countOf (after b calls .mail) ≡ 0) where
@@ -125,10 +122,13 @@ module _ (S M C : ℕ) (b : Buffers) (calls : List Call) (h : Followed S M C (Ma
 
 pub theorem : Clause
 unfolding Machine.run
-theorem S M C table mail e calls =
-    let g = begun-good S M C (start-zero S M C table mail (start-accepted S M C table mail e)) in
+theorem c table mail e calls =
+    let S = c .sessions in
+    let M = c .items in
+    let C = c .capacity in
+    let g = begun-good S M C (start-zero c table mail (start-accepted c table mail e)) in
     let h = rw (begun-state S M C) at (follow S M C calls (Table.started S M) (Mail.mailBytes C []) [] g refl) in
-    rw (start-leaves S M C table mail e) (record {
+    rw (start-leaves c table mail e) (record {
       settled = settled S M C (buffers (Table.started S M) (Mail.mailBytes C [])) calls h;
       declarations = declarations S M C calls (Table.started S M) (Mail.mailBytes C []) [] g refl [] (sym (begun-state S M C));
       formed = well-formed S M C (buffers (Table.started S M) (Mail.mailBytes C [])) calls h;

@@ -3,11 +3,11 @@ use mathlib.Core.Bool.{Bool}
 use Prim.Native.Nat.{ℕ}
 use native.Mathlib.Omega.{arith}
 use borrow.Author.Tests.{le-ltb, lt-ltb, ltb-false, ltb-true}
-use Rattle.buffer.specs.Lists.{member}
+use Rattle.lists.specs.Lists.{member}
+use Rattle.lists.proofs.Tests.{eqb-self}
 use Rattle.deadlock.specs.Machine.{Call, Laws, State}
 use Rattle.deadlock.specs.Statement.{Guarantees}
 use Rattle.deadlock.specs.Instance.{firstCome}
-use Rattle.deadlock.proofs.Lists.{eqb-self}
 use Rattle.deadlock.proofs.Theorem.{theorem}
 
 module _ (S M : ℕ) where

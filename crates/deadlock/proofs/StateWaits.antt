@@ -6,18 +6,19 @@ use mathlib.Core.Logic.{_⊎_, inl, inr}
 use Prim.Native.Nat.{_+_, _≤_, suc, zero, ℕ}
 use native.Mathlib.Omega.{arith}
 use lib.Dec.{eqb}
-use borrow.Author.Tests.{eqb-false}
-use Rattle.buffer.specs.Lists.{lowest, member}
+use borrow.Author.Tests.{eqb-false, ne-eqb}
+use Rattle.lists.specs.Lists.{lowest, member}
+use Rattle.lists.proofs.Searches.{lowest-found, lowest-le, lowest-passes}
+use Rattle.lists.proofs.Tests.{and-both}
 use Rattle.waits.specs.Waits
-use Rattle.waits.proofs.Searches.{lowest-found, lowest-le, lowest-passes}
 use Rattle.waits.proofs.Reached.{Graph, on-cycle-back, on-cycle-found, reached-add}
 use Rattle.deadlock.specs.Machine.{holderOr0, onCycle, reached, Rules, State, waitsFor}
 use Rattle.deadlock.specs.Walks.{FirstApart, onward, rest, Walk}
 use Rattle.deadlock.specs.World.{Edge, Links}
 use Rattle.deadlock.specs.Invariant.{InRange, worldOf}
-use Rattle.deadlock.proofs.Lists.{and-right, eqb-ne, member-occurs, occurs-member, zero-or-more}
-use Rattle.deadlock.proofs.Walks.{cycle-next, lastApart-firstApart}
-use Rattle.deadlock.proofs.Victims.{one-edge, one-queue}
+use Rattle.deadlock.proofs.Laws.Lists.{member-occurs, occurs-member, zero-or-more}
+use Rattle.deadlock.proofs.Laws.Walks.{cycle-next, lastApart-firstApart}
+use Rattle.deadlock.proofs.Victims.OneOnCycle.{one-edge, one-queue}
 
 holder-some : (o : Option ℕ) → 1 ≤ holderOr0 o → o ≡ some (holderOr0 o)
 holder-some none h = absurd (omega arith)
@@ -32,7 +33,7 @@ module _ (R : Rules) (s : State) (lk : Links R (worldOf s)) (rg : (x : ℕ) → 
 
   edge-queued : (a b : ℕ) (e : Edge R (worldOf s) a b) → queued a (e .item) ≡ true
   edge-queued a b e =
-      let p : eqb b 0 ≡ false = eqb-ne b 0 (λ z. absurd (omega (arith, edge-in-range a b e .1 .0))) in
+      let p : eqb b 0 ≡ false = ne-eqb b 0 (λ z. absurd (omega (arith, edge-in-range a b e .1 .0))) in
       rw (e .held, p) (occurs-member a (s .item (e .item) .queue) (e .stands))
 
   edge-at : (a b : ℕ) (e : Edge R (worldOf s) a b) → lowest (R .M) (queued a) ≡ e .item
@@ -40,11 +41,11 @@ module _ (R : Rules) (s : State) (lk : Links R (worldOf s)) (rg : (x : ℕ) → 
       let p = lowest-found (R .M) (queued a) (e .item) (e .low) (e .high) (edge-queued a b e) in
       let r = lowest-passes (R .M) (queued a) (omega arith) in
       one-queue lk a (lowest (R .M) (queued a)) (e .item) (p .0) (lowest-le (R .M) (queued a)) (e .low) (e .high)
-      (member-occurs a _ (and-right (not (eqb (holderOr0 (s .item (lowest (R .M) (queued a)) .holder)) 0)) _ r)) (e .stands)
+      (member-occurs a _ (and-both (not (eqb (holderOr0 (s .item (lowest (R .M) (queued a)) .holder)) 0)) _ r .1)) (e .stands)
 
   pub edge-waitsFor : (a b : ℕ) → Edge R (worldOf s) a b → waitsFor R s a ≡ b
   unfolding waitsFor Waits.waitsFor Waits.waitsAt Waits.queuedAt
-  edge-waitsFor a b e = rw (edge-at a b e, eqb-ne (e .item) 0 (λ z. absurd (omega (arith, e .low))), e .held)
+  edge-waitsFor a b e = rw (edge-at a b e, ne-eqb (e .item) 0 (λ z. absurd (omega (arith, e .low))), e .held)
 
   pub waitsFor-edge : (a : ℕ) → 1 ≤ waitsFor R s a → Edge R (worldOf s) a (waitsFor R s a)
   unfolding waitsFor Waits.waitsFor Waits.waitsAt Waits.queuedAt
@@ -60,7 +61,7 @@ module _ (R : Rules) (s : State) (lk : Links R (worldOf s)) (rg : (x : ℕ) → 
             item = k;
             low = lo;
             high = omega (arith, e, lowest-le (R .M) (queued a));
-            stands = member-occurs a (s .item k .queue) (and-right (not (eqb (holderOr0 (s .item k .holder)) 0)) _ q);
+            stands = member-occurs a (s .item k .queue) (and-both (not (eqb (holderOr0 (s .item k .holder)) 0)) _ q .1);
             held = holder-some (s .item k .holder) h;
           }
 

@@ -4,22 +4,22 @@ use mathlib.Core.List.{[], _∷_, List}
 use Prim.Native.Nat.{_+_, suc, zero, ℕ}
 use lib.Dec.{eqb}
 use Rattle.deadlock.specs.Lists.{bit}
-use Rattle.deadlock.specs.Machine.{abort, clean, grant, Message, probe, rebroadcast, release, request, resend, Sends, withdraw, withdrawn}
-use Rattle.deadlock.specs.Kind
+use Rattle.deadlock.specs.Machine.{abort, clean, down, grant, Message, probe, rebroadcast, release, request, resend, Sends, up, withdraw, withdrawn}
+use Rattle.message.specs.Kind
 
 -- ---- messages by kind
--- the kind of a message, numbered as in module Kind
+-- the number of a message's kind
 abbrev pub kindOf : Message → ℕ
-kindOf request = Kind.request
-kindOf release = Kind.release
+kindOf (up request) = Kind.request
+kindOf (up release) = Kind.release
+kindOf (up rebroadcast) = Kind.rebroadcast
+kindOf (up withdraw) = Kind.withdraw
+kindOf (down grant) = Kind.grant
+kindOf (down resend) = Kind.resend
+kindOf (down withdrawn) = Kind.withdrawn
 kindOf (probe i j) = Kind.probe
 kindOf (clean v i) = Kind.clean
-kindOf rebroadcast = Kind.rebroadcast
-kindOf withdraw = Kind.withdraw
-kindOf grant = Kind.grant
-kindOf resend = Kind.resend
 kindOf (abort v i) = Kind.abort
-kindOf withdrawn = Kind.withdrawn
 
 unfoldable pub countKind : ℕ → List Message → ℕ
 countKind k [] = 0
@@ -50,13 +50,8 @@ module _ (Q : Message → List Message → Type 0) where
 
 -- J i j if the message is a probe (i, j); nothing of the other kinds
 abbrev pub OfProbe : (ℕ → ℕ → Type 0) → Message → Type 0
-OfProbe J request = Unit {0}
-OfProbe J release = Unit {0}
-OfProbe J rebroadcast = Unit {0}
-OfProbe J withdraw = Unit {0}
-OfProbe J grant = Unit {0}
-OfProbe J resend = Unit {0}
-OfProbe J withdrawn = Unit {0}
+OfProbe J (up m) = Unit {0}
+OfProbe J (down m) = Unit {0}
 OfProbe J (probe i j) = J i j
 OfProbe J (clean v i) = Unit {0}
 OfProbe J (abort v i) = Unit {0}
@@ -69,13 +64,8 @@ behindRequest (m ∷ q) = cond (eqb (kindOf m) Kind.request) q (behindRequest q)
 -- ---- cleans
 -- 1 for a clean of victim v, else 0
 abbrev pub cleanOf : ℕ → Message → ℕ
-cleanOf v request = 0
-cleanOf v release = 0
-cleanOf v rebroadcast = 0
-cleanOf v withdraw = 0
-cleanOf v grant = 0
-cleanOf v resend = 0
-cleanOf v withdrawn = 0
+cleanOf v (up m) = 0
+cleanOf v (down m) = 0
 cleanOf v (probe i j) = 0
 cleanOf v (clean a b) = bit (eqb a v)
 cleanOf v (abort a b) = 0
@@ -92,13 +82,8 @@ cleansSent v (p ∷ l) = cleanOf v (p .1) + cleansSent v l
 -- ---- probes
 -- 1 for a probe of initiator i, else 0
 abbrev pub probeOf : ℕ → Message → ℕ
-probeOf i request = 0
-probeOf i release = 0
-probeOf i rebroadcast = 0
-probeOf i withdraw = 0
-probeOf i grant = 0
-probeOf i resend = 0
-probeOf i withdrawn = 0
+probeOf i (up m) = 0
+probeOf i (down m) = 0
 probeOf i (probe a b) = bit (eqb a i)
 probeOf i (clean a b) = 0
 probeOf i (abort a b) = 0

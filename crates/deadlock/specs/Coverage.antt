@@ -4,7 +4,7 @@ use mathlib.Core.Bool.{cond, true}
 use mathlib.Core.Logic.{_⊎_}
 use Prim.Native.Nat.{_+_, _≤_, ℕ}
 use Rattle.deadlock.specs.Machine.{Rules}
-use Rattle.deadlock.specs.Kind
+use Rattle.message.specs.Kind
 use Rattle.deadlock.specs.Counts.{behindRequest, countKind, except, freshProbes, isStored, sumOver, sumUpTo, unlessCleaned}
 use Rattle.deadlock.specs.Walks.{FirstApart, Walk}
 use Rattle.deadlock.specs.World.{Edge, HolderIs, isWaiting, Live, Queued, stageOf, VictimIn, World}
@@ -66,5 +66,5 @@ module _ (R : Rules) (w : World) where
     -- behind a request goes every probe that the session stores
     pub stored-requested : (t x i : ℕ) → 1 ≤ x → x ≤ R .M → 1 ≤ countKind Kind.request (w .up t x)
         → stores w t i ≤ freshProbes i (behindRequest (w .up t x))
-    -- a victim stores w no probe
+    -- a victim stores no probe
     pub victim-stores-none : (t i : ℕ) → VictimIn w t → w .session t .stored i ≡ 0

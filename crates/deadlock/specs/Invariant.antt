@@ -4,10 +4,10 @@ use mathlib.Core.Bool.{Bool, false, not, true}
 use mathlib.Core.List.{[], _∷_, List}
 use mathlib.Core.Option.{some}
 use Prim.Native.Nat.{_+_, _≤_, ℕ}
-use Rattle.buffer.specs.Lists.{count, member}
+use Rattle.lists.specs.Lists.{count, member}
 use Rattle.waits.specs.Waits.{cycles}
 use Rattle.deadlock.specs.Lists.{occurs}
-use Rattle.deadlock.specs.Machine.{Entry, growing, Item, Message, rolledBack, route, Rules, shrinking, Stage, State, victim, waiting, waitsFor, withdrawing}
+use Rattle.deadlock.specs.Machine.{cleaning, Entry, growing, Item, Message, releasing, rolledBack, route, Rules, Stage, State, victim, waiting, waitsFor, withdrawing}
 use Rattle.deadlock.specs.Counts.{cleanOf}
 use Rattle.deadlock.specs.Links.{Linked, PairView, viewOf}
 use Rattle.deadlock.specs.World.{FreeIsEmpty, Mail, Probes, Victims, World}
@@ -66,11 +66,10 @@ standing R s = cycles (waitsFor R s) (R .S) (R .senior)
 -- a session t of that stage withdraws, and is out of the queue of the item that it awaited
 abbrev pub isLeaving : (ℕ → Item) → ℕ → Stage → Bool
 isLeaving I t growing = false
-isLeaving I t shrinking = false
-isLeaving I t rolledBack = false
 isLeaving I t (waiting y) = false
-isLeaving I t (victim y) = false
-isLeaving I t (withdrawing y) = not (member t (I y .queue))
+isLeaving I t (victim cleaning y) = false
+isLeaving I t (victim withdrawing y) = not (member t (I y .queue))
+isLeaving I t (releasing p) = false
 
 -- how many sessions do
 unfoldable pub leaving : Rules → State → ℕ
@@ -81,4 +80,4 @@ leaving R s = count (R .S) (λ t. isLeaving (s .item) t (s .session t .stage))
 pub record Balance (R : Rules) (s : State) (closed rolledBack : ℕ) : Type 0 where
   pub balance : closed ≡ rolledBack + standing R s + leaving R s
   -- whoever withdraws, does so from an item of the machine
-  pub withdraws-in-range : (t y : ℕ) → s .session t .stage ≡ withdrawing y → (1 ≤ y) × (y ≤ R .M)
+  pub withdraws-in-range : (t y : ℕ) → s .session t .stage ≡ victim withdrawing y → (1 ≤ y) × (y ≤ R .M)

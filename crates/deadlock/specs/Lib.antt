@@ -1,6 +1,5 @@
 pub mod Lists
 pub mod Machine
-pub mod Kind
 pub mod Counts
 pub mod Links
 pub mod Walks

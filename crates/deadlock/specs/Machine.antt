@@ -5,9 +5,11 @@ use mathlib.Core.List.{[], _++_, _∷_, List, map}
 use mathlib.Core.Option.{none, Option, some}
 use Prim.Native.Nat.{_+_, ℕ}
 use lib.Dec.{eqb, leb}
-use Rattle.buffer.specs.Lists.{member, only}
+use Rattle.lists.specs.Lists.{member, filter}
 use Rattle.deadlock.specs.Lists.{bit, oneTo, updated, without}
 use Rattle.item.specs.Record.{lock}
+use Rattle.item.specs.declared.Event.{Event as ItemEvent}
+use Rattle.item.specs.declared.Event.the-variants.{Declared, Joined, Nothing}
 use Rattle.waits.specs.Waits
 
 -- S sessions, numbered from 1, and M items, numbered from 1; who is senior to whom; the next holder when the queue is x ∷ xs
@@ -24,15 +26,33 @@ pub record Laws (R : Rules) : Type 0 where
   pub total : (a b : ℕ) → R .senior a b ≡ false → R .senior b a ≡ false → a ≡ b
   pub next-member : (x : ℕ) (xs : List ℕ) → member (R .next x xs) (x ∷ xs) ≡ true
 
--- probe (initiator, junior), clean (victim, initiator), abort (victim, initiator)
+-- what a session sends to an item with no session named, and what an item sends to a session
+pub data Upward : Type 0 where
+  request release rebroadcast withdraw : Upward
+
+pub data Downward : Type 0 where
+  grant resend withdrawn : Downward
+
+-- and the messages that name two sessions: probe (initiator, junior), clean (victim, initiator), abort (victim, initiator)
 pub data Message : Type 0 where
-  request release rebroadcast withdraw grant resend withdrawn : Message
+  up : Upward → Message
+  down : Downward → Message
   probe clean abort : ℕ → ℕ → Message
 
--- the stages that await an item carry it
+-- a victim's clean is on its way, or it withdraws from the queue in which it waits
+pub data VictimPhase : Type 0 where
+  cleaning withdrawing : VictimPhase
+
+-- a session that requests no more: by its own release, or as a victim that was rolled back
+pub data ReleasePhase : Type 0 where
+  shrinking rolledBack : ReleasePhase
+
+-- the six stages; those that await an item carry it
 pub data Stage : Type 0 where
-  growing shrinking rolledBack : Stage
-  waiting victim withdrawing : ℕ → Stage
+  growing : Stage
+  waiting : ℕ → Stage
+  victim : VictimPhase → ℕ → Stage
+  releasing : ReleasePhase → Stage
 
 -- its stage, the items that it holds, and for each initiator the junior of the stored probe, or 0
 pub record Session : Type 0 where
@@ -60,10 +80,12 @@ pub record State : Type 0 where
 abbrev pub Sends : Type 0
 Sends = List (ℕ × Message)
 
--- what an item or a session does on a message: the record that follows, and what it sends, in order
+-- what an item or a session does on a message: the record that follows, and what it sends, in order; at an item also what happens besides: its
+-- session joins the queue, or a victim is declared
 pub record ItemStep : Type 0 where
   pub after : Item
   pub sends : Sends
+  pub event : ItemEvent
 
 pub record SessionStep : Type 0 where
   pub after : Session
@@ -76,7 +98,7 @@ pub data Answer : Type 0 where
 
 -- the message is dropped
 abbrev pub itemDrops : Item → ItemStep
-itemDrops i = record { after = i; sends = [] }
+itemDrops i = record { after = i; sends = []; event = Nothing }
 
 abbrev pub sessionDrops : Session → SessionStep
 sessionDrops r = record { after = r; sends = [] }
@@ -85,10 +107,6 @@ unfoldable pub heldBy : Option ℕ → ℕ → Bool
 heldBy none t = false
 heldBy (some h) t = eqb h t
 
-unfoldable pub isHeld : Option ℕ → Bool
-isHeld none = false
-isHeld (some h) = true
-
 -- the holder's number, or 0 for none
 abbrev pub holderOr0 : Option ℕ → ℕ
 holderOr0 none = 0
@@ -96,7 +114,7 @@ holderOr0 (some h) = h
 
 -- a resend to each of a list of sessions
 unfoldable pub resends : List ℕ → Sends
-resends l = map (λ (a : ℕ). (a, resend)) l
+resends l = map (λ (a : ℕ). (a, down resend)) l
 
 -- what is stored, as probes to item x, by rising initiator
 unfoldable pub probesFrom : (ℕ → ℕ) → ℕ → List ℕ → Sends
@@ -108,28 +126,46 @@ unfoldable pub toEach : Message → (ℕ → Bool) → List ℕ → Sends
 toEach m f [] = []
 toEach m f (x ∷ l) = cond (f x) ((x, m) ∷ toEach m f l) (toEach m f l)
 
+-- a message to the item that a session of this stage awaits, if it awaits one
+unfoldable pub toAwaited : Stage → Message → Sends
+toAwaited growing m = []
+toAwaited (waiting y) m = (y, m) ∷ []
+toAwaited (victim p y) m = (y, m) ∷ []
+toAwaited (releasing p) m = []
+
+-- the stages in which a session takes probes
+abbrev pub isLive : Stage → Bool
+isLive growing = true
+isLive (waiting y) = true
+isLive (victim p y) = false
+isLive (releasing p) = false
+
 module _ (R : Rules) where
   -- ---- what an item does on a message of session t
   -- probe (a, holder) to the holder for each session a of a list that is senior to it
   unfoldable pub probesTo : ℕ → List ℕ → Sends
-  probesTo h l = map (λ (a : ℕ). (h, probe a h)) (only (λ (a : ℕ). R .senior a h) l)
+  probesTo h l = map (λ (a : ℕ). (h, probe a h)) (filter (λ (a : ℕ). R .senior a h) l)
+
+  -- probes anew: to the holder h for the sessions l, then a resend to each of m, so that they send their stored probes again
+  unfoldable pub probesAnew : ℕ → List ℕ → List ℕ → Sends
+  probesAnew h l m = probesTo h l ++ resends m
 
   -- no holder: t becomes holder. Else t joins the end of the queue; if t is senior to the holder, a probe to the holder
   unfoldable pub grantOrQueue : ℕ → List ℕ → Option ℕ → ItemStep
-  grantOrQueue t l none = record { after = record { holder = some t; queue = l }; sends = (t, grant) ∷ [] }
+  grantOrQueue t l none = record { after = record { holder = some t; queue = l }; sends = (t, down grant) ∷ []; event = Nothing }
   grantOrQueue t l (some h) =
-      record { after = record { holder = some h; queue = l ++ t ∷ [] }; sends = cond (R .senior t h) ((h, probe t h) ∷ []) [] }
+      record { after = record { holder = some h; queue = l ++ t ∷ [] }; sends = cond (R .senior t h) ((h, probe t h) ∷ []) []; event = Joined }
 
   unfoldable pub onRequest : ℕ → Item → ItemStep
   onRequest t r = cond (heldBy (r .holder) t || member t (r .queue)) (itemDrops r) (grantOrQueue t (r .queue) (r .holder))
 
   -- to the next holder: grant, then a probe for each remaining session senior to it; then a resend to each remaining session
   unfoldable pub handOver : List ℕ → ItemStep
-  handOver [] = record { after = record { holder = none; queue = [] }; sends = [] }
+  handOver [] = record { after = record { holder = none; queue = [] }; sends = []; event = Nothing }
   handOver (x ∷ xs) =
       let a = R .next x xs in
       let rest = without a (x ∷ xs) in
-      record { after = record { holder = some a; queue = rest }; sends = (a, grant) ∷ (probesTo a rest ++ resends rest) }
+      record { after = record { holder = some a; queue = rest }; sends = (a, down grant) ∷ probesAnew a rest rest; event = Nothing }
 
   unfoldable pub onRelease : ℕ → Item → ItemStep
   onRelease t r = cond (heldBy (r .holder) t) (handOver (r .queue)) (itemDrops r)
@@ -139,24 +175,36 @@ module _ (R : Rules) where
   passProbe i j none = []
   passProbe i j (some h) = cond (R .senior h i) [] (cond (eqb h i) ((j, abort j i) ∷ []) ((h, probe i j) ∷ []))
 
+  unfoldable pub declares : ℕ → ℕ → Option ℕ → ItemEvent
+  declares i j none = Nothing
+  declares i j (some h) = cond (R .senior h i) Nothing (cond (eqb h i) (Declared j i) Nothing)
+
   unfoldable pub passClean : ℕ → ℕ → ℕ → List ℕ → Option ℕ → Sends
   passClean t v i l none = []
-  passClean t v i l (some h) = (h, clean v i) ∷ (probesTo h l ++ resends (without t l))
+  passClean t v i l (some h) = (h, clean v i) ∷ probesAnew h l (without t l)
 
   unfoldable pub onRebroadcast : List ℕ → Option ℕ → Sends
   onRebroadcast l none = []
-  onRebroadcast l (some h) = probesTo h l ++ resends l
+  onRebroadcast l (some h) = probesAnew h l l
+
+  -- the sender of a probe stands in the queue: other probes are dropped
+  unfoldable pub inQueue : ℕ → Item → Bool
+  inQueue t r = member t (r .queue)
 
   unfoldable pub itemReceives : ℕ → Item → Message → ItemStep
-  itemReceives t r request = onRequest t r
-  itemReceives t r release = onRelease t r
-  itemReceives t r (probe i j) = record { after = r; sends = cond (member t (r .queue)) (passProbe i j (r .holder)) [] }
-  itemReceives t r (clean v i) = record { after = r; sends = passClean t v i (r .queue) (r .holder) }
-  itemReceives t r rebroadcast = record { after = r; sends = onRebroadcast (r .queue) (r .holder) }
-  itemReceives t r withdraw = record { after = record { holder = r .holder; queue = without t (r .queue) }; sends = (t, withdrawn) ∷ [] }
-  itemReceives t r grant = itemDrops r
-  itemReceives t r resend = itemDrops r
-  itemReceives t r withdrawn = itemDrops r
+  itemReceives t r (up request) = onRequest t r
+  itemReceives t r (up release) = onRelease t r
+  itemReceives t r (up rebroadcast) = record { after = r; sends = onRebroadcast (r .queue) (r .holder); event = Nothing }
+  itemReceives t r (up withdraw) =
+      record { after = record { holder = r .holder; queue = without t (r .queue) }; sends = (t, down withdrawn) ∷ []; event = Nothing }
+  itemReceives t r (down m) = itemDrops r
+  itemReceives t r (probe i j) =
+      record {
+        after = r;
+        sends = cond (inQueue t r) (passProbe i j (r .holder)) [];
+        event = cond (inQueue t r) (declares i j (r .holder)) Nothing;
+      }
+  itemReceives t r (clean v i) = record { after = r; sends = passClean t v i (r .queue) (r .holder); event = Nothing }
   itemReceives t r (abort v i) = itemDrops r
 
   -- ---- what session t does on a message of item x
@@ -165,12 +213,10 @@ module _ (R : Rules) where
 
   unfoldable pub onGrant : ℕ → Session → Stage → SessionStep
   onGrant x r growing = sessionDrops r
-  onGrant x r shrinking = sessionDrops r
-  onGrant x r rolledBack = sessionDrops r
   onGrant x r (waiting y) =
       cond (eqb y x) (record { after = record { stage = growing; held = updated (r .held) x true; stored = r .stored }; sends = [] }) (sessionDrops r)
-  onGrant x r (victim y) = sessionDrops r
-  onGrant x r (withdrawing y) = sessionDrops r
+  onGrant x r (victim p y) = sessionDrops r
+  onGrant x r (releasing p) = sessionDrops r
 
   -- the more junior of the two
   unfoldable pub junior : ℕ → ℕ → ℕ
@@ -186,31 +232,23 @@ module _ (R : Rules) where
       (record { after = record { stage = r .stage; held = r .held; stored = updated (r .stored) i j }; sends = sends })
       (sessionDrops r)
 
+  -- a session that takes probes stores this one, and passes it on to the item that it awaits
   unfoldable pub onProbe : ℕ → Session → ℕ → ℕ → Stage → SessionStep
-  onProbe t r i j growing = storeProbe r i (junior j t) []
-  onProbe t r i j shrinking = sessionDrops r
-  onProbe t r i j rolledBack = sessionDrops r
-  onProbe t r i j (waiting y) = storeProbe r i (junior j t) ((y, probe i (junior j t)) ∷ [])
-  onProbe t r i j (victim y) = sessionDrops r
-  onProbe t r i j (withdrawing y) = sessionDrops r
+  onProbe t r i j s = cond (isLive s) (storeProbe r i (junior j t) (toAwaited s (probe i (junior j t)))) (sessionDrops r)
 
   unfoldable pub onResend : ℕ → Session → Stage → SessionStep
   onResend x r growing = sessionDrops r
-  onResend x r shrinking = sessionDrops r
-  onResend x r rolledBack = sessionDrops r
   onResend x r (waiting y) = record { after = r; sends = cond (eqb y x) (storedProbes r x) [] }
-  onResend x r (victim y) = sessionDrops r
-  onResend x r (withdrawing y) = sessionDrops r
+  onResend x r (victim p y) = sessionDrops r
+  onResend x r (releasing p) = sessionDrops r
 
   -- a waiting session becomes a victim: its probes are cleared and a clean goes round the cycle
   unfoldable pub onAbort : Session → ℕ → ℕ → Stage → SessionStep
   onAbort r v i growing = sessionDrops r
-  onAbort r v i shrinking = sessionDrops r
-  onAbort r v i rolledBack = sessionDrops r
   onAbort r v i (waiting y) =
-      record { after = record { stage = victim y; held = r .held; stored = λ (_ : ℕ). 0 }; sends = (y, clean v i) ∷ [] }
-  onAbort r v i (victim y) = sessionDrops r
-  onAbort r v i (withdrawing y) = sessionDrops r
+      record { after = record { stage = victim cleaning y; held = r .held; stored = λ (_ : ℕ). 0 }; sends = (y, clean v i) ∷ [] }
+  onAbort r v i (victim p y) = sessionDrops r
+  onAbort r v i (releasing p) = sessionDrops r
 
   -- the session with its probes cleared
   unfoldable pub cleared : Session → Session
@@ -218,71 +256,63 @@ module _ (R : Rules) where
 
   -- a rebroadcast to each held item but x
   unfoldable pub rebroadcasts : ℕ → Session → Sends
-  rebroadcasts x r = toEach rebroadcast (λ (k : ℕ). r .held k && not (eqb k x)) (oneTo (R .M))
+  rebroadcasts x r = toEach (up rebroadcast) (λ (k : ℕ). r .held k && not (eqb k x)) (oneTo (R .M))
 
   -- probes cleared and rebroadcasts; a waiting session passes the clean on; the victim, back where the clean began, withdraws
   unfoldable pub onClean : ℕ → ℕ → Session → ℕ → ℕ → Stage → SessionStep
   onClean t x r v i growing = record { after = cleared r; sends = rebroadcasts x r }
-  onClean t x r v i shrinking = sessionDrops r
-  onClean t x r v i rolledBack = sessionDrops r
   onClean t x r v i (waiting y) = record { after = cleared r; sends = rebroadcasts x r ++ (y, clean v i) ∷ [] }
-  onClean t x r v i (victim y) =
+  onClean t x r v i (victim cleaning y) =
       cond (eqb v t)
-      (record { after = record { stage = withdrawing y; held = r .held; stored = r .stored }; sends = (y, withdraw) ∷ [] })
+      (record { after = record { stage = victim withdrawing y; held = r .held; stored = r .stored }; sends = (y, up withdraw) ∷ [] })
       (sessionDrops r)
-  onClean t x r v i (withdrawing y) = sessionDrops r
+  onClean t x r v i (victim withdrawing y) = sessionDrops r
+  onClean t x r v i (releasing p) = sessionDrops r
 
   unfoldable pub onWithdrawn : Session → Stage → SessionStep
   onWithdrawn r growing = sessionDrops r
-  onWithdrawn r shrinking = sessionDrops r
-  onWithdrawn r rolledBack = sessionDrops r
   onWithdrawn r (waiting y) = sessionDrops r
-  onWithdrawn r (victim y) = sessionDrops r
-  onWithdrawn r (withdrawing y) =
+  onWithdrawn r (victim cleaning y) = sessionDrops r
+  onWithdrawn r (victim withdrawing y) =
       record {
-        after = record { stage = rolledBack; held = λ (_ : ℕ). false; stored = r .stored };
-        sends = toEach release (r .held) (oneTo (R .M));
+        after = record { stage = releasing rolledBack; held = λ (_ : ℕ). false; stored = r .stored };
+        sends = toEach (up release) (r .held) (oneTo (R .M));
       }
+  onWithdrawn r (releasing p) = sessionDrops r
 
   unfoldable pub sessionReceives : ℕ → ℕ → Session → Message → SessionStep
-  sessionReceives t x r grant = onGrant x r (r .stage)
+  sessionReceives t x r (up m) = sessionDrops r
+  sessionReceives t x r (down grant) = onGrant x r (r .stage)
+  sessionReceives t x r (down resend) = onResend x r (r .stage)
+  sessionReceives t x r (down withdrawn) = onWithdrawn r (r .stage)
   sessionReceives t x r (probe i j) = onProbe t r i j (r .stage)
-  sessionReceives t x r resend = onResend x r (r .stage)
-  sessionReceives t x r (abort v i) = onAbort r v i (r .stage)
   sessionReceives t x r (clean v i) = onClean t x r v i (r .stage)
-  sessionReceives t x r withdrawn = onWithdrawn r (r .stage)
-  sessionReceives t x r request = sessionDrops r
-  sessionReceives t x r release = sessionDrops r
-  sessionReceives t x r rebroadcast = sessionDrops r
-  sessionReceives t x r withdraw = sessionDrops r
+  sessionReceives t x r (abort v i) = onAbort r v i (r .stage)
 
   -- ---- what a session does on a call for item x
   unfoldable pub onRequestCall : ℕ → Session → Stage → Answer
   onRequestCall x r growing =
       cond (r .held x) refused
-      (accepted (record { after = record { stage = waiting x; held = r .held; stored = r .stored }; sends = (x, request) ∷ storedProbes r x }))
-  onRequestCall x r shrinking = refused
-  onRequestCall x r rolledBack = refused
+      (accepted (record { after = record { stage = waiting x; held = r .held; stored = r .stored }; sends = (x, up request) ∷ storedProbes r x }))
   onRequestCall x r (waiting y) = refused
-  onRequestCall x r (victim y) = refused
-  onRequestCall x r (withdrawing y) = refused
+  onRequestCall x r (victim p y) = refused
+  onRequestCall x r (releasing p) = refused
 
   unfoldable pub releaseHeld : ℕ → Session → Answer
   releaseHeld x r =
       cond (r .held x)
       (accepted (record {
-        after = record { stage = shrinking; held = updated (r .held) x false; stored = λ (_ : ℕ). 0 };
-        sends = (x, release) ∷ [];
+        after = record { stage = releasing shrinking; held = updated (r .held) x false; stored = λ (_ : ℕ). 0 };
+        sends = (x, up release) ∷ [];
       }))
       refused
 
   unfoldable pub onReleaseCall : ℕ → Session → Stage → Answer
   onReleaseCall x r growing = releaseHeld x r
-  onReleaseCall x r shrinking = releaseHeld x r
-  onReleaseCall x r rolledBack = refused
   onReleaseCall x r (waiting y) = refused
-  onReleaseCall x r (victim y) = refused
-  onReleaseCall x r (withdrawing y) = refused
+  onReleaseCall x r (victim p y) = refused
+  onReleaseCall x r (releasing shrinking) = releaseHeld x r
+  onReleaseCall x r (releasing rolledBack) = refused
 
 -- ---- the mailbox
 unfoldable pub isOnRoute : Bool → ℕ → ℕ → Entry → Bool
@@ -371,10 +401,6 @@ module _ (R : Rules) where
   abbrev pub reached : State → ℕ → ℕ → ℕ
   reached s n t = Waits.reached (waitsFor s) n t
 
-  -- the length of the cycle on which t lies, or 0
-  abbrev pub cycleLength : State → ℕ → ℕ
-  cycleLength s t = Waits.cycleLength (waitsFor s) (R .S) t
-
   abbrev pub onCycle : State → ℕ → Bool
   onCycle s t = Waits.onCycle (waitsFor s) (R .S) t
 
@@ -396,41 +422,25 @@ nothing = record { closed = false; declared = none; rolledBack = false }
 
 abbrev pub isRolledBack : Stage → Bool
 isRolledBack growing = false
-isRolledBack shrinking = false
-isRolledBack rolledBack = true
 isRolledBack (waiting y) = false
-isRolledBack (victim y) = false
-isRolledBack (withdrawing y) = false
+isRolledBack (victim p y) = false
+isRolledBack (releasing shrinking) = false
+isRolledBack (releasing rolledBack) = true
 
--- a request of session t to an item: does it put t in the queue
-unfoldable pub joins : ℕ → Item → Bool
-joins t r = not (heldBy (r .holder) t || member t (r .queue)) && isHeld (r .holder)
+-- a delivery to an item, by what happens there and whether its session lies on a cycle in the state after
+unfoldable pub itemEvent : ItemEvent → Bool → Event
+itemEvent Nothing onCycle = nothing
+itemEvent Joined onCycle = record { closed = onCycle; declared = none; rolledBack = false }
+itemEvent (Declared v i) onCycle = record { closed = false; declared = some (record { victim = v; initiator = i }); rolledBack = false }
 
--- a probe (i, j) of session t to an item: does it find the initiator as holder
-unfoldable pub declares : ℕ → Item → ℕ → ℕ → Option Declaration
-declares t r i j = cond (member t (r .queue) && heldBy (r .holder) i) (some (record { victim = j; initiator = i })) none
+-- a delivery to a session, from its stage before and after
+unfoldable pub sessionEvent : Stage → Stage → Event
+sessionEvent before after = record { closed = false; declared = none; rolledBack = not (isRolledBack before) && isRolledBack after }
 
 module _ (R : Rules) where
-  -- a delivery of session t to an item, from the item before and the state after
-  unfoldable pub itemEvent : ℕ → Item → State → Message → Event
-  itemEvent t r after request = record { closed = joins t r && onCycle R after t; declared = none; rolledBack = false }
-  itemEvent t r after (probe i j) = record { closed = false; declared = declares t r i j; rolledBack = false }
-  itemEvent t r after release = nothing
-  itemEvent t r after rebroadcast = nothing
-  itemEvent t r after withdraw = nothing
-  itemEvent t r after grant = nothing
-  itemEvent t r after resend = nothing
-  itemEvent t r after withdrawn = nothing
-  itemEvent t r after (clean v i) = nothing
-  itemEvent t r after (abort v i) = nothing
-
   unfoldable pub takenEvent : ℕ → Item → State → Taken → Event
   takenEvent t r after noEntry = nothing
-  takenEvent t r after (taken m l) = itemEvent t r after m
-
-  -- a delivery to a session, from its stage before and after
-  unfoldable pub sessionEvent : Stage → Stage → Event
-  sessionEvent before after = record { closed = false; declared = none; rolledBack = not (isRolledBack before) && isRolledBack after }
+  takenEvent t r after (taken m l) = itemEvent (itemReceives R t r m .event) (onCycle R after t)
 
   -- what happens when an admitted call takes the machine from one state to another
   unfoldable pub eventOf : State → Call → State → Event
@@ -465,17 +475,9 @@ module _ (R : Rules) (admits : State → Call → Bool) where
       record { state = r .state; events = a .event ∷ r .events }
 
 -- ---- what is counted over a list of events
-abbrev pub isDeclared : Option Declaration → Bool
-isDeclared none = false
-isDeclared (some d) = true
-
 unfoldable pub countClosed : List Event → ℕ
 countClosed [] = 0
 countClosed (e ∷ es) = bit (e .closed) + countClosed es
-
-unfoldable pub countDeclared : List Event → ℕ
-countDeclared [] = 0
-countDeclared (e ∷ es) = bit (isDeclared (e .declared)) + countDeclared es
 
 unfoldable pub countRolledBack : List Event → ℕ
 countRolledBack [] = 0

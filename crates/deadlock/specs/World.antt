@@ -1,13 +1,13 @@
 -- A state as the invariant sees it: records, the messages of each route in order, and how many cleans there are of each victim. The clauses on links, victims and probes.
 use mathlib.Core.Path.{_≡_}
-use mathlib.Core.Bool.{Bool, false, true}
+use mathlib.Core.Bool.{false, true}
 use mathlib.Core.List.{[], _∷_, List}
 use mathlib.Core.Option.{none, some}
 use mathlib.Core.Logic.{_≢_, _⊎_}
 use Prim.Native.Nat.{_+_, _≤_, ℕ}
 use Rattle.deadlock.specs.Lists.{occurs}
-use Rattle.deadlock.specs.Machine.{abort, clean, grant, growing, Item, Message, probe, rebroadcast, release, request, resend, rolledBack, Rules, Session, shrinking, Stage, victim, waiting, withdraw, withdrawing, withdrawn}
-use Rattle.deadlock.specs.Kind
+use Rattle.deadlock.specs.Machine.{abort, clean, cleaning, down, growing, isLive, Item, Message, probe, releasing, request, rolledBack, Rules, Session, shrinking, Stage, up, victim, waiting, withdrawing}
+use Rattle.message.specs.Kind
 use Rattle.deadlock.specs.Counts.{behindRequest, cleansOf, countKind, EachBehind, Every, OfProbe}
 use Rattle.deadlock.specs.Links.{Linked, viewOf}
 use Rattle.deadlock.specs.Walks.{FirstApart, LastApart, Path, Walk}
@@ -23,15 +23,6 @@ pub record WaitEdge (R : Rules) (I : ℕ → Item) (a b : ℕ) : Type 0 where
   pub high : item ≤ R .M
   pub stands : 1 ≤ occurs a (I item .queue)
   pub held : I item .holder ≡ some b
-
--- growing or waiting: the stages in which a session stores and passes on probes
-abbrev pub isLive : Stage → Bool
-isLive growing = true
-isLive shrinking = false
-isLive rolledBack = false
-isLive (waiting y) = true
-isLive (victim y) = false
-isLive (withdrawing y) = false
 
 -- a is not senior to b
 module _ (R : Rules) where
@@ -54,31 +45,26 @@ pub record World : Type 0 where
 
 -- ---- stages as 0 or 1
 -- a victim whose clean is on its way
-abbrev pub isVictimStage : Stage → ℕ
-isVictimStage growing = 0
-isVictimStage shrinking = 0
-isVictimStage rolledBack = 0
-isVictimStage (waiting y) = 0
-isVictimStage (victim y) = 1
-isVictimStage (withdrawing y) = 0
+abbrev pub isCleaning : Stage → ℕ
+isCleaning growing = 0
+isCleaning (waiting y) = 0
+isCleaning (victim cleaning y) = 1
+isCleaning (victim withdrawing y) = 0
+isCleaning (releasing p) = 0
 
 -- a victim until it is rolled back: its clean is on its way, or it withdraws
 abbrev pub isVictim : Stage → ℕ
 isVictim growing = 0
-isVictim shrinking = 0
-isVictim rolledBack = 0
 isVictim (waiting y) = 0
-isVictim (victim y) = 1
-isVictim (withdrawing y) = 1
+isVictim (victim p y) = 1
+isVictim (releasing p) = 0
 
 -- waiting, and no victim
 abbrev pub isWaiting : Stage → ℕ
 isWaiting growing = 0
-isWaiting shrinking = 0
-isWaiting rolledBack = 0
 isWaiting (waiting y) = 1
-isWaiting (victim y) = 0
-isWaiting (withdrawing y) = 0
+isWaiting (victim p y) = 0
+isWaiting (releasing p) = 0
 
 -- ---- what a world shows
 abbrev pub stageOf : World → ℕ → Stage
@@ -94,7 +80,7 @@ VictimIn w v = 1 ≤ isVictim (stageOf w v)
 
 -- the clean of session v is on its way
 abbrev pub CleanUnderWay : World → ℕ → Type 0
-CleanUnderWay w v = 1 ≤ isVictimStage (stageOf w v)
+CleanUnderWay w v = 1 ≤ isCleaning (stageOf w v)
 
 -- session t stands in the queue of item x
 abbrev pub Queued : World → ℕ → ℕ → Type 0
@@ -190,21 +176,15 @@ module _ (R : Rules) (w : World) where
   -- an abort on its way to t, by the stage of t: a waiting t lies on a cycle and is its most junior
   unfoldable pub AbortTo : ℕ → Stage → Type 0
   AbortTo t growing = ⊥
-  AbortTo t shrinking = ⊥
-  AbortTo t rolledBack = Unit {0}
   AbortTo t (waiting y) = CycleOf t (λ u. R .senior u t ≡ true)
-  AbortTo t (victim y) = Unit {0}
-  AbortTo t (withdrawing y) = Unit {0}
+  AbortTo t (victim p y) = Unit {0}
+  AbortTo t (releasing shrinking) = ⊥
+  AbortTo t (releasing rolledBack) = Unit {0}
 
   -- what a message on its way to t says, if it is an abort
   abbrev pub OfAbort : ℕ → Message → Type 0
-  OfAbort t request = Unit {0}
-  OfAbort t release = Unit {0}
-  OfAbort t rebroadcast = Unit {0}
-  OfAbort t withdraw = Unit {0}
-  OfAbort t grant = Unit {0}
-  OfAbort t resend = Unit {0}
-  OfAbort t withdrawn = Unit {0}
+  OfAbort t (up m) = Unit {0}
+  OfAbort t (down m) = Unit {0}
   OfAbort t (probe i j) = Unit {0}
   OfAbort t (clean a b) = Unit {0}
   OfAbort t (abort v i) = (v ≡ t) × AbortTo t (stageOf w t)
@@ -225,8 +205,8 @@ module _ (R : Rules) (w : World) where
 
   -- the clauses on victims and their cleans
   pub record Victims : Type 0 where
-    -- exactly one clean goes round for each session in stage victim, and none for any other
-    pub one-clean : (v : ℕ) → w .total v ≡ isVictimStage (stageOf w v)
+    -- exactly one clean goes round for each session in stage cleaning, and none for any other
+    pub one-clean : (v : ℕ) → w .total v ≡ isCleaning (stageOf w v)
     -- a victim that still waits lies on a cycle, is its most junior, and is the only victim there
     pub victim-on-cycle : (v h : ℕ) → VictimIn w v → Edge v h → CycleOf v (CycleMate v)
     -- a victim waits as long as its clean is on its way

@@ -3,8 +3,8 @@ use mathlib.Core.Path.{_≡_, refl}
 use mathlib.Core.List.{List, [], _∷_}
 use Prim.Native.Nat.{ℕ}
 use lib.ListN.{length}
-use Rattle.buffer.specs.Bytes.{over}
-use Rattle.buffer.specs.Lists.{every, lowest, member, distinct, all, only, place, removeAt, tabulate}
+use Rattle.buffer.specs.Bytes.{splice}
+use Rattle.lists.specs.Lists.{every, lowest, member, distinct, all, filter, findIndex, removeAt, tabulate}
 use Rattle.bitset.specs.Bitset.{has, insert, remove, bitsFrom}
 use Rattle.session.specs.Seniority.{senior}
 use Rattle.session.specs.Record as SessionRecord
@@ -61,7 +61,7 @@ abbrev pub capacity : ℕ
 capacity = 4096
 
 abbrev pub begun : List ℕ → List ℕ → Started
-begun table mail = Calls.start 2 2 capacity table mail
+begun table mail = Calls.start (Calls.config 2 2 capacity) table mail
 
 -- start accepts buffers of the right lengths, whatever they hold
 pub accepted : (table mail : List ℕ) → length table ≡ Table.size 2 2 → length mail ≡ Mail.size capacity
@@ -72,7 +72,7 @@ accepted table mail p q = rw (p, q) refl
 -- from there on every answer and the last line are as printed
 from-started : shown (Run.run (Table.started 2 2) (Mail.mailBytes capacity []) Run.zeros calls)
     ≡ record { answers = printed; left = 0; tally = lastLine }
-unfolding over every lowest member distinct all only place removeAt tabulate has insert remove bitsFrom senior nextHolder SessionRecord.wellFormed Session.probesFrom Session.toHeld Session.requested Session.released Session.granted Session.resent Session.aborted Session.cleaned Session.cleanedWaiting Session.cleanedVictim Session.rolledBack Session.junior Session.keptProbe Session.probed Session.received ItemRecord.wellFormed Item.resends Item.without Item.onWithdraw Item.granted Item.probes Item.queued Item.onRequest Item.onProbe Item.onClean Item.onRebroadcast Item.handedOver Item.vacated Item.onRelease Item.received Entry.wellFormed Mail.sized Mail.entryAt Mail.entriesOf Mail.wellFormed Mail.routes Mail.bodies Mail.mailBytes Table.sized Table.session Table.withSession Table.item Table.withItem Table.wellFormed Table.repeated Table.started Waits.queuedAt Waits.waitsAt Waits.waitsFor Waits.reached Waits.cycleLength locks Refusal.first Calls.plan Calls.judged Calls.hindered Calls.acted Calls.step Run.run
+unfolding splice every lowest member distinct all filter findIndex removeAt tabulate has insert remove bitsFrom senior nextHolder SessionRecord.wellFormed Session.probesFrom Session.toHeld Session.requested Session.released Session.granted Session.resent Session.aborted Session.cleaned Session.cleanedWaiting Session.cleanedVictim Session.rolledBack Session.junior Session.keptProbe Session.probed Session.received ItemRecord.wellFormed Item.resends Item.without Item.onWithdraw Item.granted Item.probes Item.queued Item.onRequest Item.onProbe Item.onClean Item.onRebroadcast Item.handedOver Item.vacated Item.onRelease Item.received Entry.wellFormed Mail.sized Mail.entryAt Mail.entriesOf Mail.wellFormed Mail.routes Mail.bodies Mail.mailBytes Table.sized Table.session Table.withSession Table.item Table.withItem Table.wellFormed Table.repeated Table.started Waits.queuedAt Waits.waitsAt Waits.waitsFor Waits.reached Waits.cycleLength locks Refusal.first Calls.delivered Calls.sessionActs Calls.plan Calls.judged Calls.hindered Calls.acted Calls.step Run.performed Run.after Run.steps Run.tallied Run.run
 from-started = refl
 
 pub marked : (table mail : List ℕ) → length table ≡ Table.size 2 2 → length mail ≡ Mail.size capacity

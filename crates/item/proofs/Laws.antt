@@ -1,19 +1,22 @@
 -- Laws of item records: their bytes, the record as a queue with zeros behind it, and what the loops do one step at a time.
 use mathlib.Core.Path.{_≡_, refl, sym, ap, _∙_}
 use mathlib.Core.Bool.{Bool, true, false, cond, not, _||_}
-use mathlib.Core.List.{List, [], _∷_, _++_, map, map-append, append-nil}
-use Prim.Native.Nat.{ℕ, zero, suc, _+_, _-_, _≤_, _<_, zero-le}
+use mathlib.Core.List.{List, [], _∷_, _++_, map, map-append, append-assoc, append-nil}
+use Prim.Native.Nat.{ℕ, zero, suc, _+_, _-_, _≤_, _<_}
 use native.Mathlib.Nat.{add-zero, zero-add, suc-add}
 use native.Mathlib.Numerals.{add-one}
 use native.Mathlib.Omega.{arith}
 use lib.Dec.{eqb, leb, lit<}
-use borrow.Author.Tests.{eqb-true, leb-true, le-leb}
+use borrow.Author.Tests.{leb-true, le-leb}
 use lib.ListN.{length, getD, take, drop, set, replicate, length-append, length-drop, length-replicate, length-map, take-append-drop}
 use lib.Seq.{append-snoc, take-at, take-suc, take-append-seam, take-nil, drop-at, drop-cons, drop-drop, getD-drop, getD-append-add, set-at, length-take-le}
-use Rattle.buffer.specs.Bytes.{part, over, padded}
-use Rattle.buffer.specs.Lists.{between, member, distinct, all, only, place, removeAt}
-use Rattle.buffer.proofs.Laws.{sets-over, over-over, drop-over, part-over-before, part-over-after, getD-part, put-padded}
-use Rattle.buffer.proofs.ListLaws.{only-append, only-length, removeAt-length}
+use Rattle.buffer.specs.Bytes.{slice, splice, padded}
+use Rattle.lists.specs.Lists.{between, member, distinct, all, filter, findIndex, removeAt}
+use Rattle.lists.proofs.Laws.{filter-append, filter-length, removeAt-le, removeAt-length, zeros-all}
+use Rattle.lists.proofs.Tests.{and-both}
+use Rattle.session.proofs.Laws.{either}
+use Rattle.lists.proofs.Searches.{distinct-length}
+use Rattle.buffer.proofs.Laws.{sets-splice, splice-splice, drop-splice, slice-splice-before, slice-splice-after, getD-slice, put-padded}
 use Rattle.message.specs.Kind
 use Rattle.message.specs.declared.Message.{Message}
 use Rattle.message.specs.declared.Outbox.{Outbox}
@@ -23,7 +26,6 @@ use Rattle.item.specs.declared.Item.{Item}
 use Rattle.item.specs.declared.Event.{Event}
 use Rattle.item.specs.declared.ItemStep.{ItemStep}
 use Rattle.item.specs.Record.{size, Lock, lock, unpacked, packed, itemAt, itemBytes, putItem, wellFormed, Packed}
-use Rattle.item.proofs.Pigeonhole.{and-both, pigeonhole}
 use Rattle.item.specs.Rules.{After, after, stepOf, dropped, resends, without, probes, granted, queued, onRequest, onRelease, onProbe, onClean, onRebroadcast, onWithdraw, handedOver, vacated, received}
 
 module _ (i : Item) (q : length (i .queue) ≡ 64) where
@@ -35,17 +37,17 @@ module _ (i : Item) (q : length (i .queue) ≡ 64) where
 
 module _ (t : List ℕ) (at : ℕ) (i : Item) (q : length (i .queue) ≡ 64) (h : at + size ≤ length t) where
   -- the stores that `store` makes
-  pub store-eq : over (set (set t at (i .holder)) (at + 1) (i .waiting)) (at + 2) (i .queue) ≡ putItem t at i
+  pub store-eq : splice (set (set t at (i .holder)) (at + 1) (i .waiting)) (at + 2) (i .queue) ≡ putItem t at i
   store-eq =
-      let two : set (set t at (i .holder)) (at + 1) (i .waiting) ≡ over t at (i .holder ∷ i .waiting ∷ []) =
-      rw (add-one) (sets-over t at (i .holder ∷ i .waiting ∷ []) (omega arith)) in
-      rw (two) (over-over t at (i .holder ∷ i .waiting ∷ []) (omega arith) (i .queue))
+      let two : set (set t at (i .holder)) (at + 1) (i .waiting) ≡ splice t at (i .holder ∷ i .waiting ∷ []) =
+      rw (add-one) (sets-splice t at (i .holder ∷ i .waiting ∷ []) (omega arith)) in
+      rw (two) (splice-splice t at (i .holder ∷ i .waiting ∷ []) (omega arith) (i .queue))
 
   here : (k : ℕ) → drop (at + k) (putItem t at i) ≡ drop k (itemBytes i ++ drop (at + size) t)
   here k =
       let len = length-bytes i q in
       sym (drop-drop k at (putItem t at i))
-      ∙ ap (drop k) (drop-over t at (itemBytes i) (omega arith) ∙ ap (λ (n : ℕ). itemBytes i ++ drop (at + n) t) len)
+      ∙ ap (drop k) (drop-splice t at (itemBytes i) (omega arith) ∙ ap (λ (n : ℕ). itemBytes i ++ drop (at + n) t) len)
 
   at-here : (k : ℕ) → getD (putItem t at i) (at + k) 0 ≡ getD (itemBytes i ++ drop (at + size) t) k 0
   at-here k =
@@ -57,7 +59,7 @@ module _ (t : List ℕ) (at : ℕ) (i : Item) (q : length (i .queue) ≡ 64) (h 
   pub load-store : itemAt (putItem t at i) at ≡ i
   load-store =
       let holder : getD (putItem t at i) at 0 ≡ i .holder = ap (λ (n : ℕ). getD (putItem t at i) n 0) (sym (add-zero at)) ∙ at-here 0 in
-      let queue : part (putItem t at i) (at + 2) 64 ≡ i .queue = ap (take 64) (here 2) ∙ take-at (i .queue) (drop (at + size) t) 64 q in
+      let queue : slice (putItem t at i) (at + 2) 64 ≡ i .queue = ap (take 64) (here 2) ∙ take-at (i .queue) (drop (at + size) t) 64 q in
       rw (holder, at-here 1, queue) refl
 
 module _ {A : Type 0} where
@@ -67,32 +69,32 @@ module _ {A : Type 0} where
   drop-take (suc k) m (a ∷ l) = rw (suc-add) (drop-take k m l)
 
 -- a record is read from its own part of a table alone
-pub item-part : (t u : List ℕ) (p : ℕ) → part t p size ≡ part u p size → itemAt t p ≡ itemAt u p
-item-part t u p e =
+pub item-slice : (t u : List ℕ) (p : ℕ) → slice t p size ≡ slice u p size → itemAt t p ≡ itemAt u p
+item-slice t u p e =
     let byte : (k : ℕ) → k < size → getD t (p + k) 0 ≡ getD u (p + k) 0 =
-    λ k h. sym (getD-part t p size k h) ∙ ap (λ (l : List ℕ). getD l k 0) e ∙ getD-part u p size k h in
-    let queue : (v : List ℕ) → drop 2 (part v p size) ≡ part v (p + 2) 64 =
+    λ k h. sym (getD-slice t p size k h) ∙ ap (λ (l : List ℕ). getD l k 0) e ∙ getD-slice u p size k h in
+    let queue : (v : List ℕ) → drop 2 (slice v p size) ≡ slice v (p + 2) 64 =
     λ v. drop-take 2 64 (drop p v) ∙ ap (take 64) (drop-drop 2 p v) in
     let first : getD t p 0 ≡ getD u p 0 = rw (add-zero) at (byte 0 (lit< tt)) in
     rw (first, byte 1 (lit< tt), ← queue t, e, queue u) refl
 
 module _ (t : List ℕ) (at : ℕ) (l : List ℕ) (h : at + length l ≤ length t) (p : ℕ) where
   -- what is written elsewhere leaves a record as it was
-  pub item-before : p + size ≤ at → itemAt (over t at l) p ≡ itemAt t p
-  item-before f = item-part (over t at l) t p (part-over-before t at l h p size f)
+  pub item-before : p + size ≤ at → itemAt (splice t at l) p ≡ itemAt t p
+  item-before f = item-slice (splice t at l) t p (slice-splice-before t at l h p size f)
 
-  pub item-after : at + length l ≤ p → itemAt (over t at l) p ≡ itemAt t p
-  item-after f = item-part (over t at l) t p (part-over-after t at l h p size f)
+  pub item-after : at + length l ≤ p → itemAt (splice t at l) p ≡ itemAt t p
+  item-after f = item-slice (splice t at l) t p (slice-splice-after t at l h p size f)
 
 -- one step of a search
 module _ {A : Type 0} (p : A → Bool) (l : List A) (i : ℕ) (d : A) (h : i < length l) where
-  pub place-here : p (getD l i d) ≡ true → place p (drop i l) ≡ 0
-  unfolding place
-  place-here e = rw (drop-cons l i d h, e) refl
+  pub findIndex-here : p (getD l i d) ≡ true → findIndex p (drop i l) ≡ 0
+  unfolding findIndex
+  findIndex-here e = rw (drop-cons l i d h, e) refl
 
-  pub place-next : p (getD l i d) ≡ false → place p (drop i l) ≡ suc (place p (drop (i + 1) l))
-  unfolding place
-  place-next e = rw (drop-cons l i d h, e, add-one) refl
+  pub findIndex-next : p (getD l i d) ≡ false → findIndex p (drop i l) ≡ suc (findIndex p (drop (i + 1) l))
+  unfolding findIndex
+  findIndex-next e = rw (drop-cons l i d h, e, add-one) refl
 
 -- the record as a queue with zeros behind it
 pub unpacked-packed : (k : Lock) → unpacked (packed k) ≡ k
@@ -163,16 +165,12 @@ module _ (k i : ℕ) (h : k ≤ i) where
       drop-cons (padded m l) i 0 (omega (arith, length-append l zeros)) ∙ ap (λ (r : List ℕ). getD (padded m l) i 0 ∷ r) (drop-at l zeros (suc i) (omega arith)) in
       rw (all, rest, more) (set-at (removeAt k l) (getD (padded m l) i 0) zeros 0 i (omega arith))
 
--- one message more, as `push` has it
-pub push-outbox : (o : Outbox) (p : List Message) (m : Message) → o .n < room → o ≡ outboxOf p
-    → _≡_ {A = Outbox} (record { n = o .n + 1; at = set (o .at) (o .n) m }) (outboxOf (p ++ (m ∷ [])))
-push-outbox o p m h e =
-    let f : length p < room = omega (arith, ap (λ (b : Outbox). b .n) e) in
-    rw (e, push-cells p m f, length-append p (m ∷ [])) refl
-
--- a message that was made, and then sent alone
-pub one-of : {o : Outbox} {m k : Message} → o ≡ outboxOf (m ∷ []) → m ≡ k → o ≡ outboxOf (k ∷ [])
-one-of e f = e ∙ ap (λ (m : Message). outboxOf (m ∷ [])) f
+-- one message more behind a list given, as the loops have it
+pub push-outbox : (o : Outbox) (l p q : List Message) (m : Message) → o .n < room → o ≡ outboxOf (l ++ p) → q ≡ p ++ (m ∷ [])
+    → _≡_ {A = Outbox} (record { n = o .n + 1; at = set (o .at) (o .n) m }) (outboxOf (l ++ q))
+push-outbox o l p q m h e f =
+    let g : length (l ++ p) < room = omega (arith, ap (λ (b : Outbox). b .n) e) in
+    rw (e, push-cells (l ++ p) m g, f, ← append-assoc, length-append (l ++ p) (m ∷ [])) refl
 
 module _ (q : List ℕ) (i : ℕ) (h : i < length q) where
   more : take (i + 1) q ≡ take i q ++ (getD q i 0 ∷ [])
@@ -186,12 +184,12 @@ module _ (q : List ℕ) (i : ℕ) (h : i < length q) where
   module _ (senior : ℕ → ℕ → Bool) (n : ℕ) where
     probes-turn : (b : Bool) → senior (getD q i 0) n ≡ b
         → probes senior n (take (i + 1) q) ≡ probes senior n (take i q) ++ map (λ r. message n Kind.probe r n) (cond b (getD q i 0 ∷ []) [])
-    unfolding probes only
+    unfolding probes filter
     probes-turn b e =
         let s : ℕ → Bool = λ r. senior r n in
-        ap (λ (l : List ℕ). map (λ r. message n Kind.probe r n) (only s l)) more
-        ∙ ap (map (λ r. message n Kind.probe r n)) (only-append s (take i q) (getD q i 0 ∷ []))
-        ∙ map-append (λ r. message n Kind.probe r n) (only s (take i q)) (only s (getD q i 0 ∷ [])) ∙ rw (e) refl
+        ap (λ (l : List ℕ). map (λ r. message n Kind.probe r n) (filter s l)) more
+        ∙ ap (map (λ r. message n Kind.probe r n)) (filter-append s (take i q) (getD q i 0 ∷ []))
+        ∙ map-append (λ r. message n Kind.probe r n) (filter s (take i q)) (filter s (getD q i 0 ∷ [])) ∙ rw (e) refl
 
     pub probes-more : senior (getD q i 0) n ≡ true → probes senior n (take (i + 1) q) ≡ probes senior n (take i q) ++ (message n Kind.probe (getD q i 0) n ∷ [])
     probes-more = probes-turn true
@@ -206,19 +204,13 @@ resends-length q = length-map q (λ r. plain r Kind.resend)
 pub probes-length : (senior : ℕ → ℕ → Bool) (n : ℕ) (q : List ℕ) → length (probes senior n q) ≤ length q
 unfolding probes
 probes-length senior n q =
-    let l = length-map (only (λ r. senior r n) q) (λ r. message n Kind.probe r n) in
-    omega (arith, only-length (λ r. senior r n) q)
+    let l = length-map (filter (λ r. senior r n) q) (λ r. message n Kind.probe r n) in
+    omega (arith, filter-length (λ r. senior r n) q)
 
 -- what the code hands back
 pub step-eq : (i : Item) (o : Outbox) (e : Event) (k : Lock) (l : List Message) → i ≡ packed k → o ≡ outboxOf l
     → _≡_ {A = ItemStep} (record { item = i; outbox = o; event = e }) (stepOf (after k l e))
 step-eq i o e k l f g = rw (f, g) refl
-
-pub removeAt-le : (k : ℕ) (l : List ℕ) → length (removeAt k l) ≤ length l
-unfolding removeAt
-removeAt-le k [] = zero-le
-removeAt-le zero (a ∷ l) = omega arith
-removeAt-le (suc k) (a ∷ l) = omega (arith, removeAt-le k l)
 
 -- a record that holds a list
 module _ (i : Item) (h : ℕ) (l : List ℕ) (e : i ≡ packed (lock h l)) where
@@ -246,12 +238,6 @@ unfolding vacated
 vacated-more senior next [] h = absurd (omega arith)
 vacated-more senior next (r ∷ q) h = refl
 
-zeros-all : (l : List ℕ) → all (λ b. eqb b 0) l ≡ true → l ≡ replicate (length l) 0
-unfolding all
-zeros-all [] e = refl
-zeros-all (a ∷ l) e =
-    let both = and-both (eqb a 0) (all (λ b. eqb b 0) l) e in rw (eqb-true a 0 (both .0), ← zeros-all l (both .1)) refl
-
 -- a well-formed record is what the rules ask for, where there are at most 64 sessions
 module _ (S : ℕ) (i : Item) (h : S ≤ 64) (q : length (i .queue) ≡ 64) where
   pub wellFormed-packed : wellFormed S i ≡ true → Packed i
@@ -272,7 +258,7 @@ module _ (S : ℕ) (i : Item) (h : S ≤ 64) (q : length (i .queue) ≡ 64) wher
             let low : leb 1 (i .holder) ≡ true = le-leb 1 (i .holder) (omega arith) in
             let all-once : distinct (i .holder ∷ l) ≡ true = rw (other .1) (once .1) in
             let all-range : all (between 1 S) (i .holder ∷ l) ≡ true = rw (low, ends .0) (range .1) in
-            omega (arith, pigeonhole S (i .holder ∷ l) all-once all-range);
+            omega (arith, distinct-length S (i .holder ∷ l) all-once all-range);
         zeros =
             packed-eq (i .holder) (i .waiting) (i .queue) l (sym full) (sym (take-append-drop (i .waiting) (i .queue)) ∙ ap (λ (r : List ℕ). l ++ r) (zeros-all (drop (i .waiting) (i .queue)) (tail .1) ∙ ap (λ (n : ℕ). replicate n 0) left));
       }
@@ -280,14 +266,6 @@ module _ (S : ℕ) (i : Item) (h : S ≤ 64) (q : length (i .queue) ≡ 64) wher
 -- the number of messages sent at once fits a byte
 abbrev Fits : After → Type 0
 Fits r = length (r .sends) ≤ 129
-
-either : (b : Bool) (r s : After) → Fits r → Fits s → Fits (cond b r s)
-either true r s f g = f
-either false r s f g = g
-
-one-or-none : (b : Bool) (m : Message) → length (cond b (m ∷ []) []) ≤ 129
-one-or-none true m = omega arith
-one-or-none false m = omega arith
 
 module _ (senior : ℕ → ℕ → Bool) (next : List ℕ → ℕ) where
   vacated-fits : (q : List ℕ) → length q ≤ 64 → Fits (vacated senior next q)
@@ -305,13 +283,13 @@ module _ (senior : ℕ → ℕ → Bool) (next : List ℕ → ℕ) where
       let none : Fits (dropped k) = omega arith in
       let q = k .queue in
       let fan = probes-length senior (k .holder) q in
-      either (eqb (m .kind) Kind.request) _ _
-      (either (eqb (k .holder) (m .peer) || member (m .peer) q) _ _ none
-      (either (eqb (k .holder) 0) _ _ (omega arith) (one-or-none (senior (m .peer) (k .holder)) (message (k .holder) Kind.probe (m .peer) (k .holder)))))
-      (either (eqb (m .kind) Kind.release) _ _ (either (eqb (k .holder) (m .peer)) _ _ (vacated-fits q h) none)
-      (either (eqb (m .kind) Kind.probe) _ _
-      (either (not (member (m .peer) q) || eqb (k .holder) 0 || senior (k .holder) (m .a)) _ _ none (either (eqb (k .holder) (m .a)) _ _ (omega arith) (omega arith)))
-      (either (eqb (m .kind) Kind.clean) _ _
-      (either (eqb (k .holder) 0) _ _ none (simp (length-append, resends-length) (omega (arith, removeAt-le (place (λ r. eqb r (m .peer)) q) q))))
-      (either (eqb (m .kind) Kind.rebroadcast) _ _
-      (either (eqb (k .holder) 0) _ _ none (simp (length-append, resends-length) (omega arith))) (either (eqb (m .kind) Kind.withdraw) _ _ (omega arith) none)))))
+      either Fits (eqb (m .kind) Kind.request)
+      (either Fits (eqb (k .holder) (m .peer) || member (m .peer) q) none
+      (either Fits (eqb (k .holder) 0) (omega arith) (either (λ l. length l ≤ 129) (senior (m .peer) (k .holder)) {x = message (k .holder) Kind.probe (m .peer) (k .holder) ∷ []} {y = []} (omega arith) (omega arith))))
+      (either Fits (eqb (m .kind) Kind.release) (either Fits (eqb (k .holder) (m .peer)) (vacated-fits q h) none)
+      (either Fits (eqb (m .kind) Kind.probe)
+      (either Fits (not (member (m .peer) q) || eqb (k .holder) 0 || senior (k .holder) (m .a)) none (either Fits (eqb (k .holder) (m .a)) (omega arith) (omega arith)))
+      (either Fits (eqb (m .kind) Kind.clean)
+      (either Fits (eqb (k .holder) 0) none (simp (length-append, resends-length) (omega (arith, removeAt-le (findIndex (λ r. eqb r (m .peer)) q) q))))
+      (either Fits (eqb (m .kind) Kind.rebroadcast)
+      (either Fits (eqb (k .holder) 0) none (simp (length-append, resends-length) (omega arith))) (either Fits (eqb (m .kind) Kind.withdraw) (omega arith) none)))))

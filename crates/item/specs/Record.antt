@@ -1,17 +1,24 @@
--- An item record: its bytes in the table, and when it is well-formed ("in form"). The wait queue is 01's line.
+-- An item record: its bytes in the table, and when it is well-formed ("in form"). The wait queue is 01's line. RULES is docs/RULES.md.
 use Prim.Native.Nat.{ℕ, _+_, _≤_, _<_}
 use mathlib.Core.Path.{_≡_}
 use mathlib.Core.Bool.{Bool, not, _&&_}
 use mathlib.Core.List.{List, [], _∷_}
 use lib.Dec.{eqb, leb}
 use lib.ListN.{length, getD, take, drop}
-use Rattle.buffer.specs.Bytes.{part, over, padded}
-use Rattle.buffer.specs.Lists.{between, member, distinct, all}
+use Rattle.buffer.specs.Bytes.{slice, splice, padded}
+use Rattle.lists.specs.Lists.{between, member, distinct, all}
+use Rattle.message.specs.Limits.{maxSessions}
 use Rattle.item.specs.declared.Item.{Item}
 
--- holder or 0 (1), length of the queue (1), waiting sessions in order, then zeros (64)
+-- holder or 0 (1 byte), length of the queue (1), waiting sessions in order, then zeros (1 for each session)
+abbrev pub waitingPlace : ℕ
+waitingPlace = 1
+
+abbrev pub queuePlace : ℕ
+queuePlace = 2
+
 abbrev pub size : ℕ
-size = 66
+size = queuePlace + maxSessions
 
 -- what an item record says: who holds it, or 0, and who waits for it, in order
 pub record Lock : Type 0 where
@@ -21,6 +28,13 @@ pub record Lock : Type 0 where
 abbrev pub lock : ℕ → List ℕ → Lock
 lock h q = record { holder = h; queue = q }
 
+-- the same with one part changed
+abbrev pub withHolder : ℕ → Lock → Lock
+withHolder h k = record { holder = h; queue = k .queue }
+
+abbrev pub withQueue : List ℕ → Lock → Lock
+withQueue q k = record { holder = k .holder; queue = q }
+
 -- every item of a lock manager that was just started
 abbrev pub free : Lock
 free = lock 0 []
@@ -29,24 +43,24 @@ abbrev pub unpacked : Item → Lock
 unpacked i = lock (i .holder) (take (i .waiting) (i .queue))
 
 abbrev pub packed : Lock → Item
-packed k = record { holder = k .holder; waiting = length (k .queue); queue = padded 64 (k .queue) }
+packed k = record { holder = k .holder; waiting = length (k .queue); queue = padded maxSessions (k .queue) }
 
 -- the record whose bytes stand at `at`
 abbrev pub itemAt : List ℕ → ℕ → Item
-itemAt t at = record { holder = getD t at 0; waiting = getD t (at + 1) 0; queue = part t (at + 2) 64 }
+itemAt t at = record { holder = getD t at 0; waiting = getD t (at + waitingPlace) 0; queue = slice t (at + queuePlace) maxSessions }
 
 abbrev pub itemBytes : Item → List ℕ
 itemBytes i = i .holder ∷ i .waiting ∷ i .queue
 
 -- t with the record written at `at`
 abbrev pub putItem : List ℕ → ℕ → Item → List ℕ
-putItem t at i = over t at (itemBytes i)
+putItem t at i = splice t at (itemBytes i)
 
--- holders are 0 to S; the sessions of a queue are distinct, in 1 to S, and none is the holder; what follows the queue is zero
+-- an item record is well-formed: RULES 2.6
 unfoldable pub wellFormed : ℕ → Item → Bool
 wellFormed S i =
     leb (i .holder) S
-    && leb (i .waiting) 64
+    && leb (i .waiting) maxSessions
     && all (between 1 S) (unpacked i .queue)
     && distinct (unpacked i .queue)
     && not (member (i .holder) (unpacked i .queue))
@@ -54,6 +68,11 @@ wellFormed S i =
 
 -- what the rules ask of a record: its queue fits, with zeros behind it, and room for one more where a session holds the item
 pub record Packed (i : Item) : Type 0 where
-  pub fits : i .waiting ≤ 64
-  pub room : (i .holder ≡ 0 → ⊥) → i .waiting < 64
+  pub fits : i .waiting ≤ maxSessions
+  pub room : (i .holder ≡ 0 → ⊥) → i .waiting < maxSessions
   pub zeros : i ≡ packed (unpacked i)
+
+-- one more session may join the queue
+pub record Joinable (i : Item) : Type 0 where
+  pub packed : Packed i
+  pub room : i .waiting < maxSessions

@@ -1,17 +1,17 @@
--- What an item does on each message, by kind. T is the session that sent it.
+-- What an item does on each message, by kind. T is the session that sent it. RULES is docs/RULES.md.
 use Prim.Native.Nat.{ℕ}
 use mathlib.Core.Bool.{Bool, true, false, cond, not, _||_}
 use mathlib.Core.List.{List, [], _∷_, _++_, map}
 use lib.Dec.{eqb}
 use lib.ListN.{getD}
-use Rattle.buffer.specs.Lists.{member, only, place, removeAt}
+use Rattle.lists.specs.Lists.{member, filter, findIndex, removeAt}
 use Rattle.message.specs.Kind
 use Rattle.message.specs.declared.Message.{Message}
 use Rattle.message.specs.Outbox.{message, plain, outboxOf}
 use Rattle.item.specs.declared.Event.{Event}
 use Rattle.item.specs.declared.Event.the-variants.{Nothing, Joined, Declared}
 use Rattle.item.specs.declared.ItemStep.{ItemStep}
-use Rattle.item.specs.Record.{Lock, lock, packed}
+use Rattle.item.specs.Record.{Lock, lock, withHolder, withQueue, packed}
 
 -- the record that follows, what is sent, in order of sending, and what happened besides
 pub record After : Type 0 where
@@ -52,52 +52,49 @@ resends q = map (λ r. plain r Kind.resend) q
 
 -- the queue without session t, which stands there once at most
 unfoldable pub without : ℕ → List ℕ → List ℕ
-without t q = removeAt (place (λ r. eqb r t) q) q
+without t q = removeAt (findIndex (λ r. eqb r t) q) q
 
--- withdraw: T leaves the queue if there; withdrawn to T
+-- withdraw: RULES 5.6
 unfoldable pub onWithdraw : ℕ → Lock → After
-onWithdraw t k = after (lock (k .holder) (without t (k .queue))) (plain t Kind.withdrawn ∷ []) Nothing
+onWithdraw t k = after (withQueue (without t (k .queue)) k) (plain t Kind.withdrawn ∷ []) Nothing
 
--- T becomes holder, grant to T
+-- the free item goes to T
 unfoldable pub granted : ℕ → Lock → After
-granted t k = after (lock t (k .queue)) (plain t Kind.grant ∷ []) Nothing
+granted t k = after (withHolder t k) (plain t Kind.grant ∷ []) Nothing
 
 module _ (senior : ℕ → ℕ → Bool) where
   -- probe (R, holder) to the holder for each R of a list senior to it, in order
   unfoldable pub probes : ℕ → List ℕ → List Message
-  probes h q = map (λ r. message h Kind.probe r h) (only (λ r. senior r h) q)
+  probes h q = map (λ r. message h Kind.probe r h) (filter (λ r. senior r h) q)
 
-  -- T joins the end; if T is senior to the holder, probe (T, holder) to the holder
+  -- T joins the end of the queue
   unfoldable pub queued : ℕ → Lock → After
   queued t k =
-      after (lock (k .holder) (k .queue ++ (t ∷ []))) (cond (senior t (k .holder)) (message (k .holder) Kind.probe t (k .holder) ∷ []) []) Joined
+      after (withQueue (k .queue ++ (t ∷ [])) k) (cond (senior t (k .holder)) (message (k .holder) Kind.probe t (k .holder) ∷ []) []) Joined
 
-  -- request: dropped if T is the holder or in the queue. No holder: T becomes holder. Else T joins the end
+  -- request: RULES 5.1
   unfoldable pub onRequest : ℕ → Lock → After
   onRequest t k =
       cond (eqb (k .holder) t || member t (k .queue)) (dropped k) (cond (eqb (k .holder) 0) (granted t k) (queued t k))
 
-  -- probe (i, j): dropped if T is not in the queue, if no holder, or if the holder is senior to i. Holder is i: declared, abort (j, i)
-  -- to j. Holder junior to i: passed on to it
+  -- probe (i, j): RULES 5.3
   unfoldable pub onProbe : ℕ → ℕ → ℕ → Lock → After
   onProbe t i j k =
       cond (not (member t (k .queue)) || eqb (k .holder) 0 || senior (k .holder) i) (dropped k)
       (cond (eqb (k .holder) i) (after k (message j Kind.abort j i ∷ []) (Declared j i))
       (after k (message (k .holder) Kind.probe i j ∷ []) Nothing))
 
-  -- clean: dropped if no holder. Else clean to the holder, then probe (R, holder) to the holder for each R in the queue senior to it,
-  -- then resend to each in the queue but T, both in queue order
+  -- clean: RULES 5.4
   unfoldable pub onClean : ℕ → ℕ → ℕ → Lock → After
   onClean t a b k =
       cond (eqb (k .holder) 0) (dropped k)
       (after k (message (k .holder) Kind.clean a b ∷ (probes (k .holder) (k .queue) ++ resends (without t (k .queue)))) Nothing)
 
-  -- rebroadcast: dropped if no holder; the same probes, then resend to all in the queue, in the same order
+  -- rebroadcast: RULES 5.5
   unfoldable pub onRebroadcast : Lock → After
   onRebroadcast k = cond (eqb (k .holder) 0) (dropped k) (after k (probes (k .holder) (k .queue) ++ resends (k .queue)) Nothing)
 
-  -- the next holder N, with the queue that it has left: grant to N; then probe (R, N) to N for each remaining R senior to N; then
-  -- resend to each remaining R; both in queue order
+  -- the next holder N, with the queue that it has left: RULES 5.2
   unfoldable pub handedOver : ℕ → List ℕ → After
   handedOver n rest = after (lock n rest) (plain n Kind.grant ∷ (probes n rest ++ resends rest)) Nothing
 
@@ -107,7 +104,7 @@ module _ (senior : ℕ → ℕ → Bool) where
     vacated [] = after (lock 0 []) [] Nothing
     vacated (r ∷ q) = handedOver (getD (r ∷ q) (next (r ∷ q)) 0) (removeAt (next (r ∷ q)) (r ∷ q))
 
-    -- release: dropped unless T is holder
+    -- release: RULES 5.2
     unfoldable pub onRelease : ℕ → Lock → After
     onRelease t k = cond (eqb (k .holder) t) (vacated (k .queue)) (dropped k)
 

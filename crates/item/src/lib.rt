@@ -1,4 +1,5 @@
 // The item record: who holds it, who waits for it, what it does on each message.
+use message::MAX_SESSIONS;
 use message::Message;
 use message::Outbox;
 use session::Session;
@@ -7,11 +8,12 @@ ghost use mathlib.Core.List.{List, [], _∷_, _++_};
 ghost use Prim.Native.Nat.{_+_, _≤_, _<_};
 ghost use lib.Dec.{eqb};
 ghost use lib.ListN.{length};
-ghost use Rattle.buffer.specs.Lists.{member, place, removeAt};
+ghost use Rattle.lists.specs.Lists.{member, findIndex, removeAt};
 ghost use Rattle.message.specs.declared.Message.{Message};
+ghost use Rattle.message.specs.Limits.{maxSessions};
 ghost use Rattle.message.specs.Outbox.{outboxOf};
 ghost use Rattle.session.specs.Seniority.{senior};
-ghost use Rattle.item.specs.Record.{size, Packed, unpacked, packed, lock, itemAt, putItem};
+ghost use Rattle.item.specs.Record.{size, Packed, Joinable, unpacked, packed, lock, itemAt, putItem};
 ghost use Rattle.item.specs.NextHolder.{nextHolder};
 ghost use Rattle.item.specs.Rules.{stepOf, dropped, resends, probes, onWithdraw, granted, queued, onRequest, onProbe, onClean, onRebroadcast, handedOver, vacated, onRelease, received};
 
@@ -19,7 +21,7 @@ ghost use Rattle.item.specs.Rules.{stepOf, dropped, resends, probes, onW
 pub struct Item {
     pub holder: u8,
     pub waiting: u8,
-    pub queue: [u8; 64],
+    pub queue: [u8; MAX_SESSIONS],
 }
 
 // What a message did to the session that sent it, besides its sends.
@@ -39,14 +41,21 @@ pub struct ItemStep {
 }
 
 impl Item {
+    // The places of the fields in the record's bytes, and how many these are.
+    pub const WAITING_PLACE: usize = 1;
+
+    pub const QUEUE_PLACE: usize = 2;
+
+    pub const SIZE: usize = Item::QUEUE_PLACE + MAX_SESSIONS;
+
     // The record whose bytes stand at `at`.
     pub fn load(t: &[u8], at: usize) -> Item
         requires { ⌜ at + size ≤ length (now t) ⌝ }
         ensures { λ r. ⌜ r ≡ itemAt (now (t .entry)) at ⌝ }
     {
         let holder = t[at];
-        let waiting = t[at + 1];
-        let queue = buffer::get_row(t, at + 2);
+        let waiting = t[at + Item::WAITING_PLACE];
+        let queue = buffer::get_row(t, at + Item::QUEUE_PLACE);
         Item {
             holder,
             waiting,
@@ -60,15 +69,15 @@ impl Item {
         ensures { λ _. ⌜ now (t .exit) ≡ putItem (now (t .entry)) at self ⌝ }
     {
         t[at] = self.holder;
-        t[at + 1] = self.waiting;
+        t[at + Item::WAITING_PLACE] = self.waiting;
         let queue = self.queue;
-        buffer::put_row(t, at + 2, queue);
+        buffer::put_row(t, at + Item::QUEUE_PLACE, queue);
     }
 
     // The place of session t in the queue, or the number of waiting sessions.
     fn place(self, t: u8) -> usize
-        requires { ⌜ self .waiting ≤ 64 ⌝ }
-        ensures { λ r. ⌜ r ≡ place (λ q. eqb q t) (unpacked self .queue) ⌝ }
+        requires { ⌜ self .waiting ≤ maxSessions ⌝ }
+        ensures { λ r. ⌜ r ≡ findIndex (λ q. eqb q t) (unpacked self .queue) ⌝ }
     {
         let queue = self.queue;
         let n = self.waiting as usize;
@@ -84,7 +93,7 @@ impl Item {
 
     // Whether session t waits in the queue.
     fn waits(self, t: u8) -> bool
-        requires { ⌜ self .waiting ≤ 64 ⌝ }
+        requires { ⌜ self .waiting ≤ maxSessions ⌝ }
         ensures { λ r. ⌜ r ≡ member t (unpacked self .queue) ⌝ }
     {
         self.place(t) < self.waiting as usize
@@ -92,14 +101,14 @@ impl Item {
 
     // The place of the next holder in the queue.
     fn next_holder(self) -> usize
-        requires { ⌜ (0 < self .waiting) × (self .waiting ≤ 64) ⌝ }
+        requires { ⌜ (0 < self .waiting) × (self .waiting ≤ maxSessions) ⌝ }
         ensures { λ r. ⌜ (r ≡ nextHolder (unpacked self .queue)) × (r < self .waiting) ⌝ }
     {
         0
     }
 
     // The record without the session at place k of its queue.
-    fn without(self, k: usize) -> Item
+    fn without(mut self, k: usize) -> Item
         requires { ⌜ Packed self ⌝ }
         ensures { λ r. ⌜ r ≡ packed (lock (self .holder) (removeAt k (unpacked self .queue))) ⌝ }
     {
@@ -114,31 +123,25 @@ impl Item {
             i += 1;
         }
         queue[n - 1] = 0;
-        Item {
-            holder: self.holder,
-            waiting: (n - 1) as u8,
-            queue,
-        }
+        self.waiting = (n - 1) as u8;
+        self.queue = queue;
+        self
     }
 
     // The record with session t at the end of its queue.
-    fn with(self, t: u8) -> Item
-        requires { ⌜ Packed self × (self .waiting < 64) ⌝ }
+    fn with(mut self, t: u8) -> Item
+        requires { ⌜ Joinable self ⌝ }
         ensures { λ r. ⌜ r ≡ packed (lock (self .holder) (unpacked self .queue ++ (t ∷ []))) ⌝ }
     {
         let n = self.waiting as usize;
-        let mut queue = self.queue;
-        queue[n] = t;
-        Item {
-            holder: self.holder,
-            waiting: (n + 1) as u8,
-            queue,
-        }
+        self.waiting = (n + 1) as u8;
+        self.queue[n] = t;
+        self
     }
 
     // Behind `out`, probe (R, holder) to the holder for each waiting R senior to it, in queue order.
     fn probes(self, out: Outbox) -> Outbox
-        requires { ⌜ (self .waiting ≤ 64) × (out .n ≤ 1) ⌝ }
+        requires { ⌜ (self .waiting ≤ maxSessions) × (out .n ≤ 1) ⌝ }
         ensures { λ r. ⌜ ((l : List Message) → out ≡ outboxOf l → r ≡ outboxOf (l ++ probes senior (self .holder) (unpacked self .queue))) ⌝ }
     {
         let holder = self.holder;
@@ -165,7 +168,7 @@ impl Item {
 
     // Behind `out`, resend to each waiting session, in queue order.
     fn resends(self, out: Outbox) -> Outbox
-        requires { ⌜ (self .waiting ≤ 64) × (out .n ≤ 65) ⌝ }
+        requires { ⌜ (self .waiting ≤ maxSessions) × (out .n ≤ 1 + maxSessions) ⌝ }
         ensures { λ r. ⌜ ((l : List Message) → out ≡ outboxOf l → r ≡ outboxOf (l ++ resends (unpacked self .queue))) ⌝ }
     {
         let queue = self.queue;
@@ -204,10 +207,7 @@ impl Item {
         ensures { λ r. ⌜ r ≡ stepOf (onRequest senior t (unpacked self)) ⌝ }
     {
         let holder = self.holder;
-        if holder == t {
-            return self.dropped();
-        }
-        if self.waits(t) {
+        if (holder == t) | self.waits(t) {
             return self.dropped();
         }
         if holder == 0 {
@@ -217,19 +217,14 @@ impl Item {
     }
 
     // The free item is granted to session t.
-    fn granted(self, t: u8) -> ItemStep
+    fn granted(mut self, t: u8) -> ItemStep
         requires { ⌜ Packed self ⌝ }
         ensures { λ r. ⌜ r ≡ stepOf (granted t (unpacked self)) ⌝ }
     {
-        let outbox = Outbox::one(Message::new(t, Message::GRANT, 0, 0));
-        let queue = self.queue;
-        let item = Item {
-            holder: t,
-            waiting: self.waiting,
-            queue,
-        };
+        let outbox = Outbox::single(t, Message::GRANT, 0, 0);
+        self.holder = t;
         ItemStep {
-            item,
+            item: self,
             outbox,
             event: Event::Nothing,
         }
@@ -237,7 +232,7 @@ impl Item {
 
     // Session t joins the end of the queue.
     fn joined(self, t: u8) -> ItemStep
-        requires { ⌜ Packed self × (self .waiting < 64) ⌝ }
+        requires { ⌜ Joinable self ⌝ }
         ensures { λ r. ⌜ r ≡ stepOf (queued senior t (unpacked self)) ⌝ }
     {
         let holder = self.holder;
@@ -266,30 +261,20 @@ impl Item {
         let k = self.next_holder();
         let queue = self.queue;
         let n = queue[k];
-        let rest = self.without(k);
-        let left = rest.queue;
-        let item = Item {
-            holder: n,
-            waiting: rest.waiting,
-            queue: left,
-        };
-        item.handed_over()
+        let mut rest = self.without(k);
+        rest.holder = n;
+        rest.handed_over()
     }
 
     // No holder and an empty queue.
-    fn vacant(self) -> ItemStep
+    fn vacant(mut self) -> ItemStep
         requires { ⌜ Packed self × (self .waiting ≡ 0) ⌝ }
         ensures { λ r. ⌜ r ≡ stepOf (vacated senior nextHolder (unpacked self .queue)) ⌝ }
     {
         let outbox = Outbox::empty();
-        let queue = [0u8; 64];
-        let item = Item {
-            holder: 0,
-            waiting: 0,
-            queue,
-        };
+        self.holder = 0;
         ItemStep {
-            item,
+            item: self,
             outbox,
             event: Event::Nothing,
         }
@@ -300,7 +285,7 @@ impl Item {
         requires { ⌜ Packed self ⌝ }
         ensures { λ r. ⌜ r ≡ stepOf (handedOver senior (self .holder) (unpacked self .queue)) ⌝ }
     {
-        let first = Outbox::one(Message::new(self.holder, Message::GRANT, 0, 0));
+        let first = Outbox::single(self.holder, Message::GRANT, 0, 0);
         let outbox = self.resends(self.probes(first));
         ItemStep {
             item: self,
@@ -314,24 +299,18 @@ impl Item {
         ensures { λ r. ⌜ r ≡ stepOf (onProbe senior t i j (unpacked self)) ⌝ }
     {
         let holder = self.holder;
-        if !self.waits(t) {
-            return self.dropped();
-        }
-        if holder == 0 {
-            return self.dropped();
-        }
-        if Session::senior(holder, i) {
+        if !self.waits(t) | (holder == 0) | Session::senior(holder, i) {
             return self.dropped();
         }
         if holder == i {
-            let outbox = Outbox::one(Message::new(j, Message::ABORT, j, i));
+            let outbox = Outbox::single(j, Message::ABORT, j, i);
             return ItemStep {
                 item: self,
                 outbox,
                 event: Event::Declared(j, i),
             };
         }
-        let outbox = Outbox::one(Message::new(holder, Message::PROBE, i, j));
+        let outbox = Outbox::single(holder, Message::PROBE, i, j);
         ItemStep {
             item: self,
             outbox,
@@ -347,7 +326,7 @@ impl Item {
         if holder == 0 {
             return self.dropped();
         }
-        let first = Outbox::one(Message::new(holder, Message::CLEAN, a, b));
+        let first = Outbox::single(holder, Message::CLEAN, a, b);
         let others = self.without(self.place(t));
         let outbox = others.resends(self.probes(first));
         ItemStep {
@@ -376,7 +355,7 @@ impl Item {
         requires { ⌜ Packed self ⌝ }
         ensures { λ r. ⌜ r ≡ stepOf (onWithdraw t (unpacked self)) ⌝ }
     {
-        let outbox = Outbox::one(Message::new(t, Message::WITHDRAWN, 0, 0));
+        let outbox = Outbox::single(t, Message::WITHDRAWN, 0, 0);
         let item = self.without(self.place(t));
         ItemStep {
             item,

@@ -1,2 +1,4 @@
+pub mod Causes
 pub mod Judging
-pub mod Stepping
+pub mod Acting
+pub mod Form

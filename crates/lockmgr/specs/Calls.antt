@@ -1,14 +1,14 @@
--- The calls on bytes: from the arguments and both buffers, the answer and both buffers after.
+-- The calls on bytes: from the arguments and both buffers, the answer and both buffers after. RULES is docs/RULES.md.
 -- T is the session and X the item that a step names; S, M and C are read from the buffers.
-use Prim.Native.Nat.{ℕ, _≤_}
+use Prim.Native.Nat.{ℕ}
 use mathlib.Core.Path.{_≡_}
 use mathlib.Core.Bool.{Bool, true, cond, not, _&&_, _||_}
 use mathlib.Core.List.{List, [], _∷_, _++_, map}
 use lib.Dec.{eqb, ltb}
 use lib.ListN.{length, getD}
-use Rattle.buffer.specs.Lists.{between, removeAt}
+use Rattle.lists.specs.Lists.{between, removeAt}
 use Rattle.bitset.specs.Bitset.{has}
-use Rattle.message.specs.declared.Message.{Message}
+use Rattle.message.specs.Limits.{maxSessions, maxItems}
 use Rattle.session.specs.declared.Session.{Session}
 use Rattle.session.specs.Stage
 use Rattle.session.specs.Seniority.{senior}
@@ -31,33 +31,45 @@ use Rattle.lockmgr.specs.Refusal.{Cause, cause, first}
 abbrev pub refusedAnswer : ℕ → Answer
 refusedAnswer n = record { refusal = n; sent = 0; closed = 0; victim = 0; initiator = 0 }
 
+abbrev pub acceptedAnswer : ℕ → ℕ → ℕ → ℕ → Answer
+acceptedAnswer sent closed victim initiator = record { refusal = 0; sent = sent; closed = closed; victim = victim; initiator = initiator }
+
 -- ---- start
+-- what start is given
+pub record Config : Type 0 where
+  pub sessions : ℕ
+  pub items : ℕ
+  pub capacity : ℕ
+
+abbrev pub config : ℕ → ℕ → ℕ → Config
+config S M C = record { sessions = S; items = M; capacity = C }
+
 -- what start answers, and both buffers after
 pub record Started : Type 0 where
   pub refusal : ℕ
   pub table : List ℕ
   pub mail : List ℕ
 
-abbrev pub opened : ℕ → List ℕ → List ℕ → Started
-opened refusal table mail = record { refusal = refusal; table = table; mail = mail }
+abbrev pub startResult : ℕ → List ℕ → List ℕ → Started
+startResult refusal table mail = record { refusal = refusal; table = table; mail = mail }
 
--- S, M or C beyond its bounds, or a length that does not match them
-unfoldable pub startRefusal : ℕ → ℕ → ℕ → List ℕ → List ℕ → ℕ
-startRefusal S M C table mail =
+-- S, M or C beyond its bounds, or a length that does not match them: RULES 8.2
+unfoldable pub startRefusal : Config → List ℕ → List ℕ → ℕ
+startRefusal c table mail =
     first
     (cause
     (not
-    (between 1 Table.most S && between 1 Table.most M && between 1 Mail.maxCapacity C
-    && eqb (length table) (Table.size S M) && eqb (length mail) (Mail.size C)))
-    Refusal.size
+    (between 1 maxSessions (c .sessions) && between 1 maxItems (c .items) && between 1 Mail.maxCapacity (c .capacity)
+    && eqb (length table) (Table.size (c .sessions) (c .items)) && eqb (length mail) (Mail.size (c .capacity))))
+    Refusal.badSize
     ∷ [])
 
--- S and M, every session at stage 1, all else zero, and empty mail of capacity C
-unfoldable pub start : ℕ → ℕ → ℕ → List ℕ → List ℕ → Started
-start S M C table mail =
-    cond (eqb (startRefusal S M C table mail) 0)
-    (opened 0 (Table.started S M) (Mail.mailBytes C []))
-    (opened (startRefusal S M C table mail) table mail)
+-- what start writes: RULES 4.3
+unfoldable pub start : Config → List ℕ → List ℕ → Started
+start c table mail =
+    cond (eqb (startRefusal c table mail) 0)
+    (startResult 0 (Table.started (c .sessions) (c .items)) (Mail.mailBytes (c .capacity) []))
+    (startResult (startRefusal c table mail) table mail)
 
 -- ---- step
 -- the verbs
@@ -72,6 +84,18 @@ deliverToItem = 3
 
 abbrev pub deliverToSession : ℕ
 deliverToSession = 4
+
+-- the place of the entry that a step delivers, the earliest of its route; a request or a release delivers none, and its place is past the end
+unfoldable pub delivered : ℕ → ℕ → ℕ → List Entry → ℕ
+delivered verb t x entries =
+    cond (eqb verb deliverToItem) (earliest toItem t x entries)
+    (cond (eqb verb deliverToSession) (earliest toSession t x entries) (length entries))
+
+-- what session T does: on a request, on a release, or on the entry that is delivered to it
+unfoldable pub sessionActs : ℕ → ℕ → ℕ → Session → Entry → Session.After
+sessionActs verb t x s e =
+    cond (eqb verb request) (Session.requested x s)
+    (cond (eqb verb release) (Session.released x s) (Session.received senior t s (seenBySession e)))
 
 -- what a step does where nothing refuses it: the table and the entries after it, how many were sent, and what happened
 pub record Plan : Type 0 where
@@ -89,61 +113,61 @@ abbrev pub itemPlan : ℕ → List ℕ → List Entry → Item.After → Plan
 itemPlan x table rest r =
     record { table = Table.withItem table x (packed (r .lock)); entries = rest ++ map (fromItem x) (r .sends); sent = length (r .sends); event = r .event }
 
--- delivery takes the earliest entry of one route, and the rest close up
-abbrev pub head : ℕ → ℕ → ℕ → List Entry → Entry
-head direction t x l = getD l (earliest direction t x l) unused
-
-abbrev pub others : ℕ → ℕ → ℕ → List Entry → List Entry
-others direction t x l = removeAt (earliest direction t x l) l
-
+-- an item acts in a delivery to it, a session in every other step; the entry that is delivered is gone, and the rest close up
 unfoldable pub plan : ℕ → ℕ → ℕ → List ℕ → List Entry → Plan
 plan verb t x table entries =
-    cond (eqb verb request) (sessionPlan t table entries (Session.requested x (Table.session table t)))
-    (cond (eqb verb release) (sessionPlan t table entries (Session.released x (Table.session table t)))
-    (cond (eqb verb deliverToItem)
-    (itemPlan x table (others toItem t x entries) (Item.received senior nextHolder (locks table x) (seenByItem (head toItem t x entries))))
-    (sessionPlan t table (others toSession t x entries) (Session.received senior t (Table.session table t) (seenBySession (head toSession t x entries))))))
+    let k = delivered verb t x entries in
+    cond (eqb verb deliverToItem)
+    (itemPlan x table (removeAt k entries) (Item.received senior nextHolder (locks table x) (seenByItem (getD entries k unused))))
+    (sessionPlan t table (removeAt k entries) (sessionActs verb t x (Table.session table t) (getD entries k unused)))
 
--- request outside stage 1, release outside 1 and 3
-abbrev pub stageForbids : ℕ → Session → Bool
-stageForbids verb s =
-    eqb verb request && not (eqb (s .stage) Stage.growing)
-    || eqb verb release && not (eqb (s .stage) Stage.growing || eqb (s .stage) Stage.shrinking)
+-- the stage forbids a request or a release: RULES 8.6
+abbrev pub stageForbids : ℕ → ℕ → Bool
+stageForbids verb stage =
+    eqb verb request && not (eqb stage Stage.growing)
+    || eqb verb release && not (eqb stage Stage.growing || eqb stage Stage.shrinking)
 
--- request for an item in T's own mask, release of one not in it
-abbrev pub maskForbids : ℕ → ℕ → Session → Bool
-maskForbids verb x s = eqb verb request && has x (s .held) || eqb verb release && not (has x (s .held))
+-- the mask forbids a request or a release: RULES 8.7
+abbrev pub maskForbids : ℕ → ℕ → ℕ → Bool
+maskForbids verb x held = eqb verb request && has x held || eqb verb release && not (has x held)
 
--- a delivery finds no entry
-abbrev pub nothingToDeliver : ℕ → ℕ → ℕ → List Entry → Bool
-nothingToDeliver verb t x entries =
-    eqb verb deliverToItem && eqb (earliest toItem t x entries) (length entries)
-    || eqb verb deliverToSession && eqb (earliest toSession t x entries) (length entries)
+-- a delivery finds no entry: RULES 8.8
+abbrev pub nothingToDeliver : ℕ → ℕ → List Entry → Bool
+nothingToDeliver verb k entries = between deliverToItem deliverToSession verb && eqb k (length entries)
+
+-- there is no room for the entries after a step: RULES 8.9
+abbrev pub overfull : ℕ → List Entry → Bool
+overfull C entries = ltb C (length entries)
 
 -- the causes in their order: first those of the verb, the buffers and the numbers
 abbrev pub bufferCauses : List ℕ → List ℕ → List Cause
 bufferCauses table mail =
-    cause (not (Table.sized table && Mail.sized mail)) Refusal.size
-    ∷ cause (not (Table.wellFormed table)) Refusal.table
-    ∷ cause (not (Mail.wellFormed (Table.sessionsOf table) (Table.itemsOf table) mail)) Refusal.mail
+    cause (not (Table.sized table && Mail.sized mail)) Refusal.badSize
+    ∷ cause (not (Table.wellFormed table)) Refusal.badTable
+    ∷ cause (not (Mail.wellFormed (Table.sessionsOf table) (Table.itemsOf table) mail)) Refusal.badMail
     ∷ []
 
 unfoldable pub judged : ℕ → ℕ → ℕ → List ℕ → List ℕ → ℕ
 judged verb t x table mail =
     first
-    (cause (not (between request deliverToSession verb)) Refusal.verb
+    (cause (not (between request deliverToSession verb)) Refusal.badVerb
     ∷ (bufferCauses table mail
-    ++ (cause (not (between 1 (Table.sessionsOf table) t && between 1 (Table.itemsOf table) x)) Refusal.number ∷ [])))
+    ++ (cause (not (between 1 (Table.sessionsOf table) t && between 1 (Table.itemsOf table) x)) Refusal.badNumber ∷ [])))
 
 -- then those of the step itself
+abbrev pub stepCauses : ℕ → ℕ → ℕ → List ℕ → List Entry → List Cause
+stepCauses verb t x table entries =
+    cause (stageForbids verb (Table.session table t .stage)) Refusal.wrongStage
+    ∷ cause (maskForbids verb x (Table.session table t .held)) Refusal.wrongItem
+    ∷ cause (nothingToDeliver verb (delivered verb t x entries) entries) Refusal.noMessage
+    ∷ []
+
+-- and at last room for what it sends
 unfoldable pub hindered : ℕ → ℕ → ℕ → List ℕ → List ℕ → ℕ
 hindered verb t x table mail =
     first
-    (cause (stageForbids verb (Table.session table t)) Refusal.stage
-    ∷ cause (maskForbids verb x (Table.session table t)) Refusal.held
-    ∷ cause (nothingToDeliver verb t x (Mail.entriesOf mail)) Refusal.route
-    ∷ cause (ltb (Mail.capacityOf mail) (length (plan verb t x table (Mail.entriesOf mail) .entries))) Refusal.room
-    ∷ [])
+    (stepCauses verb t x table (Mail.entriesOf mail)
+    ++ (cause (overfull (Mail.capacityOf mail) (plan verb t x table (Mail.entriesOf mail) .entries)) Refusal.mailFull ∷ []))
 
 -- what a step answers, and both buffers after
 pub record Stepped : Type 0 where
@@ -158,13 +182,13 @@ stepped a table mail = record { answer = a; table = table; mail = mail }
 abbrev pub unless : ℕ → List ℕ → List ℕ → Stepped → Stepped
 unless n table mail r = cond (eqb n 0) r (stepped (refusedAnswer n) table mail)
 
--- closed: 1 if this step put T in a queue and T then lies on a cycle, else 0
+-- 1 if this step put T in a queue and T then lies on a cycle, else 0: RULES 7.5
 abbrev pub closed : ℕ → List ℕ → Event → ℕ
 closed t table e = cond (Item.joined e && not (eqb (cycleLength table t) 0)) 1 0
 
+-- what an accepted step answers: RULES 4.6
 abbrev pub answered : ℕ → ℕ → List ℕ → Event → Answer
-answered t sent table e =
-    record { refusal = 0; sent = sent; closed = closed t table e; victim = Item.victim e; initiator = Item.initiator e }
+answered t sent table e = acceptedAnswer sent (closed t table e) (Item.victim e) (Item.initiator e)
 
 abbrev pub committed : ℕ → ℕ → Plan → Stepped
 committed t C p = stepped (answered t (p .sent) (p .table) (p .event)) (p .table) (Mail.mailBytes C (p .entries))
@@ -178,13 +202,13 @@ unfoldable pub step : ℕ → ℕ → ℕ → List ℕ → List ℕ → Stepped
 step verb t x table mail = unless (judged verb t x table mail) table mail (acted verb t x table mail)
 
 -- ---- report
--- the report reads the table alone
+-- the report reads the table alone: RULES 4.8
 unfoldable pub reportRefusal : ℕ → List ℕ → ℕ
 reportRefusal t table =
     first
-    (cause (not (Table.sized table)) Refusal.size
-    ∷ cause (not (Table.wellFormed table)) Refusal.table
-    ∷ cause (not (between 1 (Table.sessionsOf table) t)) Refusal.number
+    (cause (not (Table.sized table)) Refusal.badSize
+    ∷ cause (not (Table.wellFormed table)) Refusal.badTable
+    ∷ cause (not (between 1 (Table.sessionsOf table) t)) Refusal.badNumber
     ∷ [])
 
 unfoldable pub report : ℕ → List ℕ → Cycle
@@ -193,13 +217,9 @@ report t table =
     (record { refusal = 0; length = cycleLength table t })
     (record { refusal = reportRefusal t table; length = 0 })
 
--- what a step that was judged knows
-pub record Judged (t x : ℕ) (table mail : List ℕ) : Type 0 where
-  pub table-sized : Table.sized table ≡ true
+-- ---- form
+-- both buffers are well-formed
+pub record Formed (table mail : List ℕ) : Type 0 where
+  pub records : Table.Formed table
   pub mail-sized : Mail.sized mail ≡ true
-  pub table-formed : Table.wellFormed table ≡ true
   pub mail-formed : Mail.wellFormed (Table.sessionsOf table) (Table.itemsOf table) mail ≡ true
-  pub session-low : 1 ≤ t
-  pub session-high : t ≤ Table.sessionsOf table
-  pub item-low : 1 ≤ x
-  pub item-high : x ≤ Table.itemsOf table

@@ -1,3 +1,4 @@
 pub mod Refusal
 pub mod Calls
+pub mod Parts
 pub mod Run

@@ -1,19 +1,31 @@
 // The lock manager (01: the desk): start, step and report on lent bytes, exported to C.
 use item::Event;
 use item::ItemStep;
+use message::MAX_ITEMS;
+use message::MAX_SESSIONS;
+use message::Outbox;
 use session::Session;
 use session::SessionStep;
 ghost use mathlib.Core.Path.{_≡_};
 ghost use mathlib.Core.Bool.{true, cond, not};
-ghost use Prim.Native.Nat.{_+_, _≤_};
+ghost use mathlib.Core.List.{List, _++_, map};
+ghost use Prim.Native.Nat.{_≤_};
 ghost use lib.Dec.{eqb};
+ghost use lib.ListN.{length, getD};
+ghost use Rattle.lists.specs.Lists.{removeAt};
+ghost use Rattle.message.specs.declared.Message.{Message};
+ghost use Rattle.message.specs.Limits.{maxItems};
+ghost use Rattle.message.specs.Outbox.{room, outboxOf};
 ghost use Rattle.session.specs.Rules as SessionRules;
 ghost use Rattle.item.specs.Rules as ItemRules;
-ghost use Rattle.mailbox.specs.Layout.{capacityOf, countOf, entriesOf, Kept};
-ghost use Rattle.table.specs.Layout.{sessionsOf, itemsOf, sized, wellFormed, withItem};
+ghost use Rattle.mailbox.specs.Entry.{unused};
+ghost use Rattle.mailbox.specs.Entry.{sent};
+ghost use Rattle.mailbox.specs.Layout.{capacityOf, entriesOf, mailBytes, Kept};
+ghost use Rattle.table.specs.Layout.{HasSession, HasItem, Formed, sessionsOf, wellFormed, session, withItem};
 ghost use Rattle.waits.specs.OnTable.{cycleLength};
 ghost use Rattle.lockmgr.specs.Refusal.{first};
-ghost use Rattle.lockmgr.specs.Calls.{refusedAnswer, startRefusal, opened, start, bufferCauses, judged, request, release, deliverToItem, deliverToSession, sessionPlan, itemPlan, stepped, committed, acted, step, reportRefusal, report, Judged};
+ghost use Rattle.lockmgr.specs.Calls.{refusedAnswer, acceptedAnswer, config, startRefusal, startResult, start, bufferCauses, judged, delivered, sessionActs, stageForbids, maskForbids, nothingToDeliver, stepCauses, sessionPlan, itemPlan, stepped, answered, acted, step, reportRefusal, report};
+ghost use Rattle.lockmgr.specs.Parts.{Judged, Acting, posted, postResult, concluded};
 
 // The answer of a step. A refused step answers its number and zeros.
 #[repr(C)]
@@ -34,23 +46,23 @@ pub struct Cycle {
 
 impl Answer {
     // The causes for which a call is refused.
-    pub const VERB: u8 = 1;
+    pub const BAD_VERB: u8 = 1;
 
-    pub const SIZE: u8 = 2;
+    pub const BAD_SIZE: u8 = 2;
 
-    pub const TABLE: u8 = 3;
+    pub const BAD_TABLE: u8 = 3;
 
-    pub const MAIL: u8 = 4;
+    pub const BAD_MAIL: u8 = 4;
 
-    pub const NUMBER: u8 = 5;
+    pub const BAD_NUMBER: u8 = 5;
 
-    pub const STAGE: u8 = 6;
+    pub const WRONG_STAGE: u8 = 6;
 
-    pub const HELD: u8 = 7;
+    pub const WRONG_ITEM: u8 = 7;
 
-    pub const ROUTE: u8 = 8;
+    pub const NO_MESSAGE: u8 = 8;
 
-    pub const ROOM: u8 = 9;
+    pub const MAIL_FULL: u8 = 9;
 
     pub fn refused(refusal: u8) -> Answer
         ensures { λ r. ⌜ r ≡ refusedAnswer refusal ⌝ }
@@ -63,35 +75,56 @@ impl Answer {
             initiator: 0,
         }
     }
+
+    pub fn accepted(sent: u8, closed: u8, victim: u8, initiator: u8) -> Answer
+        ensures { λ r. ⌜ r ≡ acceptedAnswer sent closed victim initiator ⌝ }
+    {
+        Answer {
+            refusal: 0,
+            sent,
+            closed,
+            victim,
+            initiator,
+        }
+    }
 }
+
+// The verbs of a step.
+pub const REQUEST: u64 = 1;
+
+pub const RELEASE: u64 = 2;
+
+pub const DELIVER_TO_ITEM: u64 = 3;
+
+pub const DELIVER_TO_SESSION: u64 = 4;
 
 // Whether start is refused: its number, or 0.
 fn start_refusal(sessions: u64, items: u64, capacity: u64, table: &[u8], mail: &[u8]) -> u8
-    ensures { λ r. ⌜ r ≡ startRefusal sessions items capacity (now (table .entry)) (now (mail .entry)) ⌝ }
+    ensures { λ r. ⌜ r ≡ startRefusal (config sessions items capacity) (now (table .entry)) (now (mail .entry)) ⌝ }
 {
     if sessions < 1 {
-        return Answer::SIZE;
+        return Answer::BAD_SIZE;
     }
-    if 64 < sessions {
-        return Answer::SIZE;
+    if (MAX_SESSIONS as u64) < sessions {
+        return Answer::BAD_SIZE;
     }
     if items < 1 {
-        return Answer::SIZE;
+        return Answer::BAD_SIZE;
     }
-    if 64 < items {
-        return Answer::SIZE;
+    if (MAX_ITEMS as u64) < items {
+        return Answer::BAD_SIZE;
     }
     if capacity < 1 {
-        return Answer::SIZE;
+        return Answer::BAD_SIZE;
     }
-    if 4096 < capacity {
-        return Answer::SIZE;
+    if (mailbox::MAX_CAPACITY as u64) < capacity {
+        return Answer::BAD_SIZE;
     }
-    if table.len() as u64 != 2 + 74 * sessions + 66 * items {
-        return Answer::SIZE;
+    if table.len() != table::size(sessions as u8, items as u8) {
+        return Answer::BAD_SIZE;
     }
-    if mail.len() as u64 != 4 + 6 * capacity {
-        return Answer::SIZE;
+    if mail.len() != mailbox::size(capacity as usize) {
+        return Answer::BAD_SIZE;
     }
     0
 }
@@ -105,7 +138,7 @@ pub extern "C" fn lockmgr_start(
     table: &mut [u8],
     mail: &mut [u8],
 ) -> u8
-    ensures { λ r. ⌜ opened r (now (table .exit)) (now (mail .exit)) ≡ start sessions items capacity (now (table .entry)) (now (mail .entry)) ⌝ }
+    ensures { λ r. ⌜ startResult r (now (table .exit)) (now (mail .exit)) ≡ start (config sessions items capacity) (now (table .entry)) (now (mail .entry)) ⌝ }
 {
     let cause = start_refusal(sessions, items, capacity, table, mail);
     if cause != 0 {
@@ -121,16 +154,16 @@ fn buffers_refusal(table: &[u8], mail: &[u8]) -> u8
     ensures { λ r. ⌜ r ≡ first (bufferCauses (now (table .entry)) (now (mail .entry))) ⌝ }
 {
     if !table::sized(table) {
-        return Answer::SIZE;
+        return Answer::BAD_SIZE;
     }
     if !mailbox::sized(mail) {
-        return Answer::SIZE;
+        return Answer::BAD_SIZE;
     }
     if !table::well_formed(table) {
-        return Answer::TABLE;
+        return Answer::BAD_TABLE;
     }
-    if !mailbox::well_formed(mail, table[0], table[1]) {
-        return Answer::MAIL;
+    if !mailbox::well_formed(mail, table::sessions(table), table::items(table)) {
+        return Answer::BAD_MAIL;
     }
     0
 }
@@ -139,91 +172,179 @@ fn buffers_refusal(table: &[u8], mail: &[u8]) -> u8
 fn judge(verb: u64, session: u64, item: u64, table: &[u8], mail: &[u8]) -> u8
     ensures { λ r. ⌜ r ≡ judged verb session item (now (table .entry)) (now (mail .entry)) ⌝ }
 {
-    if verb < 1 {
-        return Answer::VERB;
+    if verb < REQUEST {
+        return Answer::BAD_VERB;
     }
-    if 4 < verb {
-        return Answer::VERB;
+    if DELIVER_TO_SESSION < verb {
+        return Answer::BAD_VERB;
     }
     let cause = buffers_refusal(table, mail);
     if cause != 0 {
         return cause;
     }
     if session < 1 {
-        return Answer::NUMBER;
+        return Answer::BAD_NUMBER;
     }
-    if (table[0] as u64) < session {
-        return Answer::NUMBER;
+    if (table::sessions(table) as u64) < session {
+        return Answer::BAD_NUMBER;
     }
     if item < 1 {
-        return Answer::NUMBER;
+        return Answer::BAD_NUMBER;
     }
-    if (table[1] as u64) < item {
-        return Answer::NUMBER;
+    if (table::items(table) as u64) < item {
+        return Answer::BAD_NUMBER;
     }
     0
 }
 
-// Session t has stepped, and there is room for what it sends: the record and the messages are written.
-fn commit_session(t: u8, r: SessionStep, table: &mut [u8], mail: &mut [u8]) -> Answer
-    requires { ⌜ (sized (now table) ≡ true) × (1 ≤ t) × (t ≤ sessionsOf (now table)) × Kept (now mail) × (r .outbox .n ≤ 130) × (countOf (now mail) + r .outbox .n ≤ capacityOf (now mail)) ⌝ }
-    ensures { λ a. ⌜ ((w : SessionRules.After) → r ≡ SessionRules.stepOf w
-        → stepped a (now (table .exit)) (now (mail .exit)) ≡ committed t (capacityOf (now (mail .entry))) (sessionPlan t (now (table .entry)) (entriesOf (now (mail .entry))) w)) ⌝ }
+// The place of the entry that a step delivers, or the number of entries.
+fn delivered(verb: u64, t: u8, x: u8, mail: &[u8]) -> usize
+    requires { ⌜ Kept (now mail) ⌝ }
+    ensures { λ r. ⌜ r ≡ delivered verb t x (entriesOf (now (mail .entry))) ⌝ }
 {
-    let outbox = r.outbox;
-    let session = r.session;
-    let sent = outbox.n;
-    table::put_session(table, t, session);
-    mailbox::post_from_session(mail, t, outbox);
-    Answer {
-        refusal: 0,
-        sent: sent as u8,
-        closed: 0,
-        victim: 0,
-        initiator: 0,
+    match verb {
+        DELIVER_TO_ITEM => mailbox::earliest(mail, mailbox::TO_ITEM, t, x),
+        DELIVER_TO_SESSION => mailbox::earliest(mail, mailbox::TO_SESSION, t, x),
+        _ => mailbox::count(mail),
     }
 }
 
-// Item x has stepped on a message of session t, and there is room for what it sends.
-fn commit_item(t: u8, x: u8, r: ItemStep, table: &mut [u8], mail: &mut [u8]) -> Answer
-    requires { ⌜ (sized (now table) ≡ true) × (1 ≤ t) × (t ≤ sessionsOf (now table)) × (1 ≤ x) × (x ≤ itemsOf (now table)) × (r .event ≡ Event.Joined → wellFormed (withItem (now table) x (r .item)) ≡ true) × Kept (now mail) × (r .outbox .n ≤ 130) × (countOf (now mail) + r .outbox .n ≤ capacityOf (now mail)) ⌝ }
+// Whether the stage forbids a request or a release.
+fn stage_forbids(verb: u64, stage: u8) -> bool
+    ensures { λ r. ⌜ r ≡ stageForbids verb stage ⌝ }
+{
+    let growing = stage == Session::GROWING;
+    ((verb == REQUEST) & !growing)
+        | ((verb == RELEASE) & !(growing | (stage == Session::SHRINKING)))
+}
+
+// Whether the mask of held items forbids a request or a release of item x.
+fn mask_forbids(verb: u64, x: u8, held: u64) -> bool
+    requires { ⌜ (1 ≤ x) × (x ≤ maxItems) ⌝ }
+    ensures { λ r. ⌜ r ≡ maskForbids verb x held ⌝ }
+{
+    let has = bitset::contains(held, x);
+    ((verb == REQUEST) & has) | ((verb == RELEASE) & !has)
+}
+
+// The number of a cause that holds, else that of the causes behind it.
+fn cause(holds: bool, number: u8, rest: u8) -> u8
+    ensures { λ r. ⌜ r ≡ cond holds number rest ⌝ }
+{
+    if holds { number } else { rest }
+}
+
+// The first of the causes that lie in the step itself, but for room, or 0; k is the place of the entry that it delivers.
+fn step_refusal(verb: u64, t: u8, x: u8, k: usize, table: &[u8], mail: &[u8]) -> u8
+    requires { ⌜ Judged t x (now table) (now mail) × (k ≡ delivered verb t x (entriesOf (now mail))) ⌝ }
+    ensures { λ r. ⌜ r ≡ first (stepCauses verb t x (now (table .entry)) (entriesOf (now (mail .entry)))) ⌝ }
+{
+    let s = table::session(table, t);
+    let staged = stage_forbids(verb, s.stage);
+    let masked = mask_forbids(verb, x, s.held);
+    let none = (verb >= DELIVER_TO_ITEM)
+        & (verb <= DELIVER_TO_SESSION)
+        & (k == mailbox::count(mail));
+    let route = cause(none, Answer::NO_MESSAGE, 0);
+    let mask = cause(masked, Answer::WRONG_ITEM, route);
+    cause(staged, Answer::WRONG_STAGE, mask)
+}
+
+// What session t does in a step.
+fn session_acts(verb: u64, t: u8, x: u8, k: usize, table: &[u8], mail: &[u8]) -> SessionStep
+    requires { ⌜ Acting verb t x k (now table) (now mail) ⌝ }
+    ensures { λ r. ⌜ r ≡ SessionRules.stepOf (sessionActs verb t x (session (now (table .entry)) t) (getD (entriesOf (now (mail .entry))) k unused)) ⌝ }
+{
+    let s = table::session(table, t);
+    match verb {
+        REQUEST => s.request(x),
+        RELEASE => s.release(x),
+        _ => s.receive(t, mailbox::message_to_session(mail, k)),
+    }
+}
+
+// How many entries are left without entry k; past the end none goes.
+fn left(mail: &[u8], k: usize) -> usize
+    requires { ⌜ Kept (now mail) ⌝ }
+    ensures { λ r. ⌜ r ≡ length (removeAt k (entriesOf (now (mail .entry)))) ⌝ }
+{
+    let count = mailbox::count(mail);
+    if k < count { count - 1 } else { count }
+}
+
+// Takes out entry k; past the end none goes.
+fn take(mail: &mut [u8], k: usize)
+    requires { ⌜ Kept (now mail) ⌝ }
+    ensures { λ _. ⌜ now (mail .exit) ≡ mailBytes (capacityOf (now (mail .entry))) (removeAt k (entriesOf (now (mail .entry)))) ⌝ }
+{
+    if mailbox::count(mail) <= k {
+        return;
+    }
+    mailbox::remove(mail, k);
+}
+
+// If there is room for what a session (direction 1) or an item (direction 2) sends, takes out entry k and adds it.
+fn post(mail: &mut [u8], k: usize, direction: u8, party: u8, out: Outbox) -> bool
+    requires { ⌜ Kept (now mail) × (out .n ≤ room) ⌝ }
+    ensures { λ r. ⌜ ((l : List Message) → out ≡ outboxOf l
+        → postResult r (now (mail .exit)) ≡ posted (now (mail .entry)) (removeAt k (entriesOf (now (mail .entry))) ++ map (sent direction party) l)) ⌝ }
+{
+    if mailbox::capacity(mail) < left(mail, k) + out.n {
+        return false;
+    }
+    take(mail, k);
+    mailbox::post(mail, direction, party, out);
+    true
+}
+
+// Session t has stepped: the messages and the record are written, if there is room.
+fn commit_session(t: u8, k: usize, r: SessionStep, table: &mut [u8], mail: &mut [u8]) -> Answer
+    requires { ⌜ HasSession (now table) t × Kept (now mail) × (r .outbox .n ≤ room) ⌝ }
+    ensures { λ a. ⌜ ((w : SessionRules.After) → r ≡ SessionRules.stepOf w
+        → stepped a (now (table .exit)) (now (mail .exit)) ≡ concluded t (now (table .entry)) (now (mail .entry)) (sessionPlan t (now (table .entry)) (removeAt k (entriesOf (now (mail .entry)))) w)) ⌝ }
+{
+    let outbox = r.outbox;
+    let session = r.session;
+    let sent = outbox.n as u8;
+    if !post(mail, k, mailbox::TO_ITEM, t, outbox) {
+        return Answer::refused(Answer::MAIL_FULL);
+    }
+    table::put_session(table, t, session);
+    Answer::accepted(sent, 0, 0, 0)
+}
+
+// Item x has stepped on a message of session t: the messages and the record are written, if there is room.
+fn commit_item(t: u8, x: u8, k: usize, r: ItemStep, table: &mut [u8], mail: &mut [u8]) -> Answer
+    requires { ⌜ HasSession (now table) t × HasItem (now table) x × (wellFormed (withItem (now table) x (r .item)) ≡ true) × Kept (now mail) × (r .outbox .n ≤ room) ⌝ }
     ensures { λ a. ⌜ ((w : ItemRules.After) → r ≡ ItemRules.stepOf w
-        → stepped a (now (table .exit)) (now (mail .exit)) ≡ committed t (capacityOf (now (mail .entry))) (itemPlan x (now (table .entry)) (entriesOf (now (mail .entry))) w)) ⌝ }
+        → stepped a (now (table .exit)) (now (mail .exit)) ≡ concluded t (now (table .entry)) (now (mail .entry)) (itemPlan x (now (table .entry)) (removeAt k (entriesOf (now (mail .entry)))) w)) ⌝ }
 {
     let outbox = r.outbox;
     let item = r.item;
     let event = r.event;
-    let n = outbox.n;
+    let sent = outbox.n as u8;
+    if !post(mail, k, mailbox::TO_SESSION, x, outbox) {
+        return Answer::refused(Answer::MAIL_FULL);
+    }
     table::put_item(table, x, item);
-    mailbox::post_from_item(mail, x, outbox);
+    answer_of(t, sent, event, table)
+}
+
+// The answer of an accepted step, by what happened at the item.
+fn answer_of(t: u8, sent: u8, event: Event, table: &[u8]) -> Answer
+    requires { ⌜ Formed (now table) × (1 ≤ t) × (t ≤ sessionsOf (now table)) ⌝ }
+    ensures { λ a. ⌜ a ≡ answered t sent (now (table .entry)) event ⌝ }
+{
     match event {
-        Event::Nothing => Answer {
-            refusal: 0,
-            sent: n as u8,
-            closed: 0,
-            victim: 0,
-            initiator: 0,
-        },
-        Event::Joined => Answer {
-            refusal: 0,
-            sent: n as u8,
-            closed: closes(t, table),
-            victim: 0,
-            initiator: 0,
-        },
-        Event::Declared(v, i) => Answer {
-            refusal: 0,
-            sent: n as u8,
-            closed: 0,
-            victim: v,
-            initiator: i,
-        },
+        Event::Nothing => Answer::accepted(sent, 0, 0, 0),
+        Event::Joined => Answer::accepted(sent, closes(t, table), 0, 0),
+        Event::Declared(v, i) => Answer::accepted(sent, 0, v, i),
     }
 }
 
 // 1 if session t lies on a cycle, else 0.
 fn closes(t: u8, table: &[u8]) -> u8
-    requires { ⌜ (sized (now table) ≡ true) × (wellFormed (now table) ≡ true) × (1 ≤ t) × (t ≤ sessionsOf (now table)) ⌝ }
+    requires { ⌜ Formed (now table) × (1 ≤ t) × (t ≤ sessionsOf (now table)) ⌝ }
     ensures { λ r. ⌜ r ≡ cond (not (eqb (cycleLength (now (table .entry)) t) 0)) 1 0 ⌝ }
 {
     if waits::cycle_length(table, t) == 0 {
@@ -233,97 +354,22 @@ fn closes(t: u8, table: &[u8]) -> u8
     }
 }
 
-// Session t requests item x.
-fn request(t: u8, x: u8, table: &mut [u8], mail: &mut [u8]) -> Answer
-    requires { ⌜ Judged t x (now table) (now mail) ⌝ }
-    ensures { λ a. ⌜ stepped a (now (table .exit)) (now (mail .exit)) ≡ acted request t x (now (table .entry)) (now (mail .entry)) ⌝ }
-{
-    let s = table::session(table, t);
-    if s.stage != Session::GROWING {
-        return Answer::refused(Answer::STAGE);
-    }
-    if bitset::contains(s.held, x) {
-        return Answer::refused(Answer::HELD);
-    }
-    let r = s.request(x);
-    let outbox = r.outbox;
-    if mailbox::capacity(mail) < mailbox::count(mail) + outbox.n {
-        return Answer::refused(Answer::ROOM);
-    }
-    commit_session(t, r, table, mail)
-}
-
-// Session t releases item x.
-fn release(t: u8, x: u8, table: &mut [u8], mail: &mut [u8]) -> Answer
-    requires { ⌜ Judged t x (now table) (now mail) ⌝ }
-    ensures { λ a. ⌜ stepped a (now (table .exit)) (now (mail .exit)) ≡ acted release t x (now (table .entry)) (now (mail .entry)) ⌝ }
-{
-    let session = table::session(table, t);
-    if session.stage != Session::GROWING {
-        if session.stage != Session::SHRINKING {
-            return Answer::refused(Answer::STAGE);
-        }
-    }
-    if !bitset::contains(session.held, x) {
-        return Answer::refused(Answer::HELD);
-    }
-    let r = session.release(x);
-    let outbox = r.outbox;
-    if mailbox::capacity(mail) < mailbox::count(mail) + outbox.n {
-        return Answer::refused(Answer::ROOM);
-    }
-    commit_session(t, r, table, mail)
-}
-
-// The earliest message from session t to item x is delivered.
-fn deliver_to_item(t: u8, x: u8, table: &mut [u8], mail: &mut [u8]) -> Answer
-    requires { ⌜ Judged t x (now table) (now mail) ⌝ }
-    ensures { λ a. ⌜ stepped a (now (table .exit)) (now (mail .exit)) ≡ acted deliverToItem t x (now (table .entry)) (now (mail .entry)) ⌝ }
-{
-    let k = mailbox::earliest(mail, 1, t, x);
-    let count = mailbox::count(mail);
-    if k == count {
-        return Answer::refused(Answer::ROUTE);
-    }
-    let r = table::item(table, x).receive(mailbox::message_to_item(mail, k));
-    let outbox = r.outbox;
-    if mailbox::capacity(mail) < count - 1 + outbox.n {
-        return Answer::refused(Answer::ROOM);
-    }
-    mailbox::remove(mail, k);
-    commit_item(t, x, r, table, mail)
-}
-
-// The earliest message from item x to session t is delivered.
-fn deliver_to_session(t: u8, x: u8, table: &mut [u8], mail: &mut [u8]) -> Answer
-    requires { ⌜ Judged t x (now table) (now mail) ⌝ }
-    ensures { λ a. ⌜ stepped a (now (table .exit)) (now (mail .exit)) ≡ acted deliverToSession t x (now (table .entry)) (now (mail .entry)) ⌝ }
-{
-    let k = mailbox::earliest(mail, 2, t, x);
-    let total = mailbox::count(mail);
-    if k == total {
-        return Answer::refused(Answer::ROUTE);
-    }
-    let r = table::session(table, t).receive(t, mailbox::message_to_session(mail, k));
-    let outbox = r.outbox;
-    if mailbox::capacity(mail) < total - 1 + outbox.n {
-        return Answer::refused(Answer::ROOM);
-    }
-    mailbox::remove(mail, k);
-    commit_session(t, r, table, mail)
-}
-
 // One step on buffers that were judged.
-fn act(verb: u8, t: u8, x: u8, table: &mut [u8], mail: &mut [u8]) -> Answer
+fn act(verb: u64, t: u8, x: u8, table: &mut [u8], mail: &mut [u8]) -> Answer
     requires { ⌜ (1 ≤ verb) × (verb ≤ 4) × Judged t x (now table) (now mail) ⌝ }
     ensures { λ a. ⌜ stepped a (now (table .exit)) (now (mail .exit)) ≡ acted verb t x (now (table .entry)) (now (mail .entry)) ⌝ }
 {
-    match verb {
-        1 => request(t, x, table, mail),
-        2 => release(t, x, table, mail),
-        3 => deliver_to_item(t, x, table, mail),
-        _ => deliver_to_session(t, x, table, mail),
+    let k = delivered(verb, t, x, mail);
+    let cause = step_refusal(verb, t, x, k, table, mail);
+    if cause != 0 {
+        return Answer::refused(cause);
     }
+    if verb == DELIVER_TO_ITEM {
+        let r = table::item(table, x).receive(mailbox::message_to_item(mail, k));
+        return commit_item(t, x, k, r, table, mail);
+    }
+    let r = session_acts(verb, t, x, k, table, mail);
+    commit_session(t, k, r, table, mail)
 }
 
 // One step: a request, a release or a delivery.
@@ -341,7 +387,7 @@ pub extern "C" fn lockmgr_step(
     if cause != 0 {
         return Answer::refused(cause);
     }
-    act(verb as u8, session as u8, item as u8, table, mail)
+    act(verb, session as u8, item as u8, table, mail)
 }
 
 // Whether a report is refused: its number, or 0.
@@ -349,16 +395,16 @@ fn report_refusal(session: u64, table: &[u8]) -> u8
     ensures { λ r. ⌜ r ≡ reportRefusal session (now (table .entry)) ⌝ }
 {
     if !table::sized(table) {
-        return Answer::SIZE;
+        return Answer::BAD_SIZE;
     }
     if !table::well_formed(table) {
-        return Answer::TABLE;
+        return Answer::BAD_TABLE;
     }
     if session < 1 {
-        return Answer::NUMBER;
+        return Answer::BAD_NUMBER;
     }
-    if (table[0] as u64) < session {
-        return Answer::NUMBER;
+    if (table::sessions(table) as u64) < session {
+        return Answer::BAD_NUMBER;
     }
     0
 }

@@ -1,7 +1,5 @@
-pub mod Tests
+pub use Rattle.entry.proofs.EntryLaws
 pub mod Laws
-pub mod EntryLaws
-mod Runs
 mod Triples
-mod Cells
 mod Moves
+pub mod Tests

@@ -6,9 +6,9 @@ use native.Mathlib.Nat.{add-zero}
 use native.Mathlib.Omega.{arith}
 use lib.ListN.{length, getD, take, drop}
 use lib.Seq.{drop-cons, getD-drop}
-use Rattle.buffer.specs.Bytes.{part}
-use Rattle.buffer.specs.Lists.{removeAt, tabulate}
-use Rattle.mailbox.specs.Entry.{Entry, unused}
+use Rattle.buffer.specs.Bytes.{slice}
+use Rattle.lists.specs.Lists.{removeAt, tabulate}
+use Rattle.entry.specs.Entry.{Entry, unused}
 use Rattle.mailbox.specs.Layout.{routes, bodies}
 
 unfoldable pub triples : (Entry → ℕ) → (Entry → ℕ) → (Entry → ℕ) → List Entry → List ℕ
@@ -72,7 +72,7 @@ module _ (f g h : Entry → ℕ) where
       → ((k : ℕ) → f (e k) ≡ getD m (at + 3 * k) 0)
       → ((k : ℕ) → g (e k) ≡ getD m (at + 3 * k + 1) 0)
       → ((k : ℕ) → h (e k) ≡ getD m (at + 3 * k + 2) 0)
-      → triples f g h (tabulate n e) ≡ part m at (3 * n)
+      → triples f g h (tabulate n e) ≡ slice m at (3 * n)
   unfolding triples tabulate
   triples-tabulate m zero at e p s t u = refl
   triples-tabulate m (suc n) at e p s t u =
@@ -80,7 +80,7 @@ module _ (f g h : Entry → ℕ) where
       let one : suc at ≡ at + 1 = omega arith in
       let two : suc (suc at) ≡ at + 2 = omega arith in
       let on : (k : ℕ) → at + 3 * suc k ≡ suc (suc (suc at)) + 3 * k = λ k. omega arith in
-      let rest : triples f g h (tabulate n (λ k. e (suc k))) ≡ part m (suc (suc (suc at))) (3 * n) =
+      let rest : triples f g h (tabulate n (λ k. e (suc k))) ≡ slice m (suc (suc (suc at))) (3 * n) =
       triples-tabulate m n (suc (suc (suc at))) (λ k. e (suc k)) (omega arith)
       (λ k. s (suc k) ∙ ap (λ (i : ℕ). getD m i 0) (on k))
       (λ k. t (suc k) ∙ ap (λ (i : ℕ). getD m (i + 1) 0) (on k))

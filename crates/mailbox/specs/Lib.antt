@@ -1,3 +1,2 @@
-pub mod Entry
+pub use Rattle.entry.specs.Entry
 pub mod Layout
-pub mod Below

@@ -6,6 +6,11 @@ ghost use lib.ListN.{length};
 ghost use Rattle.message.specs.declared.Message.{Message};
 ghost use Rattle.message.specs.Outbox.{room, message, outboxOf};
 
+// The greatest numbers of sessions and items.
+pub const MAX_SESSIONS: usize = 64;
+
+pub const MAX_ITEMS: usize = 64;
+
 // A message as its sender or its receiver sees it: the party at the other end, the kind and two numbers.
 pub struct Message {
     pub peer: u8,
@@ -45,10 +50,13 @@ impl Message {
 // What a step sends, in order of sending.
 pub struct Outbox {
     pub n: usize,
-    pub at: [Message; 130],
+    pub at: [Message; Outbox::ROOM],
 }
 
 impl Outbox {
+    // One message, and two for each waiting session, with one place to spare.
+    pub const ROOM: usize = 2 + 2 * MAX_SESSIONS;
+
     pub fn empty() -> Outbox
         ensures { λ r. ⌜ r ≡ outboxOf [] ⌝ }
     {
@@ -58,7 +66,7 @@ impl Outbox {
             a: 0,
             b: 0,
         };
-        let at = [blank; 130];
+        let at = [blank; Outbox::ROOM];
         Outbox { n: 0, at }
     }
 
@@ -78,5 +86,12 @@ impl Outbox {
         ensures { λ r. ⌜ r ≡ outboxOf (m ∷ []) ⌝ }
     {
         Outbox::empty().push(m)
+    }
+
+    // One message alone, from its parts.
+    pub fn single(peer: u8, kind: u8, a: u8, b: u8) -> Outbox
+        ensures { λ r. ⌜ r ≡ outboxOf (message peer kind a b ∷ []) ⌝ }
+    {
+        Outbox::one(Message { peer, kind, a, b })
     }
 }

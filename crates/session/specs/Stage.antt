@@ -13,8 +13,8 @@ abbrev pub shrinking : ℕ
 shrinking = 3
 
 -- a victim whose clean is on its way
-abbrev pub victim : ℕ
-victim = 4
+abbrev pub cleaning : ℕ
+cleaning = 4
 
 -- a victim that withdraws from the queue in which it waits
 abbrev pub withdrawing : ℕ
@@ -25,4 +25,8 @@ rolledBack = 6
 
 -- the stages in which a session awaits an item
 abbrev pub awaits : ℕ → Bool
-awaits stage = eqb stage waiting || eqb stage victim || eqb stage withdrawing
+awaits stage = eqb stage waiting || eqb stage cleaning || eqb stage withdrawing
+
+-- the stages in which a session takes probes
+abbrev pub takesProbes : ℕ → Bool
+takesProbes stage = eqb stage growing || eqb stage waiting

@@ -1,15 +1,20 @@
 // The session record: its stages, who is senior, what it does on a call and on each message.
+use message::MAX_SESSIONS;
 use message::Message;
 use message::Outbox;
 ghost use mathlib.Core.Path.{_≡_};
+ghost use mathlib.Core.Bool.{cond};
 ghost use mathlib.Core.List.{List, [], _∷_, _++_};
 ghost use Prim.Native.Nat.{_+_, _≤_, _<_};
 ghost use lib.ListN.{length};
 ghost use Rattle.message.specs.declared.Message.{Message};
-ghost use Rattle.message.specs.Outbox.{outboxOf};
+ghost use Rattle.message.specs.Kind;
+ghost use Rattle.message.specs.Limits.{IsSession, IsItem};
+ghost use Rattle.message.specs.Outbox.{plain, outboxOf};
+ghost use Rattle.session.specs.Stage;
 ghost use Rattle.session.specs.Seniority.{senior};
 ghost use Rattle.session.specs.Record.{size, sessionAt, putSession};
-ghost use Rattle.session.specs.Rules.{after, stepOf, dropped, storedProbes, toHeld, requested, released, granted, resent, aborted, cleared, cleaned, cleanedWaiting, cleanedVictim, rolledBack, junior, keptProbe, probed, received, Deliverable};
+ghost use Rattle.session.specs.Rules.{stepOf, dropped, storedProbes, toHeld, requested, released, granted, resent, aborted, cleaned, cleanedWaiting, cleanedVictim, rolledBack, junior, Storable, keptProbe, received, Deliverable, probed};
 
 // A session record by value. `held` is a mask: bit k - 1 is item k. Element i - 1 of `juniors` is the junior of the probe stored for
 // initiator i, or 0 for none.
@@ -17,7 +22,7 @@ pub struct Session {
     pub stage: u8,
     pub awaited: u8,
     pub held: u64,
-    pub juniors: [u8; 64],
+    pub juniors: [u8; MAX_SESSIONS],
 }
 
 // The record that follows, with what it sends.
@@ -34,12 +39,21 @@ impl Session {
     pub const SHRINKING: u8 = 3;
 
     // A victim whose clean is on its way.
-    pub const VICTIM: u8 = 4;
+    pub const CLEANING: u8 = 4;
 
     // A victim that withdraws from the queue in which it waits.
     pub const WITHDRAWING: u8 = 5;
 
     pub const ROLLED_BACK: u8 = 6;
+
+    // The places of the fields in the record's bytes, and how many these are.
+    pub const AWAITED_PLACE: usize = 1;
+
+    pub const HELD_PLACE: usize = 2;
+
+    pub const JUNIORS_PLACE: usize = 10;
+
+    pub const SIZE: usize = Session::JUNIORS_PLACE + MAX_SESSIONS;
 
     // Whether session a is senior to session b.
     pub fn senior(a: u8, b: u8) -> bool
@@ -61,9 +75,9 @@ impl Session {
         ensures { λ r. ⌜ r ≡ sessionAt (now (t .entry)) at ⌝ }
     {
         let stage = t[at];
-        let awaited = t[at + 1];
-        let held = buffer::get64(t, at + 2);
-        let juniors = buffer::get_row(t, at + 10);
+        let awaited = t[at + Session::AWAITED_PLACE];
+        let held = buffer::get64(t, at + Session::HELD_PLACE);
+        let juniors = buffer::get_row(t, at + Session::JUNIORS_PLACE);
         Session {
             stage,
             awaited,
@@ -78,10 +92,10 @@ impl Session {
         ensures { λ _. ⌜ now (t .exit) ≡ putSession (now (t .entry)) at self ⌝ }
     {
         t[at] = self.stage;
-        t[at + 1] = self.awaited;
-        buffer::put64(t, at + 2, self.held);
+        t[at + Session::AWAITED_PLACE] = self.awaited;
+        buffer::put64(t, at + Session::HELD_PLACE, self.held);
         let juniors = self.juniors;
-        buffer::put_row(t, at + 10, juniors);
+        buffer::put_row(t, at + Session::JUNIORS_PLACE, juniors);
     }
 
     // Behind `out`, all stored probes by rising initiator, to item x.
@@ -93,7 +107,7 @@ impl Session {
         let mut at = out.at;
         let mut n = out.n;
         let mut i: usize = 0;
-        while i < 64 {
+        while i < MAX_SESSIONS {
             let j = juniors[i];
             i += 1;
             if j != 0 {
@@ -135,38 +149,32 @@ impl Session {
     }
 
     // The call to request item x.
-    pub fn request(self, x: u8) -> SessionStep
+    pub fn request(mut self, x: u8) -> SessionStep
         ensures { λ r. ⌜ r ≡ stepOf (requested x self) ⌝ }
     {
-        let first = Outbox::one(Message::new(x, Message::REQUEST, 0, 0));
+        let first = Outbox::single(x, Message::REQUEST, 0, 0);
         let outbox = self.stored_probes(x, first);
-        let held = self.held;
-        let juniors = self.juniors;
-        let session = Session {
-            stage: Session::WAITING,
-            awaited: x,
-            held,
-            juniors,
-        };
-        SessionStep { session, outbox }
+        self.stage = Session::WAITING;
+        self.awaited = x;
+        SessionStep {
+            session: self,
+            outbox,
+        }
     }
 
     // The call to release item x.
-    pub fn release(self, x: u8) -> SessionStep
+    pub fn release(mut self, x: u8) -> SessionStep
         requires { ⌜ (1 ≤ x) × (x ≤ 64) ⌝ }
         ensures { λ r. ⌜ r ≡ stepOf (released x self) ⌝ }
     {
-        let outbox = Outbox::one(Message::new(x, Message::RELEASE, 0, 0));
-        let held = bitset::remove(self.held, x);
-        let awaited = self.awaited;
-        let juniors = [0u8; 64];
-        let session = Session {
-            stage: Session::SHRINKING,
-            awaited,
-            held,
-            juniors,
-        };
-        SessionStep { session, outbox }
+        let outbox = Outbox::single(x, Message::RELEASE, 0, 0);
+        self.stage = Session::SHRINKING;
+        self.held = bitset::remove(self.held, x);
+        self.juniors = [0u8; MAX_SESSIONS];
+        SessionStep {
+            session: self,
+            outbox,
+        }
     }
 
     // The message is dropped.
@@ -181,158 +189,138 @@ impl Session {
     }
 
     // Grant, stage 2, from the awaited item.
-    fn granted(self, x: u8) -> SessionStep
-        requires { ⌜ (1 ≤ x) × (x ≤ 64) ⌝ }
+    fn granted(mut self, x: u8) -> SessionStep
+        requires { ⌜ IsItem x ⌝ }
         ensures { λ r. ⌜ r ≡ stepOf (granted x self) ⌝ }
     {
-        if x != self.awaited {
-            return self.dropped();
+        if x == self.awaited {
+            self.stage = Session::GROWING;
+            self.awaited = 0;
+            self.held = bitset::insert(self.held, x);
+            let outbox = Outbox::empty();
+            return SessionStep {
+                session: self,
+                outbox,
+            };
         }
-        let held = bitset::insert(self.held, x);
-        let juniors = self.juniors;
-        let outbox = Outbox::empty();
-        let session = Session {
-            stage: Session::GROWING,
-            awaited: 0,
-            held,
-            juniors,
-        };
-        SessionStep { session, outbox }
+        self.dropped()
     }
 
     // Resend, stage 2, from the awaited item.
     fn resent(self, x: u8) -> SessionStep
         ensures { λ r. ⌜ r ≡ stepOf (resent x self) ⌝ }
     {
-        if x != self.awaited {
-            return self.dropped();
+        if x == self.awaited {
+            let outbox = self.stored_probes(self.awaited, Outbox::empty());
+            return SessionStep {
+                session: self,
+                outbox,
+            };
         }
-        let outbox = self.stored_probes(self.awaited, Outbox::empty());
+        self.dropped()
+    }
+
+    // Abort, stage 2.
+    fn aborted(mut self, a: u8, b: u8) -> SessionStep
+        ensures { λ r. ⌜ r ≡ stepOf (aborted a b self) ⌝ }
+    {
+        let outbox = Outbox::single(self.awaited, Message::CLEAN, a, b);
+        self.stage = Session::CLEANING;
+        self.juniors = [0u8; MAX_SESSIONS];
         SessionStep {
             session: self,
             outbox,
         }
     }
 
-    // Abort, stage 2.
-    fn aborted(self, a: u8, b: u8) -> SessionStep
-        ensures { λ r. ⌜ r ≡ stepOf (aborted a b self) ⌝ }
-    {
-        let awaited = self.awaited;
-        let held = self.held;
-        let outbox = Outbox::one(Message::new(awaited, Message::CLEAN, a, b));
-        let juniors = [0u8; 64];
-        let session = Session {
-            stage: Session::VICTIM,
-            awaited,
-            held,
-            juniors,
-        };
-        SessionStep { session, outbox }
-    }
-
-    // The record with its probes cleared.
-    fn cleared(self) -> Session
-        ensures { λ r. ⌜ r ≡ cleared self ⌝ }
-    {
-        let juniors = [0u8; 64];
-        Session {
-            stage: self.stage,
-            awaited: self.awaited,
-            held: self.held,
-            juniors,
-        }
-    }
-
     // Clean, stage 1.
-    fn cleaned(self, x: u8) -> SessionStep
+    fn cleaned(mut self, x: u8) -> SessionStep
         ensures { λ r. ⌜ r ≡ stepOf (cleaned x self) ⌝ }
     {
         let outbox = Session::to_held(Message::REBROADCAST, x, self.held);
-        let session = self.cleared();
-        SessionStep { session, outbox }
+        self.juniors = [0u8; MAX_SESSIONS];
+        SessionStep {
+            session: self,
+            outbox,
+        }
     }
 
     // Clean, stage 2.
-    fn cleaned_waiting(self, x: u8, a: u8, b: u8) -> SessionStep
+    fn cleaned_waiting(mut self, x: u8, a: u8, b: u8) -> SessionStep
         ensures { λ r. ⌜ r ≡ stepOf (cleanedWaiting x a b self) ⌝ }
     {
         let last = Message::new(self.awaited, Message::CLEAN, a, b);
         let outbox = Session::to_held(Message::REBROADCAST, x, self.held).push(last);
-        let session = self.cleared();
-        SessionStep { session, outbox }
+        self.juniors = [0u8; MAX_SESSIONS];
+        SessionStep {
+            session: self,
+            outbox,
+        }
+    }
+
+    // What a victim sends on its way out: a withdraw to the awaited item and, once that is answered, a release to each held item.
+    fn leaving(self, answered: bool) -> Outbox
+        ensures { λ r. ⌜ r ≡ outboxOf (cond answered (toHeld Kind.release 0 (self .held)) (plain (self .awaited) Kind.withdraw ∷ [])) ⌝ }
+    {
+        if answered {
+            return Session::to_held(Message::RELEASE, 0, self.held);
+        }
+        Outbox::single(self.awaited, Message::WITHDRAW, 0, 0)
     }
 
     // Clean, stage 4: session t, if it is the victim, withdraws.
-    fn cleaned_victim(self, t: u8, a: u8) -> SessionStep
+    fn cleaned_victim(mut self, t: u8, a: u8) -> SessionStep
         ensures { λ r. ⌜ r ≡ stepOf (cleanedVictim t a self) ⌝ }
     {
-        if a != t {
-            return self.dropped();
+        if a == t {
+            let outbox = self.leaving(false);
+            self.stage = Session::WITHDRAWING;
+            return SessionStep {
+                session: self,
+                outbox,
+            };
         }
-        let awaited = self.awaited;
-        let held = self.held;
-        let juniors = self.juniors;
-        let outbox = Outbox::one(Message::new(awaited, Message::WITHDRAW, 0, 0));
-        let session = Session {
-            stage: Session::WITHDRAWING,
-            awaited,
-            held,
-            juniors,
-        };
-        SessionStep { session, outbox }
+        self.dropped()
     }
 
     // Withdrawn, stage 5.
-    fn rolled_back(self) -> SessionStep
+    fn rolled_back(mut self) -> SessionStep
         ensures { λ r. ⌜ r ≡ stepOf (rolledBack self) ⌝ }
     {
-        let outbox = Session::to_held(Message::RELEASE, 0, self.held);
-        let juniors = self.juniors;
-        let session = Session {
-            stage: Session::ROLLED_BACK,
-            awaited: 0,
-            held: 0,
-            juniors,
-        };
-        SessionStep { session, outbox }
+        let outbox = self.leaving(true);
+        self.stage = Session::ROLLED_BACK;
+        self.awaited = 0;
+        self.held = 0;
+        SessionStep {
+            session: self,
+            outbox,
+        }
     }
 
     // The junior j stored for initiator i, if it is news; in stage 2 the probe goes to the awaited item.
-    fn kept_probe(self, i: u8, j: u8) -> SessionStep
-        requires { ⌜ (1 ≤ i) × (i ≤ 64) ⌝ }
+    fn kept_probe(mut self, i: u8, j: u8) -> SessionStep
+        requires { ⌜ Storable i self ⌝ }
         ensures { λ r. ⌜ r ≡ stepOf (keptProbe senior i j self) ⌝ }
     {
         let at = i as usize - 1;
-        let mut juniors = self.juniors;
-        let stored = juniors[at];
-        if stored != 0 {
-            if !Session::senior(stored, j) {
-                return self.dropped();
+        let stored = self.juniors[at];
+        if (stored == 0) | Session::senior(stored, j) {
+            self.juniors[at] = j;
+            let mut outbox = Outbox::empty();
+            if self.stage != Session::GROWING {
+                outbox = Outbox::single(self.awaited, Message::PROBE, i, j);
             }
+            return SessionStep {
+                session: self,
+                outbox,
+            };
         }
-        juniors[at] = j;
-        let stage = self.stage;
-        let awaited = self.awaited;
-        let held = self.held;
-        let session = Session {
-            stage,
-            awaited,
-            held,
-            juniors,
-        };
-        if stage == Session::WAITING {
-            let outbox = Outbox::one(Message::new(awaited, Message::PROBE, i, j));
-            SessionStep { session, outbox }
-        } else {
-            let outbox = Outbox::empty();
-            SessionStep { session, outbox }
-        }
+        self.dropped()
     }
 
     // Probe (i, j), stages 1, 2.
     fn probed(self, t: u8, i: u8, j: u8) -> SessionStep
-        requires { ⌜ (1 ≤ i) × (i ≤ 64) ⌝ }
+        requires { ⌜ Storable i self ⌝ }
         ensures { λ r. ⌜ r ≡ stepOf (probed senior t i j self) ⌝ }
     {
         self.kept_probe(i, Session::junior(j, t))
@@ -365,7 +353,7 @@ impl Session {
             Message::CLEAN => match stage {
                 Session::GROWING => self.cleaned(m.peer),
                 Session::WAITING => self.cleaned_waiting(m.peer, m.a, m.b),
-                Session::VICTIM => self.cleaned_victim(t, m.a),
+                Session::CLEANING => self.cleaned_victim(t, m.a),
                 _ => self.dropped(),
             },
             Message::WITHDRAWN => match stage {

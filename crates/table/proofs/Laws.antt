@@ -4,14 +4,17 @@ use mathlib.Core.Bool.{Bool, true, false, cond, _&&_, and-false}
 use mathlib.Core.List.{List}
 use Prim.Native.Nat.{ℕ, suc, _+_, _-_, _*_, _^_, _≤_, _<_}
 use native.Mathlib.Omega.{arith}
-use borrow.Author.Tests.{eqb-true, eqb-false, leb-true, ltb-true, ltb-false}
+use borrow.Author.Tests.{eqb-true, eqb-false, ltb-true, ltb-false}
 use lib.Dec.{eqb, leb, ltb}
 use lib.ListN.{length, getD, take, drop}
 use lib.Pow.{pow-mono}
 use lib.Seq.{getD-take}
-use Rattle.buffer.specs.Bytes.{over}
-use Rattle.buffer.specs.Lists.{between, every, all}
-use Rattle.buffer.proofs.Laws.{length-over, part-over-before, length-part}
+use Rattle.buffer.specs.Bytes.{splice}
+use Rattle.lists.specs.Lists.{between, every, all}
+use Rattle.lists.proofs.Tests.{and-both, within}
+use Rattle.lists.proofs.Searches.{every-at, every-false, every-intro}
+use Rattle.buffer.proofs.Laws.{length-splice, slice-splice-before, length-slice}
+use Rattle.message.specs.Limits.{maxSessions, maxItems}
 use Rattle.session.specs.declared.Session.{Session}
 use Rattle.session.specs.Record as SessionRecord
 use Rattle.session.specs.Stage
@@ -19,15 +22,14 @@ use Rattle.session.proofs.Laws as SessionLaws
 use Rattle.item.specs.declared.Item.{Item}
 use Rattle.item.specs.Record as ItemRecord
 use Rattle.item.proofs.Laws as ItemLaws
-use Rattle.table.specs.Layout.{most, header, sessionPlace, itemPlace, size, sessionsOf, itemsOf, sized, session, withSession, item, withItem, wellFormed}
-use Rattle.table.proofs.ListLaws.{first, second, every-intro, every-at, every-false}
+use Rattle.table.specs.Layout.{header, sessionPlace, itemsStart, itemPlace, size, sessionsOf, itemsOf, sized, session, withSession, item, withItem, wellFormed}
 
 -- what `sized` says: S and M are within their bounds, and the length is that of S and M
 pub record Sized (t : List ℕ) : Type 0 where
   pub some-sessions : 1 ≤ sessionsOf t
-  pub most-sessions : sessionsOf t ≤ most
+  pub max-sessions : sessionsOf t ≤ maxSessions
   pub some-items : 1 ≤ itemsOf t
-  pub most-items : itemsOf t ≤ most
+  pub max-items : itemsOf t ≤ maxItems
   pub whole : length t ≡ size (sessionsOf t) (itemsOf t)
 
 pub sized-facts : (t : List ℕ) → sized t ≡ true → Sized t
@@ -35,15 +37,15 @@ unfolding sized
 sized-facts t e =
     let S = sessionsOf t in
     let M = itemsOf t in
-    let bounds = first (between 1 most S && between 1 most M) (eqb (length t) (size S M)) e in
-    let s = first (between 1 most S) (between 1 most M) bounds in
-    let m = second (between 1 most S) (between 1 most M) bounds in
+    let bounds = and-both (between 1 maxSessions S && between 1 maxItems M) (eqb (length t) (size S M)) e .0 in
+    let s = and-both (between 1 maxSessions S) (between 1 maxItems M) bounds .0 in
+    let m = and-both (between 1 maxSessions S) (between 1 maxItems M) bounds .1 in
     record {
-      some-sessions = leb-true 1 S (first (leb 1 S) (leb S most) s);
-      most-sessions = leb-true S most (second (leb 1 S) (leb S most) s);
-      some-items = leb-true 1 M (first (leb 1 M) (leb M most) m);
-      most-items = leb-true M most (second (leb 1 M) (leb M most) m);
-      whole = eqb-true (length t) (size S M) (second (between 1 most S && between 1 most M) (eqb (length t) (size S M)) e);
+      some-sessions = within 1 maxSessions S s .0;
+      max-sessions = within 1 maxSessions S s .1;
+      some-items = within 1 maxItems M m .0;
+      max-items = within 1 maxItems M m .1;
+      whole = eqb-true (length t) (size S M) (and-both (between 1 maxSessions S && between 1 maxItems M) (eqb (length t) (size S M)) e .1);
     }
 
 module _ (t : List ℕ) (e : sized t ≡ true) where
@@ -72,20 +74,20 @@ in-form t = refl
 -- one record that is not makes the table ill-formed
 module _ (t : List ℕ) (k : ℕ) (l : 1 ≤ k) where
   pub sessions-false : k ≤ sessionsOf t → sessionOk t k ≡ false → wellFormed t ≡ false
-  sessions-false h e = in-form t ∙ rw (every-false (sessionOk t) (sessionsOf t) k l h e) refl
+  sessions-false h e = in-form t ∙ rw (every-false (sessionsOf t) (sessionOk t) k l h e) refl
 
   pub items-false : k ≤ itemsOf t → itemOk t k ≡ false → wellFormed t ≡ false
   items-false h e =
-      in-form t ∙ rw (every-false (itemOk t) (itemsOf t) k l h e) (and-false (every (sessionsOf t) (sessionOk t)))
+      in-form t ∙ rw (every-false (itemsOf t) (itemOk t) k l h e) (and-false (every (sessionsOf t) (sessionOk t)))
 
 -- the record that the check looks at, places counted from 0
-pub session-here : (t : List ℕ) (k : ℕ) → SessionRecord.wellFormed (sessionsOf t) (itemsOf t) (SessionRecord.sessionAt t (header + SessionRecord.size * k)) ≡ sessionOk t (suc k)
+pub session-here : (t : List ℕ) (k : ℕ) {S M : ℕ} → S ≡ sessionsOf t → M ≡ itemsOf t → SessionRecord.wellFormed S M (SessionRecord.sessionAt t (header + SessionRecord.size * k)) ≡ sessionOk t (suc k)
 unfolding sessionOk session
-session-here t k = let e : suc k - 1 ≡ k = omega arith in rw (e) refl
+session-here t k p q = let e : suc k - 1 ≡ k = omega arith in rw (p, q, e) refl
 
-pub item-here : (t : List ℕ) (x : ℕ) → ItemRecord.wellFormed (sessionsOf t) (ItemRecord.itemAt t (header + SessionRecord.size * sessionsOf t + ItemRecord.size * x)) ≡ itemOk t (suc x)
+pub item-here : (t : List ℕ) (x : ℕ) {S from : ℕ} → S ≡ sessionsOf t → from ≡ itemsStart S → ItemRecord.wellFormed S (ItemRecord.itemAt t (from + ItemRecord.size * x)) ≡ itemOk t (suc x)
 unfolding itemOk item
-item-here t x = let e : suc x - 1 ≡ x = omega arith in rw (e) refl
+item-here t x p q = let e : suc x - 1 ≡ x = omega arith in rw (q, p, e) refl
 
 -- from a well-formed table, each of its records; and back
 module _ (t : List ℕ) where
@@ -93,12 +95,12 @@ module _ (t : List ℕ) where
       → (k : ℕ) → 1 ≤ k → k ≤ sessionsOf t → SessionRecord.wellFormed (sessionsOf t) (itemsOf t) (session t k) ≡ true
   unfolding sessionOk
   well-formed-session e =
-      every-at (sessionOk t) (sessionsOf t) (first (every (sessionsOf t) (sessionOk t)) (every (itemsOf t) (itemOk t)) (sym (in-form t) ∙ e))
+      every-at (sessionsOf t) (sessionOk t) (and-both (every (sessionsOf t) (sessionOk t)) (every (itemsOf t) (itemOk t)) (sym (in-form t) ∙ e) .0)
 
   pub well-formed-item : wellFormed t ≡ true → (x : ℕ) → 1 ≤ x → x ≤ itemsOf t → ItemRecord.wellFormed (sessionsOf t) (item t x) ≡ true
   unfolding itemOk
   well-formed-item e =
-      every-at (itemOk t) (itemsOf t) (second (every (sessionsOf t) (sessionOk t)) (every (itemsOf t) (itemOk t)) (sym (in-form t) ∙ e))
+      every-at (itemsOf t) (itemOk t) (and-both (every (sessionsOf t) (sessionOk t)) (every (itemsOf t) (itemOk t)) (sym (in-form t) ∙ e) .1)
 
   pub well-formed-intro :
       ((k : ℕ) → 1 ≤ k → k ≤ sessionsOf t → SessionRecord.wellFormed (sessionsOf t) (itemsOf t) (session t k) ≡ true)
@@ -106,7 +108,7 @@ module _ (t : List ℕ) where
       → wellFormed t ≡ true
   unfolding sessionOk itemOk
   well-formed-intro f g =
-      in-form t ∙ rw (every-intro (sessionOk t) (sessionsOf t) f, every-intro (itemOk t) (itemsOf t) g) refl
+      in-form t ∙ rw (every-intro (sessionsOf t) (sessionOk t) f, every-intro (itemsOf t) (itemOk t) g) refl
 
 held-in-form : (S M : ℕ) (s : Session) → SessionRecord.wellFormed S M s ≡ true → ltb (s .held) (2 ^ M) ≡ true
 unfolding SessionRecord.wellFormed
@@ -114,58 +116,58 @@ held-in-form S M s e =
     let A = all (λ j. leb j S) (take S (s .juniors)) in
     let Z = all (λ j. eqb j 0) (drop S (s .juniors)) in
     let front = between Stage.growing Stage.rolledBack (s .stage) && cond (Stage.awaits (s .stage)) (between 1 M (s .awaited)) (eqb (s .awaited) 0) in
-    second front (ltb (s .held) (2 ^ M)) (first (front && ltb (s .held) (2 ^ M)) A (first (front && ltb (s .held) (2 ^ M) && A) Z e))
+    and-both front (ltb (s .held) (2 ^ M)) (and-both (front && ltb (s .held) (2 ^ M)) A (and-both (front && ltb (s .held) (2 ^ M) && A) Z e .0) .0) .1
 
 -- the held items of a well-formed session fit eight bytes
-pub held-fits : (S M : ℕ) (s : Session) → M ≤ most → SessionRecord.wellFormed S M s ≡ true → s .held < 2 ^ 64
+pub held-fits : (S M : ℕ) (s : Session) → M ≤ maxItems → SessionRecord.wellFormed S M s ≡ true → s .held < 2 ^ 64
 held-fits S M s h e = omega (arith, ltb-true (s .held) (2 ^ M) (held-in-form S M s e), pow-mono {i = M} {j = 64} h)
 
 -- a run of bytes behind the header leaves the header
 module _ (t : List ℕ) (at : ℕ) (l : List ℕ) (h : at + length l ≤ length t) (f : header ≤ at) where
-  header-byte : (i : ℕ) → i < header → getD (over t at l) i 0 ≡ getD t i 0
+  header-byte : (i : ℕ) → i < header → getD (splice t at l) i 0 ≡ getD t i 0
   header-byte i g =
-      sym (getD-take header (over t at l) i 0 g) ∙ ap (λ (r : List ℕ). getD r i 0) (part-over-before t at l h 0 header f) ∙ getD-take header t i 0 g
+      sym (getD-take header (splice t at l) i 0 g) ∙ ap (λ (r : List ℕ). getD r i 0) (slice-splice-before t at l h 0 header f) ∙ getD-take header t i 0 g
 
-  sessionsOf-over : sessionsOf (over t at l) ≡ sessionsOf t
-  sessionsOf-over = header-byte 0 (omega arith)
+  sessionsOf-splice : sessionsOf (splice t at l) ≡ sessionsOf t
+  sessionsOf-splice = header-byte 0 (omega arith)
 
-  itemsOf-over : itemsOf (over t at l) ≡ itemsOf t
-  itemsOf-over = header-byte 1 (omega arith)
+  itemsOf-splice : itemsOf (splice t at l) ≡ itemsOf t
+  itemsOf-splice = header-byte 1 (omega arith)
 
-  sized-over : sized (over t at l) ≡ sized t
+  sized-splice : sized (splice t at l) ≡ sized t
   unfolding sized
-  sized-over = rw (sessionsOf-over, itemsOf-over, length-over t at l h) refl
+  sized-splice = rw (sessionsOf-splice, itemsOf-splice, length-splice t at l h) refl
 
 module _ (t : List ℕ) (e : sized t ≡ true) where
-  -- the arrays of a record have 64 elements
-  pub juniors-length : (k : ℕ) → 1 ≤ k → k ≤ sessionsOf t → length (session t k .juniors) ≡ 64
+  -- the arrays of a record have an element for each session that there could be
+  pub juniors-length : (k : ℕ) → 1 ≤ k → k ≤ sessionsOf t → length (session t k .juniors) ≡ maxSessions
   unfolding session
-  juniors-length k l h = length-part t (sessionPlace k + 10) 64 (omega (arith, session-fits t e k l h))
+  juniors-length k l h = length-slice t (sessionPlace k + SessionRecord.juniorsPlace) maxSessions (omega (arith, session-fits t e k l h))
 
-  pub queue-length : (x : ℕ) → 1 ≤ x → x ≤ itemsOf t → length (item t x .queue) ≡ 64
+  pub queue-length : (x : ℕ) → 1 ≤ x → x ≤ itemsOf t → length (item t x .queue) ≡ maxSessions
   unfolding item
-  queue-length x l h = length-part t (itemPlace (sessionsOf t) x + 2) 64 (omega (arith, item-fits t e x l h))
+  queue-length x l h = length-slice t (itemPlace (sessionsOf t) x + ItemRecord.queuePlace) maxSessions (omega (arith, item-fits t e x l h))
 
   -- the table with the record of session k replaced
-  module _ (k : ℕ) (l : 1 ≤ k) (h : k ≤ sessionsOf t) (s : Session) (j : length (s .juniors) ≡ 64) where
+  module _ (k : ℕ) (l : 1 ≤ k) (h : k ≤ sessionsOf t) (s : Session) (j : length (s .juniors) ≡ maxSessions) where
     session-written : sessionPlace k + length (SessionRecord.sessionBytes s) ≤ length t
     session-written = rw (SessionLaws.length-bytes s j) (session-fits t e k l h)
 
     pub sessionsOf-withSession : sessionsOf (withSession t k s) ≡ sessionsOf t
     unfolding withSession
-    sessionsOf-withSession = sessionsOf-over t (sessionPlace k) (SessionRecord.sessionBytes s) session-written (omega arith)
+    sessionsOf-withSession = sessionsOf-splice t (sessionPlace k) (SessionRecord.sessionBytes s) session-written (omega arith)
 
     pub itemsOf-withSession : itemsOf (withSession t k s) ≡ itemsOf t
     unfolding withSession
-    itemsOf-withSession = itemsOf-over t (sessionPlace k) (SessionRecord.sessionBytes s) session-written (omega arith)
+    itemsOf-withSession = itemsOf-splice t (sessionPlace k) (SessionRecord.sessionBytes s) session-written (omega arith)
 
     pub length-withSession : length (withSession t k s) ≡ length t
     unfolding withSession
-    length-withSession = length-over t (sessionPlace k) (SessionRecord.sessionBytes s) session-written
+    length-withSession = length-splice t (sessionPlace k) (SessionRecord.sessionBytes s) session-written
 
     pub sized-withSession : sized (withSession t k s) ≡ true
     unfolding withSession
-    sized-withSession = sized-over t (sessionPlace k) (SessionRecord.sessionBytes s) session-written (omega arith) ∙ e
+    sized-withSession = sized-splice t (sessionPlace k) (SessionRecord.sessionBytes s) session-written (omega arith) ∙ e
 
     pub session-withSession : s .held < 2 ^ 64 → session (withSession t k s) k ≡ s
     unfolding withSession session
@@ -174,10 +176,10 @@ module _ (t : List ℕ) (e : sized t ≡ true) where
     other-session : (i : ℕ) → 1 ≤ i → (i ≡ k → ⊥) → (b : Bool) → ltb i k ≡ b → session (withSession t k s) i ≡ session t i
     unfolding withSession session
     other-session i g f true q =
-        SessionLaws.sessionAt-over-before t (sessionPlace k) (SessionRecord.sessionBytes s) session-written (sessionPlace i) (omega (arith, ltb-true i k q))
+        SessionLaws.sessionAt-splice-before t (sessionPlace k) (SessionRecord.sessionBytes s) session-written (sessionPlace i) (omega (arith, ltb-true i k q))
     other-session i g f false q =
         let len = SessionLaws.length-bytes s j in
-        SessionLaws.sessionAt-over-after t (sessionPlace k) (SessionRecord.sessionBytes s) session-written (sessionPlace i) (omega (arith, f, ltb-false i k q))
+        SessionLaws.sessionAt-splice-after t (sessionPlace k) (SessionRecord.sessionBytes s) session-written (sessionPlace i) (omega (arith, f, ltb-false i k q))
 
     pub other-withSession : (i : ℕ) → 1 ≤ i → (i ≡ k → ⊥) → session (withSession t k s) i ≡ session t i
     other-withSession i g f = other-session i g f (ltb i k) refl
@@ -193,7 +195,7 @@ module _ (t : List ℕ) (e : sized t ≡ true) where
         → (i : ℕ) → 1 ≤ i → i ≤ sessionsOf t → (b : Bool) → eqb i k ≡ b
         → SessionRecord.wellFormed (sessionsOf t) (itemsOf t) (session (withSession t k s) i) ≡ true
     session-kept w f i g m true q =
-        rw (eqb-true i k q, session-withSession (held-fits (sessionsOf t) (itemsOf t) s (sized-facts t e .most-items) f)) f
+        rw (eqb-true i k q, session-withSession (held-fits (sessionsOf t) (itemsOf t) s (sized-facts t e .max-items) f)) f
     session-kept w f i g m false q = rw (other-withSession i g (eqb-false i k q)) (well-formed-session t w i g m)
 
     pub wellFormed-withSession : wellFormed t ≡ true → SessionRecord.wellFormed (sessionsOf t) (itemsOf t) s ≡ true → wellFormed (withSession t k s) ≡ true
@@ -203,25 +205,25 @@ module _ (t : List ℕ) (e : sized t ≡ true) where
         (λ x g m. rw (sessionsOf-withSession, item-withSession x) (well-formed-item t w x g (rw (itemsOf-withSession) at m)))
 
   -- the table with the record of item x replaced
-  module _ (x : ℕ) (l : 1 ≤ x) (h : x ≤ itemsOf t) (i : Item) (q : length (i .queue) ≡ 64) where
+  module _ (x : ℕ) (l : 1 ≤ x) (h : x ≤ itemsOf t) (i : Item) (q : length (i .queue) ≡ maxSessions) where
     item-written : itemPlace (sessionsOf t) x + length (ItemRecord.itemBytes i) ≤ length t
     item-written = rw (ItemLaws.length-bytes i q) (item-fits t e x l h)
 
     pub sessionsOf-withItem : sessionsOf (withItem t x i) ≡ sessionsOf t
     unfolding withItem
-    sessionsOf-withItem = sessionsOf-over t (itemPlace (sessionsOf t) x) (ItemRecord.itemBytes i) item-written (omega arith)
+    sessionsOf-withItem = sessionsOf-splice t (itemPlace (sessionsOf t) x) (ItemRecord.itemBytes i) item-written (omega arith)
 
     pub itemsOf-withItem : itemsOf (withItem t x i) ≡ itemsOf t
     unfolding withItem
-    itemsOf-withItem = itemsOf-over t (itemPlace (sessionsOf t) x) (ItemRecord.itemBytes i) item-written (omega arith)
+    itemsOf-withItem = itemsOf-splice t (itemPlace (sessionsOf t) x) (ItemRecord.itemBytes i) item-written (omega arith)
 
     pub length-withItem : length (withItem t x i) ≡ length t
     unfolding withItem
-    length-withItem = length-over t (itemPlace (sessionsOf t) x) (ItemRecord.itemBytes i) item-written
+    length-withItem = length-splice t (itemPlace (sessionsOf t) x) (ItemRecord.itemBytes i) item-written
 
     pub sized-withItem : sized (withItem t x i) ≡ true
     unfolding withItem
-    sized-withItem = sized-over t (itemPlace (sessionsOf t) x) (ItemRecord.itemBytes i) item-written (omega arith) ∙ e
+    sized-withItem = sized-splice t (itemPlace (sessionsOf t) x) (ItemRecord.itemBytes i) item-written (omega arith) ∙ e
 
     -- an item of the new table is read at its place in the old one
     item-at : (y : ℕ) → item (withItem t x i) y ≡ ItemRecord.itemAt (withItem t x i) (itemPlace (sessionsOf t) y)
@@ -248,7 +250,7 @@ module _ (t : List ℕ) (e : sized t ≡ true) where
     pub session-withItem : (k : ℕ) → 1 ≤ k → k ≤ sessionsOf t → session (withItem t x i) k ≡ session t k
     unfolding withItem session
     session-withItem k g m =
-        SessionLaws.sessionAt-over-before t (itemPlace (sessionsOf t) x) (ItemRecord.itemBytes i) item-written (sessionPlace k) (omega arith)
+        SessionLaws.sessionAt-splice-before t (itemPlace (sessionsOf t) x) (ItemRecord.itemBytes i) item-written (sessionPlace k) (omega arith)
 
     item-kept : wellFormed t ≡ true → ItemRecord.wellFormed (sessionsOf t) i ≡ true
         → (y : ℕ) → 1 ≤ y → y ≤ itemsOf t → (b : Bool) → eqb y x ≡ b → ItemRecord.wellFormed (sessionsOf t) (item (withItem t x i) y) ≡ true

@@ -1,4 +1,2 @@
-pub mod ListLaws
-pub mod FormLaws
 pub mod Laws
 pub mod StartLaws

@@ -11,15 +11,16 @@ use lib.Dec.{eqb, leb, leb·zero}
 use lib.ListN.{length, take, drop, set, replicate, length-append, length-replicate, replicate-append-replicate, take-append-drop}
 use lib.Pow.{pow-pos}
 use lib.Seq.{set-at, take-append-seam, drop-append-add, drop-drop, drop-at}
-use Rattle.buffer.specs.Bytes.{part, over}
-use Rattle.buffer.specs.Lists.{member, distinct, all}
+use Rattle.buffer.specs.Bytes.{slice, splice}
+use Rattle.lists.specs.Lists.{member, distinct, all}
+use Rattle.lists.proofs.Laws.{all-drop, all-replicate, all-take}
+use Rattle.message.specs.Limits.{maxSessions, maxItems}
 use Rattle.session.specs.Record as SessionRecord
 use Rattle.session.specs.Stage
 use Rattle.session.proofs.Laws as SessionLaws
 use Rattle.item.specs.Record as ItemRecord
 use Rattle.item.proofs.Laws as ItemLaws
-use Rattle.table.specs.Layout.{most, header, sessionPlace, itemPlace, size, sessionsOf, itemsOf, sized, session, item, wellFormed, repeated, started}
-use Rattle.table.proofs.ListLaws.{all-take, all-drop, all-replicate}
+use Rattle.table.specs.Layout.{header, sessionPlace, itemPlace, size, sessionsOf, itemsOf, sized, session, item, wellFormed, repeated, started}
 use Rattle.table.proofs.Laws.{well-formed-intro}
 
 module _ (l : List ℕ) where
@@ -37,12 +38,12 @@ module _ (l : List ℕ) where
   repeated-more n = rw (add-one n) (repeated-suc n)
 
   -- what stands behind k of n records
-  part-repeated : (r : List ℕ) (k n : ℕ) → k < n → part (repeated n l ++ r) (length l * k) (length l) ≡ l
+  slice-repeated : (r : List ℕ) (k n : ℕ) → k < n → slice (repeated n l ++ r) (length l * k) (length l) ≡ l
   unfolding repeated
-  part-repeated r k zero h = absurd (omega arith)
-  part-repeated r zero (suc n) h = rw (mul-zero, append-assoc l (repeated n l) r) (take-append-seam l (repeated n l ++ r))
-  part-repeated r (suc k) (suc n) h =
-      rw (mul-suc, add-comm (length l * k) (length l), append-assoc l (repeated n l) r, drop-append-add l (repeated n l ++ r) (length l * k)) (part-repeated r k n (omega arith))
+  slice-repeated r k zero h = absurd (omega arith)
+  slice-repeated r zero (suc n) h = rw (mul-zero, append-assoc l (repeated n l) r) (take-append-seam l (repeated n l ++ r))
+  slice-repeated r (suc k) (suc n) h =
+      rw (mul-suc, add-comm (length l * k) (length l), append-assoc l (repeated n l) r, drop-append-add l (repeated n l ++ r) (length l * k)) (slice-repeated r k n (omega arith))
 
 repeated-zeros : (k n : ℕ) → repeated n (replicate k 0) ≡ replicate (k * n) 0
 unfolding repeated
@@ -77,9 +78,9 @@ module _ (S M : ℕ) where
   begun-more k h =
       let R = repeated k fresh in
       let z = SessionRecord.size * (S - (k + 1)) + ItemRecord.size * M in
-      let e : SessionRecord.size * (S - k) + ItemRecord.size * M ≡ suc (73 + z) = omega arith in
+      let e : SessionRecord.size * (S - k) + ItemRecord.size * M ≡ suc (SessionRecord.size - 1 + z) = omega arith in
       let len : length (S ∷ M ∷ R) ≡ header + SessionRecord.size * k = omega (arith, length-repeated fresh k) in
-      rw (e, repeated-more fresh k, append-assoc, ← replicate-append-replicate {A = ℕ} 73 z 0) (set-at (S ∷ M ∷ R) 0 (replicate 73 0 ++ replicate z 0) 1 (header + SessionRecord.size * k) len)
+      rw (e, repeated-more fresh k, append-assoc, ← replicate-append-replicate {A = ℕ} (SessionRecord.size - 1) z 0) (set-at (S ∷ M ∷ R) 0 (replicate (SessionRecord.size - 1) 0 ++ replicate z 0) 1 (header + SessionRecord.size * k) len)
 
   pub begun-all : begun S M S ≡ started S M
   unfolding started
@@ -88,9 +89,9 @@ module _ (S M : ℕ) where
       rw (e, ← repeated-zeros ItemRecord.size M) refl
 
 -- writing what stands there already changes nothing
-over-same : (t : List ℕ) (at : ℕ) (l : List ℕ) → part t at (length l) ≡ l → over t at l ≡ t
-unfolding over
-over-same t at l e =
+splice-same : (t : List ℕ) (at : ℕ) (l : List ℕ) → slice t at (length l) ≡ l → splice t at l ≡ t
+unfolding splice
+splice-same t at l e =
     let n = length l in
     let back : l ++ drop (at + n) t ≡ drop at t =
     ap (λ (r : List ℕ). l ++ r) (sym (drop-drop n at t)) ∙ ap (λ (r : List ℕ). r ++ drop n (drop at t)) (sym e) ∙ take-append-drop n (drop at t) in
@@ -108,32 +109,32 @@ module _ (S M : ℕ) where
   pub length-started : length (started S M) ≡ size S M
   length-started = sym (ap length (begun-all S M)) ∙ length-begun S M S (omega arith)
 
-  pub sized-started : 1 ≤ S → S ≤ most → 1 ≤ M → M ≤ most → sized (started S M) ≡ true
+  pub sized-started : 1 ≤ S → S ≤ maxSessions → 1 ≤ M → M ≤ maxItems → sized (started S M) ≡ true
   unfolding sized
   sized-started a b c d =
-      rw (sessionsOf-started, itemsOf-started, le-leb 1 S a, le-leb S most b, le-leb 1 M c, le-leb M most d, eq-eqb (length (started S M)) (size S M) length-started) refl
+      rw (sessionsOf-started, itemsOf-started, le-leb 1 S a, le-leb S maxSessions b, le-leb 1 M c, le-leb M maxItems d, eq-eqb (length (started S M)) (size S M) length-started) refl
 
   behind : (n : ℕ) → drop (header + n) (started S M) ≡ drop n (repeated S fresh ++ repeated M free)
   unfolding started
   behind n = sym (drop-drop n header (started S M))
 
-  session-part : (k : ℕ) → 1 ≤ k → k ≤ S → part (started S M) (sessionPlace k) SessionRecord.size ≡ fresh
-  session-part k l h =
-      ap (take SessionRecord.size) (behind (SessionRecord.size * (k - 1))) ∙ part-repeated fresh (repeated M free) (k - 1) S (omega arith)
+  session-slice : (k : ℕ) → 1 ≤ k → k ≤ S → slice (started S M) (sessionPlace k) SessionRecord.size ≡ fresh
+  session-slice k l h =
+      ap (take SessionRecord.size) (behind (SessionRecord.size * (k - 1))) ∙ slice-repeated fresh (repeated M free) (k - 1) S (omega arith)
 
-  item-part : (x : ℕ) → 1 ≤ x → x ≤ M → part (started S M) (itemPlace S x) ItemRecord.size ≡ free
-  item-part x l h =
+  item-slice : (x : ℕ) → 1 ≤ x → x ≤ M → slice (started S M) (itemPlace S x) ItemRecord.size ≡ free
+  item-slice x l h =
       let sessions : drop (header + SessionRecord.size * S) (started S M) ≡ repeated M free ++ [] =
       behind (SessionRecord.size * S) ∙ drop-at (repeated S fresh) (repeated M free) (SessionRecord.size * S) (length-repeated fresh S) ∙ sym (append-nil (repeated M free)) in
       ap (take ItemRecord.size) (sym (drop-drop (ItemRecord.size * (x - 1)) (header + SessionRecord.size * S) (started S M)) ∙ ap (drop (ItemRecord.size * (x - 1))) sessions)
-      ∙ part-repeated free [] (x - 1) M (omega arith)
+      ∙ slice-repeated free [] (x - 1) M (omega arith)
 
   pub session-started : (k : ℕ) → 1 ≤ k → k ≤ S → session (started S M) k ≡ SessionRecord.fresh
   unfolding session
   session-started k l h =
       let t = started S M in
       let at = sessionPlace k in
-      ap (λ (r : List ℕ). SessionRecord.sessionAt r at) (sym (over-same t at fresh (session-part k l h)))
+      ap (λ (r : List ℕ). SessionRecord.sessionAt r at) (sym (splice-same t at fresh (session-slice k l h)))
       ∙ SessionLaws.load-store t at SessionRecord.fresh (omega (arith, length-started)) refl (omega arith)
 
   pub item-started : (x : ℕ) → 1 ≤ x → x ≤ M → item (started S M) x ≡ ItemRecord.packed ItemRecord.free
@@ -142,7 +143,7 @@ module _ (S M : ℕ) where
       let t = started S M in
       let at = itemPlace S x in
       rw (sessionsOf-started) (
-      ap (λ (r : List ℕ). ItemRecord.itemAt r at) (sym (over-same t at free (item-part x l h)))
+      ap (λ (r : List ℕ). ItemRecord.itemAt r at) (sym (splice-same t at free (item-slice x l h)))
       ∙ ItemLaws.load-store t at (ItemRecord.packed ItemRecord.free) refl (omega (arith, length-started)))
 
   fresh-in-form : SessionRecord.wellFormed S M SessionRecord.fresh ≡ true
@@ -150,13 +151,13 @@ module _ (S M : ℕ) where
   fresh-in-form =
       rw (
         lt-ltb 0 (2 ^ M) (pow-pos M),
-        all-take (λ j. leb j S) S (replicate 64 0) (all-replicate (λ j. leb j S) 64 0 (leb·zero S)),
-        all-drop (λ j. eqb j 0) S (replicate 64 0) (all-replicate (λ j. eqb j 0) 64 0 refl),
+        all-take (λ j. leb j S) S (replicate maxSessions 0) (all-replicate (λ j. leb j S) maxSessions 0 (leb·zero S)),
+        all-drop (λ j. eqb j 0) S (replicate maxSessions 0) (all-replicate (λ j. eqb j 0) maxSessions 0 refl),
       ) refl
 
   free-in-form : ItemRecord.wellFormed S (ItemRecord.packed ItemRecord.free) ≡ true
   unfolding ItemRecord.wellFormed all distinct member
-  free-in-form = rw (leb·zero S) (all-replicate (λ b. eqb b 0) 64 0 refl)
+  free-in-form = rw (leb·zero S) (all-replicate (λ b. eqb b 0) maxSessions 0 refl)
 
   pub wellFormed-started : wellFormed (started S M) ≡ true
   wellFormed-started =

@@ -1,31 +1,36 @@
--- The bytes of the table: S, M, then the session records, then the item records.
-use Prim.Native.Nat.{ℕ, zero, suc, _+_, _-_, _*_}
-use mathlib.Core.Bool.{Bool, _&&_}
+-- The bytes of the table: S, M, then the session records, then the item records. RULES is docs/RULES.md.
+use Prim.Native.Nat.{ℕ, zero, suc, _+_, _-_, _*_, _≤_}
+use mathlib.Core.Path.{_≡_}
+use mathlib.Core.Bool.{Bool, true, _&&_}
 use mathlib.Core.List.{List, [], _∷_, _++_}
 use lib.Dec.{eqb}
 use lib.ListN.{length, getD}
-use Rattle.buffer.specs.Lists.{between, every}
+use Rattle.lists.specs.Lists.{between, every}
+use Rattle.message.specs.Limits.{maxSessions, maxItems}
 use Rattle.session.specs.declared.Session.{Session}
 use Rattle.session.specs.Record as Session
 use Rattle.item.specs.declared.Item.{Item}
 use Rattle.item.specs.Record as Item
 
--- S and M are 1 to 64
-abbrev pub most : ℕ
-most = 64
-
 abbrev pub header : ℕ
 header = 2
 
--- where the record of session t stands, t from 1; that of item x
+-- where the record of session t stands, t from 1
 abbrev pub sessionPlace : ℕ → ℕ
 sessionPlace t = header + Session.size * (t - 1)
 
+-- where the item records begin; that of item x, x from 1; and where they end
+abbrev pub itemsStart : ℕ → ℕ
+itemsStart S = header + Session.size * S
+
 abbrev pub itemPlace : ℕ → ℕ → ℕ
-itemPlace S x = header + Session.size * S + Item.size * (x - 1)
+itemPlace S x = itemsStart S + Item.size * (x - 1)
+
+abbrev pub itemsEnd : ℕ → ℕ → ℕ
+itemsEnd S M = itemsStart S + Item.size * M
 
 abbrev pub size : ℕ → ℕ → ℕ
-size S M = header + Session.size * S + Item.size * M
+size S M = itemsEnd S M
 
 -- S and M
 abbrev pub sessionsOf : List ℕ → ℕ
@@ -36,7 +41,7 @@ itemsOf t = getD t 1 0
 
 -- S and M are within bounds, and the length is that of S and M
 unfoldable pub sized : List ℕ → Bool
-sized t = between 1 most (sessionsOf t) && between 1 most (itemsOf t) && eqb (length t) (size (sessionsOf t) (itemsOf t))
+sized t = between 1 maxSessions (sessionsOf t) && between 1 maxItems (itemsOf t) && eqb (length t) (size (sessionsOf t) (itemsOf t))
 
 -- the record of a session, and the table with it replaced
 unfoldable pub session : List ℕ → ℕ → Session
@@ -52,17 +57,34 @@ item t x = Item.itemAt t (itemPlace (sessionsOf t) x)
 unfoldable pub withItem : List ℕ → ℕ → Item → List ℕ
 withItem t x i = Item.putItem t (itemPlace (sessionsOf t) x) i
 
--- the table is in form when every record is
+-- the table is well-formed when every record is: RULES 2.7
 unfoldable pub wellFormed : List ℕ → Bool
 wellFormed t =
     every (sessionsOf t) (λ k. Session.wellFormed (sessionsOf t) (itemsOf t) (session t k))
     && every (itemsOf t) (λ x. Item.wellFormed (sessionsOf t) (item t x))
+
+-- what the code that reads and replaces records asks of a table: session k is one of its sessions
+pub record HasSession (t : List ℕ) (k : ℕ) : Type 0 where
+  pub sized : sized t ≡ true
+  pub low : 1 ≤ k
+  pub high : k ≤ sessionsOf t
+
+-- item x is one of its items
+pub record HasItem (t : List ℕ) (x : ℕ) : Type 0 where
+  pub sized : sized t ≡ true
+  pub low : 1 ≤ x
+  pub high : x ≤ itemsOf t
+
+-- what the code that follows the waits asks of a table
+pub record Formed (t : List ℕ) : Type 0 where
+  pub sized : sized t ≡ true
+  pub formed : wellFormed t ≡ true
 
 -- the bytes of a number of records, one after another
 unfoldable pub repeated : ℕ → List ℕ → List ℕ
 repeated zero l = []
 repeated (suc n) l = l ++ repeated n l
 
--- S and M, every session at stage 1, all else zero
+-- what start writes: RULES 4.3
 unfoldable pub started : ℕ → ℕ → List ℕ
 started S M = S ∷ M ∷ (repeated S (Session.sessionBytes Session.fresh) ++ repeated M (Item.itemBytes (Item.packed Item.free)))

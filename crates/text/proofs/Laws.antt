@@ -1,6 +1,6 @@
 -- Laws of numbers as text.
 use mathlib.Core.Path.{_≡_, refl, sym, ap, _∙_}
-use mathlib.Core.Bool.{Bool, true, false, cond}
+use mathlib.Core.Bool.{Bool, true, false}
 use mathlib.Core.List.{List, [], _∷_, _++_, append-assoc, append-nil}
 use Prim.Native.Nat.{ℕ, zero, suc, _+_, _-_, _/_, _%_, _^_, _≤_, _<_, zero-le}
 use native.Mathlib.Nat.{add-zero, pow-suc}
@@ -10,30 +10,27 @@ use lib.Dec.{ltb}
 use native.Mathlib.Numerals.{add-one}
 use lib.ListN.{length, getD, take, set, drop, length-append, take-append-drop}
 use lib.Seq.{take-suc}
-use Rattle.buffer.specs.Bytes.{over}
-use Rattle.buffer.proofs.Laws.{set-over, length-over, over-over}
+use Rattle.lists.proofs.Tests.{cond-agrees}
+use Rattle.buffer.specs.Bytes.{splice}
+use Rattle.buffer.proofs.Laws.{set-splice, length-splice, splice-splice}
 use Rattle.text.specs.Text.{digit, space, lineFeed, digits, decimal, spaced, rest}
 
 -- a run of bytes written, then a second right behind it
-pub over-then : {x y : List ℕ} {r : ℕ} (t : List ℕ) (at : ℕ) (a b : List ℕ)
-    → at + length a ≤ length t → x ≡ over t at a → r ≡ at + length a → y ≡ over x r b → y ≡ over t at (a ++ b)
-over-then t at a b h e p f = f ∙ rw (e, p) (over-over t at a h b)
+pub splice-then : {x y : List ℕ} {r : ℕ} (t : List ℕ) (at : ℕ) (a b : List ℕ)
+    → at + length a ≤ length t → x ≡ splice t at a → r ≡ at + length a → y ≡ splice x r b → y ≡ splice t at (a ++ b)
+splice-then t at a b h e p f = f ∙ rw (e, p) (splice-splice t at a h b)
 
 -- one byte more
 pub set-then : {x : List ℕ} {r : ℕ} (t : List ℕ) (at : ℕ) (a : List ℕ) (b : ℕ)
-    → at + length a < length t → x ≡ over t at a → r ≡ at + length a → set x r b ≡ over t at (a ++ (b ∷ []))
+    → at + length a < length t → x ≡ splice t at a → r ≡ at + length a → set x r b ≡ splice t at (a ++ (b ∷ []))
 set-then {x} {r} t at a b h e p =
-    let len = ap length e ∙ length-over t at a (omega arith) in
-    over-then t at a (b ∷ []) (omega arith) e p (set-over x r b (omega arith))
+    let len = ap length e ∙ length-splice t at a (omega arith) in
+    splice-then t at a (b ∷ []) (omega arith) e p (set-splice x r b (omega arith))
 
 -- no bytes
-pub over-none : (t : List ℕ) (at : ℕ) → over t at [] ≡ t
-unfolding over
-over-none t at = rw (add-zero at) (take-append-drop at t)
-
-cond-cong : {A : Type 0} (b : Bool) (x y z : A) → (b ≡ false → y ≡ z) → cond b x y ≡ cond b x z
-cond-cong true x y z h = refl
-cond-cong false x y z h = h refl
+pub splice-none : (t : List ℕ) (at : ℕ) → splice t at [] ≡ t
+unfolding splice
+splice-none t at = rw (add-zero at) (take-append-drop at t)
 
 -- room for more digits than there are changes nothing
 digits-room : (k j n : ℕ) → n < k → n < j → digits k n ≡ digits j n
@@ -41,7 +38,7 @@ unfolding digits
 digits-room zero j n h g = absurd (omega arith)
 digits-room (suc k) zero n h g = absurd (omega arith)
 digits-room (suc k) (suc j) n h g =
-    cond-cong (ltb n 10) (digit n ∷ []) (digits k (n / 10) ++ (digit (n % 10) ∷ [])) (digits j (n / 10) ++ (digit (n % 10) ∷ []))
+    cond-agrees (λ (l : List ℕ). l) (ltb n 10) (ltb n 10) refl (λ _. refl)
     (λ e. ap (λ (l : List ℕ). l ++ (digit (n % 10) ∷ [])) (digits-room k j (n / 10) (omega (arith, ltb-false n 10 e)) (omega (arith, ltb-false n 10 e))))
 
 -- a number of one digit, and one of more
@@ -96,14 +93,14 @@ module _ (l : List ℕ) (i : ℕ) where
 
   -- a space and the next number are written behind those before it
   pub spaced-put : {x y : List ℕ} {n r : ℕ} (t : List ℕ) (at : ℕ) → i < length l → at + length (spaced l) ≤ length t
-      → x ≡ over t at (spaced (take i l)) → n ≡ at + length (spaced (take i l)) → y ≡ over (set x n space) (n + 1) (decimal (getD l i 0))
-      → r ≡ n + 1 + length (decimal (getD l i 0)) → (y ≡ over t at (spaced (take (i + 1) l))) × (r ≡ at + length (spaced (take (i + 1) l)))
+      → x ≡ splice t at (spaced (take i l)) → n ≡ at + length (spaced (take i l)) → y ≡ splice (set x n space) (n + 1) (decimal (getD l i 0))
+      → r ≡ n + 1 + length (decimal (getD l i 0)) → (y ≡ splice t at (spaced (take (i + 1) l))) × (r ≡ at + length (spaced (take (i + 1) l)))
   spaced-put {n = n} t at h room e p f q =
       let d = decimal (getD l i 0) in
       let w = spaced (take i l) in
       let fits : at + length w + (1 + length d) ≤ length t = omega (arith, spaced-room h) in (
-        over-then t at (w ++ (space ∷ [])) d (rw (length-append w (space ∷ [])) (omega arith)) (set-then t at w space (omega arith) e p) (rw (length-append w (space ∷ [])) (omega arith)) f
-            ∙ ap (over t at) (append-assoc w (space ∷ []) d ∙ sym (spaced-step h)),
+        splice-then t at (w ++ (space ∷ [])) d (rw (length-append w (space ∷ [])) (omega arith)) (set-then t at w space (omega arith) e p) (rw (length-append w (space ∷ [])) (omega arith)) f
+            ∙ ap (splice t at) (append-assoc w (space ∷ []) d ∙ sym (spaced-step h)),
         omega (arith, length-step h),
       )
 

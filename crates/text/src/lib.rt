@@ -2,13 +2,13 @@
 ghost use mathlib.Core.Path.{_≡_};
 ghost use Prim.Native.Nat.{_+_, _≤_};
 ghost use lib.ListN.{length};
-ghost use Rattle.buffer.specs.Bytes.{over};
+ghost use Rattle.buffer.specs.Bytes.{splice};
 ghost use Rattle.text.specs.Text.{decimal, spaced, rest};
 
 // Writes v in decimal.
 pub fn put_decimal(out: &mut [u8], at: usize, v: u64) -> usize
     requires { ⌜ at + length (decimal v) ≤ length (now out) ⌝ }
-    ensures { λ r. ⌜ (now (out .exit) ≡ over (now (out .entry)) at (decimal v)) × (r ≡ at + length (decimal v)) ⌝ }
+    ensures { λ r. ⌜ (now (out .exit) ≡ splice (now (out .entry)) at (decimal v)) × (r ≡ at + length (decimal v)) ⌝ }
 {
     if v < 10 {
         out[at] = b'0' + v as u8;
@@ -22,7 +22,7 @@ pub fn put_decimal(out: &mut [u8], at: usize, v: u64) -> usize
 // Writes bytes as they are.
 pub fn put_bytes(out: &mut [u8], at: usize, bytes: &[u8]) -> usize
     requires { ⌜ at + length (now bytes) ≤ length (now out) ⌝ }
-    ensures { λ r. ⌜ (now (out .exit) ≡ over (now (out .entry)) at (now (bytes .entry))) × (r ≡ at + length (now (bytes .entry))) ⌝ }
+    ensures { λ r. ⌜ (now (out .exit) ≡ splice (now (out .entry)) at (now (bytes .entry))) × (r ≡ at + length (now (bytes .entry))) ⌝ }
 {
     let mut i: usize = 0;
     while i < bytes.len() {
@@ -35,7 +35,7 @@ pub fn put_bytes(out: &mut [u8], at: usize, bytes: &[u8]) -> usize
 // Writes a space before each number.
 fn put_spaced(out: &mut [u8], at: usize, numbers: &[u64]) -> usize
     requires { ⌜ at + length (spaced (now numbers)) ≤ length (now out) ⌝ }
-    ensures { λ r. ⌜ (now (out .exit) ≡ over (now (out .entry)) at (spaced (now (numbers .entry)))) × (r ≡ at + length (spaced (now (numbers .entry)))) ⌝ }
+    ensures { λ r. ⌜ (now (out .exit) ≡ splice (now (out .entry)) at (spaced (now (numbers .entry)))) × (r ≡ at + length (spaced (now (numbers .entry)))) ⌝ }
 {
     let mut next = at;
     let mut i: usize = 0;
@@ -50,7 +50,7 @@ fn put_spaced(out: &mut [u8], at: usize, numbers: &[u64]) -> usize
 // Writes the rest of a line: a space before each number, then a line feed.
 pub fn end_line(out: &mut [u8], at: usize, numbers: &[u64]) -> usize
     requires { ⌜ at + length (rest (now numbers)) ≤ length (now out) ⌝ }
-    ensures { λ r. ⌜ (now (out .exit) ≡ over (now (out .entry)) at (rest (now (numbers .entry)))) × (r ≡ at + length (rest (now (numbers .entry)))) ⌝ }
+    ensures { λ r. ⌜ (now (out .exit) ≡ splice (now (out .entry)) at (rest (now (numbers .entry)))) × (r ≡ at + length (rest (now (numbers .entry)))) ⌝ }
 {
     let next = put_spaced(out, at, numbers);
     out[next] = b'\n';

@@ -8,10 +8,10 @@ use Rattle.mailbox.specs.Layout as Mail
 use Rattle.lockmgr.specs.declared.Answer.{Answer}
 use Rattle.lockmgr.specs.Calls.{step}
 use Rattle.lockmgr.specs.Run as Run
-use Rattle.lockmgr.specs.Run.{run, counted}
+use Rattle.lockmgr.specs.Run.{run, performed, after, steps, tallied, counted}
 use Rattle.text.specs.Text.{decimal, spaced, rest}
 use Rattle.text.proofs.Laws.{length-decimal, length-rest, spaced-none, spaced-longer}
-use Rattle.transcript.specs.Transcript.{stepLine, stepLines, endLine, printed}
+use Rattle.transcript.specs.Transcript.{stepLine, stepLines, endLine, printed, longestLine}
 
 -- a byte has at most three digits
 bytes-longer : (n : ℕ) (l : List ℕ) (m : ℕ) → n < 256 → length (spaced l) ≤ m → length (spaced (n ∷ l)) ≤ 4 + m
@@ -28,7 +28,7 @@ module _ (index : ℕ) (c : Run.Step) (a : Answer) (few : index < 10000) where
         bytes-longer (c .verb) _ 28 v (bytes-longer (c .session) _ 24 t (bytes-longer (c .item) _ 20 x (bytes-longer (a .refusal) _ 16 r
         (bytes-longer (a .sent) _ 12 s (bytes-longer (a .closed) _ 8 k (bytes-longer (a .victim) _ 4 b (bytes-longer (a .initiator) [] 0 i spaced-none)))))))
 
-    pub step-short : length (decimal index) + length (rest (numbers c a)) ≤ 37
+    pub step-short : length (decimal index) + length (rest (numbers c a)) ≤ longestLine
     step-short = omega (arith, length-decimal 3 index few, length-rest (numbers c a), numbers-short)
 
 module _ (left : ℕ) (y : Run.Tally) (l : left < 100000) (k : y .closed < 10000) (d : y .declared < 10000) (r : y .rolledBack < 10000) where
@@ -43,14 +43,14 @@ abbrev pub ahead : ℕ → List ℕ → List ℕ → Run.Tally → List Run.Step
 ahead index table mail y l = printed index l (run table mail y l)
 
 pub ahead-none : (index : ℕ) (table mail : List ℕ) (y : Run.Tally) → ahead index table mail y [] ≡ endLine (Mail.countOf mail) y
-unfolding printed run stepLines
+unfolding printed run after steps tallied stepLines
 ahead-none index table mail y = refl
 
 pub ahead-step : (index : ℕ) (table mail : List ℕ) (y : Run.Tally) (c : Run.Step) (l : List Run.Step)
     → let r = step (c .verb) (c .session) (c .item) table mail in
-    ahead index table mail y (c ∷ l) ≡ stepLine index c (r .answer) ++ ahead (suc index) (r .table) (r .mail) (counted c table r y) l
-unfolding printed run stepLines
+    ahead index table mail y (c ∷ l) ≡ stepLine index c (r .answer) ++ ahead (suc index) (r .table) (r .mail) (counted (c .session) table r y) l
+unfolding printed run after steps performed tallied stepLines
 ahead-step index table mail y c l =
     let r = step (c .verb) (c .session) (c .item) table mail in
-    let b = run (r .table) (r .mail) (counted c table r y) l in
+    let b = run (r .table) (r .mail) (counted (c .session) table r y) l in
     append-assoc (stepLine index c (r .answer)) (stepLines (suc index) l (b .answers)) (endLine (Mail.countOf (b .mail)) (b .tally))

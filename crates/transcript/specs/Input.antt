@@ -4,8 +4,9 @@ use mathlib.Core.Bool.{Bool, _&&_}
 use mathlib.Core.List.{List}
 use lib.Dec.{eqb, leb}
 use lib.ListN.{length, getD}
-use Rattle.buffer.specs.Bytes.{part, fromBytes}
-use Rattle.buffer.specs.Lists.{between, tabulate}
+use Rattle.buffer.specs.Bytes.{slice, fromBytes}
+use Rattle.lists.specs.Lists.{between, tabulate}
+use Rattle.message.specs.Limits.{maxSessions, maxItems}
 use Rattle.table.specs.Layout as Table
 use Rattle.lockmgr.specs.Run as Run
 
@@ -16,11 +17,11 @@ abbrev pub itemsIn : List ℕ → ℕ
 itemsIn input = getD input 1 0
 
 abbrev pub countIn : List ℕ → ℕ
-countIn input = fromBytes (part input 2 2)
+countIn input = fromBytes (slice input 2 2)
 
 -- n is 0 to 4,096
-abbrev pub mostSteps : ℕ
-mostSteps = 4096
+abbrev pub maxSteps : ℕ
+maxSteps = 4096
 
 abbrev pub header : ℕ
 header = 4
@@ -31,7 +32,7 @@ size n = header + 3 * n
 -- S, M and n are within bounds, and the length is that of n
 unfoldable pub wellFormed : List ℕ → Bool
 wellFormed input =
-    between 1 Table.most (sessionsIn input) && between 1 Table.most (itemsIn input) && leb (countIn input) mostSteps
+    between 1 maxSessions (sessionsIn input) && between 1 maxItems (itemsIn input) && leb (countIn input) maxSteps
     && eqb (length input) (size (countIn input))
 
 -- where the verb of step k stands, and its pair, k from 0

@@ -2,15 +2,17 @@
 use Prim.Native.Nat.{ℕ, suc, _+_, _*_}
 use mathlib.Core.Bool.{cond}
 use mathlib.Core.List.{List, [], _∷_, _++_}
-use lib.ListN.{replicate}
+use lib.Dec.{leb}
+use lib.ListN.{length, replicate}
+use Rattle.buffer.specs.Bytes.{splice}
 use Rattle.mailbox.specs.Layout as Mail
 use Rattle.table.specs.Layout as Table
 use Rattle.lockmgr.specs.declared.Answer.{Answer}
-use Rattle.lockmgr.specs.Calls.{Started, start}
+use Rattle.lockmgr.specs.Calls.{Started, config, start}
 use Rattle.lockmgr.specs.Run as Run
 use Rattle.lockmgr.specs.Run.{Ran, run}
 use Rattle.text.specs.Text.{lineFeed, decimal, rest}
-use Rattle.transcript.specs.Input.{sessionsIn, itemsIn, mostSteps, wellFormed, stepsIn}
+use Rattle.transcript.specs.Input.{sessionsIn, itemsIn, maxSteps, wellFormed, stepsIn}
 
 -- `bad` alone
 abbrev pub bad : List ℕ
@@ -18,16 +20,16 @@ bad = 98 ∷ 97 ∷ 100 ∷ lineFeed ∷ []
 
 -- C
 abbrev pub capacity : ℕ
-capacity = 4096
+capacity = Mail.maxCapacity
 
 -- a lock manager that starts, in buffers of the sizes that S, M and C ask for
-unfoldable pub opened : ℕ → ℕ → Started
-opened S M = start S M capacity (replicate (Table.size S M) 0) (replicate (Mail.size capacity) 0)
+unfoldable pub replayStart : ℕ → ℕ → Started
+replayStart S M = start (config S M capacity) (replicate (Table.size S M) 0) (replicate (Mail.size capacity) 0)
 
 -- the steps of an input, done in their order
 unfoldable pub replayed : List ℕ → Ran
 replayed input =
-    let o = opened (sessionsIn input) (itemsIn input) in run (o .table) (o .mail) Run.zeros (stepsIn input)
+    let o = replayStart (sessionsIn input) (itemsIn input) in run (o .table) (o .mail) Run.zeros (stepsIn input)
 
 -- per step: index from 1, verb, session, item, refusal, sent, closed, victim, initiator
 unfoldable pub stepLine : ℕ → Run.Step → Answer → List ℕ
@@ -57,8 +59,21 @@ transcript input = cond (wellFormed input) (printed 1 (stepsIn input) (replayed 
 
 -- an index of four digits, eight numbers of three digits and a space, and the line feed: no line is longer
 abbrev pub longestLine : ℕ
-longestLine = 37
+longestLine = 4 + 8 * 4 + 1
 
 -- a line for each step, and the last one
 abbrev pub longest : ℕ
-longest = longestLine * (mostSteps + 1)
+longest = longestLine * (maxSteps + 1)
+
+-- what `write` answers, and its buffer after
+pub record Written : Type 0 where
+  pub answer : ℕ
+  pub out : List ℕ
+
+abbrev pub written : ℕ → List ℕ → Written
+written answer out = record { answer = answer; out = out }
+
+-- the output at the start of the buffer, and its length; a buffer with no room for the longest output stays as it was, and the answer is 0
+unfoldable pub write : List ℕ → List ℕ → Written
+write input out =
+    cond (leb longest (length out)) (written (length (transcript input)) (splice out 0 (transcript input))) (written 0 out)

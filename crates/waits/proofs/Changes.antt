@@ -5,9 +5,10 @@ use mathlib.Core.Logic.{_≢_, _⊎_, inl, inr}
 use Prim.Native.Nat.{ℕ, _+_, _≤_}
 use native.Mathlib.Omega.{arith}
 use lib.Dec.{eqb}
-use Rattle.buffer.specs.Lists.{every, count}
+use Rattle.lists.specs.Lists.{every, count}
+use Rattle.lists.proofs.Tests.{fails, tests-agree}
+use Rattle.lists.proofs.Searches.{count-one-more, count-same, every-same, lowest-same}
 use Rattle.waits.specs.Waits.{reached, cycleLength, onCycle, leads, cycles}
-use Rattle.waits.proofs.Searches.{tests-agree, not-true-false, lowest-same, every-same, count-same, count-one-more}
 use Rattle.waits.proofs.Reached.{Graph, reached-sum, reached-same, off-cycle-length}
 use Rattle.waits.proofs.Members.{off-cycle, member-positive, member-inside, member-back, member-on-cycle, member-or-not}
 use Rattle.waits.proofs.Leaders.{Seniority, leads-on-cycle, leader-of, leader-unique}
@@ -111,7 +112,7 @@ module _
             l = reached next′ n t
 
             before : leads next S senior l ≡ false
-            before = not-true-false _ (λ f.
+            before = fails _ (λ f.
                 let lo = member-positive g′ t low on n in
                 let q = leads-on-cycle next S senior l f in
                 let r = member-back g′ t low on n in

@@ -4,24 +4,30 @@ use mathlib.Core.Bool.{Bool, true, false, cond, not, _&&_, _||_, and-false}
 use mathlib.Core.List.{List}
 use Prim.Native.Nat.{ℕ, zero, suc, _+_, _-_, _*_, _≤_, _<_, zero-le}
 use native.Mathlib.Omega.{arith}
-use borrow.Author.Tests.{eq-eqb, ne-eqb, eqb-true, eqb-false, leb-true, not-true}
-use lib.Dec.{eqb, leb, eqb·suc-zero}
-use lib.ListN.{length, getD, take, set, drop, replicate, List·getD-eq-default}
+use borrow.Author.Tests.{eq-eqb, ne-eqb, eqb-true, eqb-false, not-true}
+use lib.Dec.{eqb, eqb·suc-zero}
+use lib.ListN.{length, getD, take, set, replicate}
 use lib.Seq.{length-take-le, getD-take}
-use Rattle.buffer.specs.Lists.{between, lowest, member, distinct, all, tabulate}
-use Rattle.buffer.proofs.ListLaws.{getD-tabulate}
+use Rattle.lists.specs.Lists.{between, lowest, member, tabulate}
+use Rattle.lists.proofs.Laws.{all-getD, all-member, getD-tabulate, member-more, set-tabulate, tabulate-same}
+use Rattle.lists.proofs.Tests.{and-both, within}
+use Rattle.message.specs.Limits.{maxSessions}
+use Rattle.lists.proofs.Searches.{lowest-le, lowest-none, lowest-passes, lowest-same}
 use Rattle.item.specs.declared.Item.{Item}
-use Rattle.item.specs.Record as Item
+use Rattle.item.specs.Record as ItemRecord
 use Rattle.item.specs.Record.{Lock, unpacked}
-use Rattle.table.specs.Layout.{sessionsOf, itemsOf, sized, wellFormed, item}
+use Rattle.item.proofs.Laws.{wellFormed-packed}
+use Rattle.table.specs.Layout.{sessionsOf, itemsOf, item, Formed, HasItem}
 use Rattle.table.proofs.Laws.{sized-facts, well-formed-item, queue-length}
 use Rattle.waits.specs.Waits.{queuedAt, waitsAt, waitsFor, reached, cycleLength}
-use Rattle.waits.specs.Walk.{oneMore, fromSession, fromItem}
+use Rattle.waits.specs.Walk.{oneMore, walkFromSession, walkFromItem}
 use Rattle.waits.specs.OnTable as OnTable
+use Rattle.wellformed.specs.Records.{LockWellFormed}
+use Rattle.wellformed.proofs.Items.{unpacked-lock}
 use Rattle.waits.specs.OnTable.{locks}
-use Rattle.waits.proofs.Searches.{and-both, lowest-le, lowest-passes, lowest-none, lowest-same}
+use Rattle.waits.specs.Places.{placesAmong, WithPlaces, nextWait}
 use Rattle.waits.proofs.Reached.{reached-suc}
-use Rattle.waits.proofs.Lists.{lowest-first, tabulate-same, set-tabulate, member-more, all-getD, all-member}
+use Rattle.waits.proofs.Lists.{lowest-first}
 
 -- ---- waits
 module _ (M : ℕ) (locks : ℕ → Lock) where
@@ -50,9 +56,9 @@ module _ (M : ℕ) (locks : ℕ → Lock) where
   -- ---- the walk
   module _ (none : waitsFor M locks 0 ≡ 0) (me : ℕ) (low : 1 ≤ me) where
     -- one wait, then the walk from the session waited for
-    walk-first : (n s : ℕ) → ((r : ℕ) → fromSession (2 * n) M locks me r ≡ lowest n (λ k. eqb (reached (waitsFor M locks) k r) me))
+    walk-first : (n s : ℕ) → ((r : ℕ) → walkFromSession (2 * n) M locks me r ≡ lowest n (λ k. eqb (reached (waitsFor M locks) k r) me))
         → lowest (suc n) (λ k. eqb (reached (waitsFor M locks) k s) me)
-        ≡ cond (eqb (waitsFor M locks s) me) 1 (oneMore (fromSession (2 * n) M locks me (waitsFor M locks s)))
+        ≡ cond (eqb (waitsFor M locks s) me) 1 (oneMore (walkFromSession (2 * n) M locks me (waitsFor M locks s)))
     unfolding reached
     walk-first n s f =
         let rest = lowest-same n (λ k. eqb (reached (waitsFor M locks) (suc k) s) me) (λ k. eqb (reached (waitsFor M locks) k (waitsFor M locks s)) me) (λ k l h. ap (λ (r : ℕ). eqb r me) (reached-suc (waitsFor M locks) k s)) in
@@ -68,8 +74,8 @@ module _ (M : ℕ) (locks : ℕ → Lock) where
         after (suc k) l h = rw (reached-suc (waitsFor M locks) k s, e, reached-none none k) (ne-eqb 0 me (λ q. omega arith))
 
     walk-step : (n s : ℕ) (b : Bool) → eqb (waitsAt M locks s) 0 ≡ b
-        → ((r : ℕ) → fromSession (2 * n) M locks me r ≡ lowest n (λ k. eqb (reached (waitsFor M locks) k r) me))
-        → cond b 0 (cond (eqb (locks (waitsAt M locks s) .holder) me) 1 (oneMore (fromSession (2 * n) M locks me (locks (waitsAt M locks s) .holder))))
+        → ((r : ℕ) → walkFromSession (2 * n) M locks me r ≡ lowest n (λ k. eqb (reached (waitsFor M locks) k r) me))
+        → cond b 0 (cond (eqb (locks (waitsAt M locks s) .holder) me) 1 (oneMore (walkFromSession (2 * n) M locks me (locks (waitsAt M locks s) .holder))))
         ≡ lowest (suc n) (λ k. eqb (reached (waitsFor M locks) k s) me)
     unfolding waitsFor
     walk-step n s true e f = sym (walk-none (suc n) s (rw (e) refl))
@@ -77,8 +83,8 @@ module _ (M : ℕ) (locks : ℕ → Lock) where
         let for : waitsFor M locks s ≡ locks (waitsAt M locks s) .holder = rw (e) refl in sym (rw (for) at (walk-first n s f))
 
     -- the walk finds the least number of waits
-    pub walk : (n s : ℕ) → fromSession (2 * n) M locks me s ≡ lowest n (λ k. eqb (reached (waitsFor M locks) k s) me)
-    unfolding fromSession lowest
+    pub walk : (n s : ℕ) → walkFromSession (2 * n) M locks me s ≡ lowest n (λ k. eqb (reached (waitsFor M locks) k s) me)
+    unfolding walkFromSession lowest
     walk zero s = refl
     walk (suc n) s =
         let two : 2 * suc n ≡ suc (suc (2 * n)) = omega arith in
@@ -89,22 +95,22 @@ left : (n : ℕ) → (n ≡ 0 → ⊥) → n ≡ suc (n - 1)
 left n f = omega arith
 
 module _ (M : ℕ) (locks : ℕ → Lock) (me : ℕ) where
-  pub none-left : (s : ℕ) → fromSession 0 M locks me s ≡ 0
-  unfolding fromSession
+  pub none-left : (s : ℕ) → walkFromSession 0 M locks me s ≡ 0
+  unfolding walkFromSession
   none-left s = refl
 
-  pub none-left-item : (x : ℕ) → fromItem 0 M locks me x ≡ 0
-  unfolding fromSession
+  pub none-left-item : (x : ℕ) → walkFromItem 0 M locks me x ≡ 0
+  unfolding walkFromSession
   none-left-item x = refl
 
   module _ (n : ℕ) (f : n ≡ 0 → ⊥) where
-    pub session-step : (s : ℕ) → fromSession n M locks me s ≡ cond (eqb (waitsAt M locks s) 0) 0 (fromItem (n - 1) M locks me (waitsAt M locks s))
-    unfolding fromSession
-    session-step s = ap (λ (k : ℕ). fromSession k M locks me s) (left n f)
+    pub session-step : (s : ℕ) → walkFromSession n M locks me s ≡ cond (eqb (waitsAt M locks s) 0) 0 (walkFromItem (n - 1) M locks me (waitsAt M locks s))
+    unfolding walkFromSession
+    session-step s = ap (λ (k : ℕ). walkFromSession k M locks me s) (left n f)
 
-    pub item-step : (x : ℕ) → fromItem n M locks me x ≡ cond (eqb (locks x .holder) me) 1 (oneMore (fromSession (n - 1) M locks me (locks x .holder)))
-    unfolding fromSession
-    item-step x = ap (λ (k : ℕ). fromItem k M locks me x) (left n f)
+    pub item-step : (x : ℕ) → walkFromItem n M locks me x ≡ cond (eqb (locks x .holder) me) 1 (oneMore (walkFromSession (n - 1) M locks me (locks x .holder)))
+    unfolding walkFromSession
+    item-step x = ap (λ (k : ℕ). walkFromItem k M locks me x) (left n f)
 
 pub one-more : (r : ℕ) → (r ≡ 0 → ⊥) → oneMore r ≡ r + 1
 one-more zero f = absurd (f refl)
@@ -121,119 +127,103 @@ more-le false zero n h = zero-le
 more-le false (suc r) n h = omega arith
 
 mutual
-  unfolding fromSession
+  unfolding walkFromSession
 
-  pub session-le : (n M : ℕ) (locks : ℕ → Lock) (me s : ℕ) → fromSession n M locks me s ≤ n
+  pub session-le : (n M : ℕ) (locks : ℕ → Lock) (me s : ℕ) → walkFromSession n M locks me s ≤ n
   session-le zero M locks me s = zero-le
   session-le (suc n) M locks me s =
-      pick-le (eqb (waitsAt M locks s) 0) (fromItem n M locks me (waitsAt M locks s)) (suc n) (let h = item-le n M locks me (waitsAt M locks s) in omega arith)
+      pick-le (eqb (waitsAt M locks s) 0) (walkFromItem n M locks me (waitsAt M locks s)) (suc n) (let h = item-le n M locks me (waitsAt M locks s) in omega arith)
 
-  pub item-le : (n M : ℕ) (locks : ℕ → Lock) (me x : ℕ) → fromItem n M locks me x ≤ n
+  pub item-le : (n M : ℕ) (locks : ℕ → Lock) (me x : ℕ) → walkFromItem n M locks me x ≤ n
   item-le zero M locks me x = zero-le
   item-le (suc n) M locks me x =
-      more-le (eqb (locks x .holder) me) (fromSession n M locks me (locks x .holder)) n (session-le n M locks me (locks x .holder))
+      more-le (eqb (locks x .holder) me) (walkFromSession n M locks me (locks x .holder)) n (session-le n M locks me (locks x .holder))
 
 -- ---- what a well-formed table says
-pub record Formed (S : ℕ) (i : Item) : Type 0 where
-  pub holder-high : i .holder ≤ S
-  pub fits : i .waiting ≤ 64
-  pub sessions : all (between 1 S) (unpacked i .queue) ≡ true
-
 -- what a record's queue says
 pub record Queue (i : Item) : Type 0 where
-  pub fits : i .waiting ≤ 64
-  pub whole : length (i .queue) ≡ 64
-  pub session : (j : ℕ) → j < i .waiting → (1 ≤ getD (i .queue) j 0) × (getD (i .queue) j 0 ≤ 64)
+  pub fits : i .waiting ≤ maxSessions
+  pub whole : length (i .queue) ≡ maxSessions
+  pub session : (j : ℕ) → j < i .waiting → (1 ≤ getD (i .queue) j 0) × (getD (i .queue) j 0 ≤ maxSessions)
 
-formed : (S : ℕ) (i : Item) → Item.wellFormed S i ≡ true → Formed S i
-unfolding Item.wellFormed
-formed S i w =
-    let high = leb (i .holder) S in
-    let fit = leb (i .waiting) 64 in
-    let q = unpacked i .queue in
-    let in-bounds = all (between 1 S) q in
-    let once = distinct q in
-    let apart = not (member (i .holder) q) in
-    let a = and-both (high && fit && in-bounds && once && apart) (all (λ b. eqb b 0) (drop (i .waiting) (i .queue))) w .0 in
-    let b = and-both (high && fit && in-bounds && once) apart a .0 in
-    let c = and-both (high && fit && in-bounds) once b .0 in
-    let d = and-both (high && fit) in-bounds c in
-    let e = and-both high fit (d .0) in
-    record { holder-high = leb-true (i .holder) S (e .0); fits = leb-true (i .waiting) 64 (e .1); sessions = d .1 }
+module _ (t : List ℕ) (f : Formed t) where
+  module _ {x : ℕ} (has : HasItem t x) where
+    in-form : ItemRecord.wellFormed (sessionsOf t) (item t x) ≡ true
+    in-form = well-formed-item t (f .formed) x (has .low) (has .high)
 
-module _ (t : List ℕ) (s : sized t ≡ true) (w : wellFormed t ≡ true) where
-  module _ (x : ℕ) (l : 1 ≤ x) (h : x ≤ itemsOf t) where
-    pub item-facts : Formed (sessionsOf t) (item t x)
-    item-facts = formed (sessionsOf t) (item t x) (well-formed-item t w x l h)
+    lock-facts : LockWellFormed (sessionsOf t) (unpacked (item t x))
+    lock-facts = unpacked-lock (sessionsOf t) (item t x) in-form
 
-    pub holder-64 : locks t x .holder ≤ 64
+    pub holder-high : locks t x .holder ≤ maxSessions
     unfolding locks
-    holder-64 = let b = sized-facts t s in let f = item-facts in omega arith
-
-    queue-session : (j : ℕ) → j < item t x .waiting → (1 ≤ getD (item t x .queue) j 0) × (getD (item t x .queue) j 0 ≤ 64)
-    queue-session j m =
-        let i = item t x in
-        let f = item-facts in
-        let b = sized-facts t s in
-        let n = queue-length t s x l h in
-        let all-length = length-take-le (i .waiting) (i .queue) (omega arith) in
-        let test = all-getD (between 1 (sessionsOf t)) (take (i .waiting) (i .queue)) j (f .sessions) (omega arith) in
-        let here = rw (getD-take (i .waiting) (i .queue) j 0 m) at test in
-        let two = and-both (leb 1 (getD (i .queue) j 0)) (leb (getD (i .queue) j 0) (sessionsOf t)) here in
-        let low = leb-true 1 (getD (i .queue) j 0) (two .0) in
-        let high = leb-true (getD (i .queue) j 0) (sessionsOf t) (two .1) in
-        (low, omega arith)
+    holder-high = let b = sized-facts t (f .sized) in let k = lock-facts in omega arith
 
     -- a record as it was read
     pub item-queue : {i : Item} → i ≡ item t x → Queue i
-    item-queue e =
-        let whole = queue-length t s x l h in
-        rw (e) (record { fits = item-facts .fits; whole = whole; session = queue-session })
+    item-queue e = rw (e) (record { fits = fits; whole = whole; session = sessions })
+      where
+        n : ℕ
+        n = item t x .waiting
 
-    pub none-queued : queuedAt (itemsOf t) (locks t) 0 x ≡ false
+        q : List ℕ
+        q = item t x .queue
+
+        most : sessionsOf t ≤ maxSessions
+        most = sized-facts t (f .sized) .max-sessions
+
+        whole : length q ≡ maxSessions
+        whole = queue-length t (f .sized) x (has .low) (has .high)
+
+        fits : n ≤ maxSessions
+        fits = wellFormed-packed (sessionsOf t) (item t x) most whole in-form .fits
+
+        sessions : (j : ℕ) → j < n → (1 ≤ getD q j 0) × (getD q j 0 ≤ maxSessions)
+        sessions j m =
+            let all-length = length-take-le n q (omega (arith, fits, whole)) in
+            let test = all-getD (between 1 (sessionsOf t)) (take n q) j 0 (lock-facts .sessions) (omega arith) in
+            let two = within 1 (sessionsOf t) (getD q j 0) (rw (getD-take n q j 0 m) at test) in
+            (two .0, omega (arith, most))
+
+    none-queued : queuedAt (itemsOf t) (locks t) 0 x ≡ false
     unfolding queuedAt locks
     none-queued =
         let i = item t x in
-        rw (all-member (between 1 (sessionsOf t)) 0 (take (i .waiting) (i .queue)) (item-facts .sessions) refl) (and-false (not (eqb (i .holder) 0)))
+        rw (all-member (between 1 (sessionsOf t)) 0 (take (i .waiting) (i .queue)) (lock-facts .sessions) refl) (and-false (not (eqb (i .holder) 0)))
 
   -- session 0 waits for none
-  pub none-waits : waitsFor (itemsOf t) (locks t) 0 ≡ 0
+  none-waits : waitsFor (itemsOf t) (locks t) 0 ≡ 0
   unfolding waitsFor waitsAt
-  none-waits = rw (lowest-none (itemsOf t) (queuedAt (itemsOf t) (locks t) 0) none-queued) refl
-
-  -- none waits for more than the last session
-  pub waitsFor-high : (r : ℕ) → waitsFor (itemsOf t) (locks t) r ≤ sessionsOf t
-  unfolding waitsFor locks
-  waitsFor-high r = go (eqb x 0) refl
-    where
-      x : ℕ
-      x = waitsAt (itemsOf t) (locks t) r
-
-      go : (b : Bool) → eqb x 0 ≡ b → cond b 0 (locks t x .holder) ≤ sessionsOf t
-      go true e = zero-le
-      go false e =
-          let f = eqb-false x 0 e in
-          item-facts x (omega arith) (waitsAt-le (itemsOf t) (locks t) r) .holder-high
+  none-waits = rw (lowest-none (itemsOf t) (queuedAt (itemsOf t) (locks t) 0) (λ x l h. none-queued (record { sized = f .sized; low = l; high = h }))) refl
 
   -- the walk from a session to itself finds its cycle
-  pub walk-cycle : (me : ℕ) → 1 ≤ me → fromSession (2 * sessionsOf t) (itemsOf t) (locks t) me me ≡ OnTable.cycleLength t me
+  pub walk-cycle : (me : ℕ) → 1 ≤ me → walkFromSession (2 * sessionsOf t) (itemsOf t) (locks t) me me ≡ OnTable.cycleLength t me
   unfolding cycleLength
   walk-cycle me l = walk (itemsOf t) (locks t) none-waits me l (sessionsOf t) me
-
--- a table that has a byte other than 0 at k is longer than k
-pub index-in : (t : List ℕ) (k : ℕ) → 1 ≤ getD t k 0 → k < length t
-index-in t k l = let past : length t ≤ k → ⊥ = λ h. let z = List·getD-eq-default t 0 h in omega arith in omega arith
 
 -- the holder as the record has it
 pub holder-read : (t : List ℕ) (x : ℕ) {h : ℕ} → h ≡ item t x .holder → h ≡ locks t x .holder
 unfolding locks
 holder-read t x e = e
 
+-- ---- the wait of one session
+-- the item at which a session waits is one of the table's
+pub waits-at-item : (t : List ℕ) → Formed t → (s : ℕ) → (OnTable.waitsAt t s ≡ 0 → ⊥) → HasItem t (OnTable.waitsAt t s)
+waits-at-item t f s some = record { sized = f .sized; low = omega arith; high = waitsAt-le (itemsOf t) (locks t) s }
+
 -- the places read at a session
-pub place-of : (t at : List ℕ) (s : ℕ) → at ≡ tabulate 64 (λ k. OnTable.waitsAt t (suc k)) → 1 ≤ s → s ≤ 64 → getD at (s - 1) 0 ≡ OnTable.waitsAt t s
-place-of t at s e l h =
+pub place-of : {t at : List ℕ} → WithPlaces t at → (s : ℕ) → 1 ≤ s → s ≤ maxSessions → getD at (s - 1) 0 ≡ OnTable.waitsAt t s
+place-of {t} {at} p s l h =
     let one : suc (s - 1) ≡ s = omega arith in
-    rw (e, getD-tabulate 64 (λ k. OnTable.waitsAt t (suc k)) (s - 1) 0 (omega arith), one) refl
+    rw (p .read, getD-tabulate maxSessions (λ k. OnTable.waitsAt t (suc k)) (s - 1) 0 (omega arith), one) refl
+
+module _ (t : List ℕ) (s : ℕ) {x : ℕ} (e : x ≡ OnTable.waitsAt t s) where
+  pub wait-none : x ≡ 0 → record { item = 0; holder = 0 } ≡ nextWait t s
+  unfolding waitsFor
+  wait-none z = rw (← e, z) refl
+
+  pub wait-some : (x ≡ 0 → ⊥) → {h : ℕ} → h ≡ item t x .holder → record { item = x; holder = h } ≡ nextWait t s
+  unfolding waitsFor locks
+  wait-some f held = rw (← e, ne-eqb x 0 f, held) refl
 
 -- ---- the places of sessions among the first items
 -- the place of session s once the sessions l of the queue of item x are marked; p is its place among the items before x
@@ -283,7 +273,7 @@ module _ (x : ℕ) (q : List ℕ) (p : ℕ → ℕ) (j : ℕ) (h : j < length q)
   after-more : (k : ℕ) → after (j + 1) k ≡ cond (eqb (getD q j 0) (suc k) && eqb (after j k) 0) x (after j k)
   after-more k = rw (member-more (suc k) q j h) (turn x (p k) (member (suc k) (take j q)) (eqb (getD q j 0) (suc k)))
 
-  module _ (l : 1 ≤ getD q j 0) (m : getD q j 0 ≤ 64) where
+  module _ (l : 1 ≤ getD q j 0) (m : getD q j 0 ≤ maxSessions) where
     others : (k : ℕ) → (k ≡ getD q j 0 - 1 → ⊥) → after j k ≡ after (j + 1) k
     others k f = rw (after-more k, ne-eqb (getD q j 0) (suc k) (λ z. f (omega arith))) refl
 
@@ -291,48 +281,44 @@ module _ (x : ℕ) (q : List ℕ) (p : ℕ → ℕ) (j : ℕ) (h : j < length q)
     here = rw (after-more (getD q j 0 - 1), eq-eqb (getD q j 0) (suc (getD q j 0 - 1)) (omega arith)) refl
 
     -- a session with no place gets one
-    pub mark-write : {at : List ℕ} → at ≡ tabulate 64 (after j) → getD at (getD q j 0 - 1) 0 ≡ 0 → set at (getD q j 0 - 1) x ≡ tabulate 64 (after (j + 1))
+    pub mark-write : {at : List ℕ} → at ≡ tabulate maxSessions (after j) → getD at (getD q j 0 - 1) 0 ≡ 0 → set at (getD q j 0 - 1) x ≡ tabulate maxSessions (after (j + 1))
     mark-write e f =
         let k = getD q j 0 - 1 in
-        let none = sym (getD-tabulate 64 (after j) k 0 (omega arith)) ∙ (rw (e) at f) in
-        rw (e) (set-tabulate 64 (after j) (after (j + 1)) k x (omega arith) (rw (here, eq-eqb (after j k) 0 none) refl) (λ i b. others i))
+        let none = sym (getD-tabulate maxSessions (after j) k 0 (omega arith)) ∙ (rw (e) at f) in
+        rw (e) (set-tabulate maxSessions (after j) (after (j + 1)) k x (omega arith) (rw (here, eq-eqb (after j k) 0 none) refl) (λ i b. others i))
 
     -- any other keeps it
-    pub mark-keep : {at : List ℕ} → at ≡ tabulate 64 (after j) → (getD at (getD q j 0 - 1) 0 ≡ 0 → ⊥) → at ≡ tabulate 64 (after (j + 1))
-    mark-keep {at} e f = e ∙ tabulate-same 64 (after j) (after (j + 1)) (λ k b. each k (eqb k (getD q j 0 - 1)) refl)
+    pub mark-keep : {at : List ℕ} → at ≡ tabulate maxSessions (after j) → (getD at (getD q j 0 - 1) 0 ≡ 0 → ⊥) → at ≡ tabulate maxSessions (after (j + 1))
+    mark-keep {at} e f = e ∙ tabulate-same maxSessions (after j) (after (j + 1)) (λ k b. each k (eqb k (getD q j 0 - 1)) refl)
       where
         each : (k : ℕ) (b : Bool) → eqb k (getD q j 0 - 1) ≡ b → after j k ≡ after (j + 1) k
         each k false n = others k (eqb-false k (getD q j 0 - 1) n)
         each k true n =
             let i = getD q j 0 - 1 in
-            let some : after j i ≡ 0 → ⊥ = λ z. f (rw (e) (getD-tabulate 64 (after j) i 0 (omega arith) ∙ z)) in
+            let some : after j i ≡ 0 → ⊥ = λ z. f (rw (e) (getD-tabulate maxSessions (after j) i 0 (omega arith) ∙ z)) in
             rw (eqb-true k i n, here, ne-eqb (after j i) 0 some) refl
 
--- the places of the sessions among the first n items
-abbrev pub placesAmong : ℕ → List ℕ → List ℕ
-placesAmong n t = tabulate 64 (λ k. waitsAt n (locks t) (suc k))
-
--- the same when j sessions of the queue of item x, read as i, are marked
+-- the places among the items before x, when j sessions of the queue of item x, read as i, are marked
 abbrev pub placesMarked : ℕ → List ℕ → Item → ℕ → List ℕ
-placesMarked x t i j = tabulate 64 (λ k. marked x (take j (i .queue)) (waitsAt (x - 1) (locks t) (suc k)) (suc k))
+placesMarked x t i j = tabulate maxSessions (λ k. marked x (take j (i .queue)) (waitsAt (x - 1) (locks t) (suc k)) (suc k))
 
-pub places-none : (t : List ℕ) → replicate 64 0 ≡ placesAmong 0 t
+pub places-none : (t : List ℕ) → replicate maxSessions 0 ≡ placesAmong 0 t
 unfolding tabulate waitsAt lowest
 places-none t = refl
 
-module _ (t : List ℕ) (x : ℕ) (l : 1 ≤ x) where
+module _ (t : List ℕ) {x : ℕ} (has : HasItem t x) where
   pub places-free : locks t x .holder ≡ 0 → placesAmong (x - 1) t ≡ placesAmong x t
   places-free e =
-      tabulate-same 64 (λ k. waitsAt (x - 1) (locks t) (suc k)) (λ k. waitsAt x (locks t) (suc k)) (λ k b. sym (waits-free (locks t) x l (suc k) e))
+      tabulate-same maxSessions (λ k. waitsAt (x - 1) (locks t) (suc k)) (λ k. waitsAt x (locks t) (suc k)) (λ k b. sym (waits-free (locks t) x (has .low) (suc k) e))
 
   pub places-first : (i : Item) → placesAmong (x - 1) t ≡ placesMarked x t i 0
   unfolding member
   places-first i =
-      tabulate-same 64 (λ k. waitsAt (x - 1) (locks t) (suc k)) (λ k. marked x (take 0 (i .queue)) (waitsAt (x - 1) (locks t) (suc k)) (suc k))
+      tabulate-same maxSessions (λ k. waitsAt (x - 1) (locks t) (suc k)) (λ k. marked x (take 0 (i .queue)) (waitsAt (x - 1) (locks t) (suc k)) (suc k))
       (λ k b. sym (zero-pick (waitsAt (x - 1) (locks t) (suc k))))
 
   pub places-last : (locks t x .holder ≡ 0 → ⊥) → {i : Item} → i ≡ item t x → placesMarked x t i (i .waiting) ≡ placesAmong x t
   unfolding locks
   places-last f {i} e =
-      tabulate-same 64 (λ k. marked x (take (i .waiting) (i .queue)) (waitsAt (x - 1) (locks t) (suc k)) (suc k)) (λ k. waitsAt x (locks t) (suc k))
-      (λ k b. rw (e) (sym (waits-held (locks t) x l (suc k) f)))
+      tabulate-same maxSessions (λ k. marked x (take (i .waiting) (i .queue)) (waitsAt (x - 1) (locks t) (suc k)) (suc k)) (λ k. waitsAt x (locks t) (suc k))
+      (λ k b. rw (e) (sym (waits-held (locks t) x (has .low) (suc k) f)))

@@ -5,8 +5,9 @@ use Prim.Native.Nat.{ℕ, zero, suc, _+_, _≤_}
 use native.Mathlib.Omega.{arith}
 use native.Mathlib.Decide.{ℕ-discrete}
 use borrow.Author.Tests.{not-true}
+use Rattle.lists.proofs.Tests.{and-both, and-intro, fails}
+use Rattle.lists.proofs.Searches.{count-none, count-some, every-at, every-intro}
 use Rattle.waits.specs.Waits.{reached, cycleLength, onCycle, leads, cycles}
-use Rattle.waits.proofs.Searches.{and-both, both-and, not-true-false, every-at, every-of, count-none, count-some}
 use Rattle.waits.proofs.Reached.{Graph, reached-sum, on-cycle-positive}
 use Rattle.waits.proofs.Members.{member-positive, member-inside, member-within, member-back, member-on-cycle}
 
@@ -34,7 +35,7 @@ most-senior {senior} o (suc (suc n)) f h = go (most-senior o (suc n) f (omega ar
             all : (j : ℕ) → 1 ≤ j → j ≤ suc (suc n) → senior (f j) (f (suc (suc n))) ≡ false
             all j c d = elim (ℕ-discrete j (suc (suc n))) [
               | yes q ↦ rw q (o .irreflexive (f (suc (suc n))))
-              | no q ↦ not-true-false (senior (f j) (f (suc (suc n)))) (λ s. true≢false (sym (o .transitive (f j) (f (suc (suc n))) (f k) s e) ∙ m j c (omega arith)))
+              | no q ↦ fails (senior (f j) (f (suc (suc n)))) (λ s. true≢false (sym (o .transitive (f j) (f (suc (suc n))) (f k) s e) ∙ m j c (omega arith)))
             ]
         more false e = (k, a, omega arith, all)
           where
@@ -49,7 +50,7 @@ module _ (next : ℕ → ℕ) (S : ℕ) (senior : ℕ → ℕ → Bool) (t : ℕ
   -- from the definition: all round the cycle none is senior to t
   pub leads-of : onCycle next S t ≡ true → ((k : ℕ) → 1 ≤ k → k ≤ cycleLength next S t → senior (reached next k t) t ≡ false) → leads next S senior t ≡ true
   unfolding leads
-  leads-of on h = both-and (onCycle next S t) _ on (every-of (cycleLength next S t) _ (λ k a b. ap not (h k a b)))
+  leads-of on h = and-intro on (every-intro (cycleLength next S t) _ (λ k a b. ap not (h k a b)))
 
   around : leads next S senior t ≡ true → (k : ℕ) → 1 ≤ k → k ≤ cycleLength next S t → senior (reached next k t) t ≡ false
   unfolding leads
@@ -58,7 +59,7 @@ module _ (next : ℕ → ℕ) (S : ℕ) (senior : ℕ → ℕ → Bool) (t : ℕ
 -- no session lies on a cycle: no cycle is counted
 pub cycles-none : (next : ℕ → ℕ) (S : ℕ) (senior : ℕ → ℕ → Bool) → ((t : ℕ) → 1 ≤ t → t ≤ S → onCycle next S t ≡ false) → cycles next S senior ≡ 0
 unfolding cycles
-cycles-none next S senior h = count-none S _ (λ t a b. not-true-false _ (λ e. true≢false (sym (leads-on-cycle next S senior t e) ∙ h t a b)))
+cycles-none next S senior h = count-none S _ (λ t a b. fails _ (λ e. true≢false (sym (leads-on-cycle next S senior t e) ∙ h t a b)))
 
 module _ {next : ℕ → ℕ} {S : ℕ} (g : Graph next S) (senior : ℕ → ℕ → Bool) where
   -- no member is senior to the leader
@@ -101,5 +102,5 @@ module _ {next : ℕ → ℕ} {S : ℕ} (g : Graph next S) {senior : ℕ → ℕ
   -- no cycle is counted: no session lies on one
   pub none-on-cycle : cycles next S senior ≡ 0 → (t : ℕ) → 1 ≤ t → onCycle next S t ≡ false
   unfolding cycles
-  none-on-cycle z t low = not-true-false _ (λ on. let r = leader-of t low on in
+  none-on-cycle z t low = fails _ (λ on. let r = leader-of t low on in
       omega (arith, count-some S (leads next S senior) (reached next (r .0) t) (member-positive g t low on (r .0)) (member-inside g t low on (r .0)) (r .1)))

@@ -1,4 +1,3 @@
-pub mod Searches
 pub mod Lists
 pub mod Laws
 pub mod Reached

@@ -6,8 +6,8 @@ use Prim.Native.Nat.{ℕ, zero, suc, _≤_}
 use native.Mathlib.Omega.{arith}
 use lib.Dec.{eqb}
 use borrow.Author.Tests.{eqb-true, eqb-false}
+use Rattle.lists.proofs.Searches.{some-or-none}
 use Rattle.waits.specs.Waits.{reached, cycleLength, onCycle}
-use Rattle.waits.proofs.Searches.{some-or-none}
 use Rattle.waits.proofs.Reached.{Graph, reached-suc, reached-swap, reached-past, within, returns, on-cycle-positive, cycle-returns, back-positive, back-inside, reached-inside, on-cycle-found, cycle-length-least}
 
 module _ {next : ℕ → ℕ} {S : ℕ} (g : Graph next S) where

@@ -1,15 +1,15 @@
 -- What is reached by so many waits, and when a session lies on a cycle: exactly when it is reached from itself by one wait or more.
 use mathlib.Core.Path.{_≡_, refl, sym, ap, _∙_}
-use mathlib.Core.Bool.{Bool, true, false, not}
+use mathlib.Core.Bool.{Bool, true, false}
 use mathlib.Core.Logic.{_≢_}
 use Prim.Native.Nat.{ℕ, zero, suc, _+_, _-_, _≤_, _<_}
 use native.Mathlib.Omega.{arith}
 use native.Mathlib.Decide.{ℕ-discrete}
 use lib.Dec.{eqb}
 use borrow.Author.Tests.{eqb-true, eqb-false, eq-eqb, ne-eqb, not-true, not-false}
-use Rattle.buffer.specs.Lists.{lowest}
+use Rattle.lists.specs.Lists.{lowest}
+use Rattle.lists.proofs.Searches.{lowest-found, lowest-le, lowest-passes, pigeonhole}
 use Rattle.waits.specs.Waits.{reached, cycleLength, onCycle}
-use Rattle.waits.proofs.Searches.{lowest-le, lowest-passes, lowest-found, pigeonhole}
 
 -- 0 stands for none and waits for none; whoever is waited for is one of the sessions 1 to S
 pub record Graph (next : ℕ → ℕ) (S : ℕ) : Type 0 where

@@ -1,3 +1,4 @@
 pub mod Waits
 pub mod Walk
 pub mod OnTable
+pub mod Places

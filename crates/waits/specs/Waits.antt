@@ -1,8 +1,8 @@
--- Who waits for whom, and the cycles of waits (01: rings), read from holders and wait queues alone.
+-- Who waits for whom, and the cycles of waits (01: rings), read from holders and wait queues alone. RULES is docs/RULES.md.
 use Prim.Native.Nat.{ℕ, zero, suc}
 use mathlib.Core.Bool.{Bool, cond, not, _&&_}
 use lib.Dec.{eqb}
-use Rattle.buffer.specs.Lists.{every, lowest, count, member}
+use Rattle.lists.specs.Lists.{every, lowest, count, member}
 use Rattle.item.specs.Record.{Lock}
 
 -- M items, of which x is `locks x`
@@ -11,11 +11,11 @@ module _ (M : ℕ) (locks : ℕ → Lock) where
   unfoldable pub queuedAt : ℕ → ℕ → Bool
   queuedAt t x = not (eqb (locks x .holder) 0) && member t (locks x .queue)
 
-  -- the item at which t waits, or 0: of several held items in whose queues t stands, the lowest-numbered
+  -- the item at which t waits, or 0: RULES 7.1
   unfoldable pub waitsAt : ℕ → ℕ
   waitsAt t = lowest M (queuedAt t)
 
-  -- the session for which t waits, or 0
+  -- the session for which t waits, or 0: RULES 7.2
   unfoldable pub waitsFor : ℕ → ℕ
   waitsFor t = cond (eqb (waitsAt t) 0) 0 (locks (waitsAt t) .holder)
 
@@ -28,7 +28,7 @@ module _ (next : ℕ → ℕ) where
 
   -- S sessions
   module _ (S : ℕ) where
-    -- the length of the cycle on which t lies, or 0: the least number of waits, one or more, by which t is reached from itself
+    -- the length of the cycle on which t lies, or 0: RULES 7.4
     unfoldable pub cycleLength : ℕ → ℕ
     cycleLength t = lowest S (λ n. eqb (reached n t) t)
 
@@ -40,6 +40,6 @@ module _ (next : ℕ → ℕ) where
       unfoldable pub leads : ℕ → Bool
       leads t = onCycle t && every (cycleLength t) (λ n. not (senior (reached n t) t))
 
-      -- the number of standing cycles: each is one cycle whichever member it is read from, and counts at its most senior member
+      -- the number of standing cycles, each counted at its most senior member: RULES 7.6
       unfoldable pub cycles : ℕ
       cycles = count S leads

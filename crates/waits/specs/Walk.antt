@@ -12,11 +12,11 @@ oneMore (suc n) = suc (suc n)
 
 unfoldable mutual
   -- how many waits lead from session s to `me`, or 0 where none do within the steps left
-  pub fromSession : ℕ → ℕ → (ℕ → Lock) → ℕ → ℕ → ℕ
-  fromSession zero M locks me s = 0
-  fromSession (suc n) M locks me s = cond (eqb (waitsAt M locks s) 0) 0 (fromItem n M locks me (waitsAt M locks s))
+  pub walkFromSession : ℕ → ℕ → (ℕ → Lock) → ℕ → ℕ → ℕ
+  walkFromSession zero M locks me s = 0
+  walkFromSession (suc n) M locks me s = cond (eqb (waitsAt M locks s) 0) 0 (walkFromItem n M locks me (waitsAt M locks s))
 
   -- the same from the wait at item x on, that wait counted
-  pub fromItem : ℕ → ℕ → (ℕ → Lock) → ℕ → ℕ → ℕ
-  fromItem zero M locks me x = 0
-  fromItem (suc n) M locks me x = cond (eqb (locks x .holder) me) 1 (oneMore (fromSession n M locks me (locks x .holder)))
+  pub walkFromItem : ℕ → ℕ → (ℕ → Lock) → ℕ → ℕ → ℕ
+  walkFromItem zero M locks me x = 0
+  walkFromItem (suc n) M locks me x = cond (eqb (locks x .holder) me) 1 (oneMore (walkFromSession n M locks me (locks x .holder)))

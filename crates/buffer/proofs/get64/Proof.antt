@@ -3,14 +3,14 @@ use Prim.Native.Nat.{ℕ, _+_, _≤_, _<_}
 use native.Mathlib.Omega.{arith}
 use lib.ListN.{length}
 use borrow.Author.Needs.{needs}
-use Rattle.buffer.specs.Bytes.{part, fromBytes}
-use Rattle.buffer.proofs.Laws.{fromBytes-part-bound, fromBytes-split}
+use Rattle.buffer.specs.Bytes.{slice, fromBytes}
+use Rattle.buffer.proofs.Laws.{fromBytes-slice-bound, fromBytes-split}
 use Rattle.buffer.proofs.get64.Statement.{statement}
 use Rattle.buffer.proofs.get64.Tie as tie
 
 -- two bytes make less than 65536
-low : (c : tie.After-shared-slice-known) (at : ℕ) → at + 2 ≤ length (c .before .args .t .now) → fromBytes (part (c .before .args .t .now) at 2) < 65536
-low c at h = fromBytes-part-bound (c .before .args .t .now) at 2 h (λ i f. omega (arith, c .shared-slice-known .given i))
+low : (c : tie.After-shared-slice-known) (at : ℕ) → at + 2 ≤ length (c .before .args .t .now) → fromBytes (slice (c .before .args .t .now) at 2) < 65536
+low c at h = fromBytes-slice-bound (c .before .args .t .now) at 2 h (λ i f. omega (arith, c .shared-slice-known .given i))
 
 get16-requires : tie.Need-get16-requires
 get16-requires c κs = search needs

@@ -4,7 +4,7 @@ use native.Mathlib.Omega.{arith}
 use lib.ListN.{length-set}
 use borrow.Author.Needs.{needs}
 use Rattle.buffer.specs.Bytes.{toBytes}
-use Rattle.buffer.proofs.Laws.{sets-over}
+use Rattle.buffer.proofs.Laws.{sets-splice}
 use Rattle.buffer.proofs.put16.Statement.{statement}
 use Rattle.buffer.proofs.put16.Tie as tie
 
@@ -27,7 +27,7 @@ same-length : tie.Need-same-length
 same-length c = search needs
 
 returns : tie.Need-returns
-returns c = rw (add-one) (sets-over (c .args .t .now) (c .args .at) (toBytes 2 (c .args .v)) (omega arith))
+returns c = rw (add-one) (sets-splice (c .args .t .now) (c .args .at) (toBytes 2 (c .args .v)) (omega arith))
 
 pub put16-spec : {M : Type 1} → statement M
 put16-spec =

@@ -4,7 +4,7 @@ use Prim.Native.Nat.{_≤_, _-_}
 use native.Mathlib.Omega.{arith}
 use lib.ListN.{length, length-set}
 use native.Mathlib.Numerals.{add-one}
-use Rattle.buffer.proofs.Laws.{paste-over}
+use Rattle.buffer.proofs.Laws.{paste-splice}
 use lib.Seq.{paste, paste-zero, paste-suc}
 use Rattle.buffer.proofs.put_row.Statement.{statement}
 use Rattle.buffer.proofs.put_row.Tie as tie
@@ -50,7 +50,7 @@ returns c =
     let a = c .before .before .args in
     let l : length (a .t3) ≡ 64 = omega arith in
     let all : c .before .loop .i ≡ 64 = omega arith in
-    rw (c .before .loop .inv .2, all) (paste-over (a .t .now) (a .at) (a .t3) 64 l)
+    rw (c .before .loop .inv .2, all) (paste-splice (a .t .now) (a .at) (a .t3) 64 l)
 
 pub put-row-spec : {M : Type 1} → statement M
 put-row-spec =

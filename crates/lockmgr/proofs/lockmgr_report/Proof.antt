@@ -27,7 +27,7 @@ cast-cycle-length : tie.Need-cast-cycle-length
 cast-cycle-length c =
     let a = c .before .before .before .args in
     let f = report-zero (a .session) (a .table .now) (admitted c) in
-    omega (arith, TableLaws.sized-facts (a .table .now) (f .0), f .3)
+    omega (arith, TableLaws.sized-facts (a .table .now) (f .0 .sized), f .2)
 
 cycle-length-requires : tie.Need-cycle-length-requires
 cycle-length-requires c κs = let a = c .before .before .before .args in report-zero (a .session) (a .table .now) (admitted c)

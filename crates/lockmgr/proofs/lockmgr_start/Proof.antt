@@ -3,7 +3,7 @@ use mathlib.Core.Path.{_≡_, refl, sym, _∙_}
 use Prim.Native.Nat.{ℕ}
 use native.Mathlib.Omega.{arith}
 use borrow.Author.Tests.{ne-eqb}
-use Rattle.lockmgr.specs.Calls.{startRefusal, start}
+use Rattle.lockmgr.specs.Calls.{config, startRefusal, start}
 use Rattle.lockmgr.proofs.Judging.{Startable, start-zero}
 use borrow.Author.Needs.{needs}
 use Rattle.lockmgr.proofs.lockmgr_start.Statement.{statement}
@@ -11,7 +11,7 @@ use Rattle.lockmgr.proofs.lockmgr_start.Tie as tie
 
 -- what start_refusal judged
 abbrev refusal : tie.Start → ℕ
-refusal s = startRefusal (s .args .sessions) (s .args .items) (s .args .capacity) (s .args .table .now) (s .args .mail .now)
+refusal s = startRefusal (config (s .args .sessions) (s .args .items) (s .args .capacity)) (s .args .table .now) (s .args .mail .now)
 
 refused : (c : tie.Then1) → refusal (c .before .before .before .before .before .before) ≡ 0 → ⊥
 refused c z = c .if1 .taken (c .before .start-refusal .ensures ∙ z)
@@ -20,10 +20,10 @@ admitted : (c : tie.Else1) → refusal (c .before .before .before .before .befor
 admitted c = sym (c .before .start-refusal .ensures) ∙ c .if1 .left
 
 abbrev Known : tie.Start → Type 0
-Known s = Startable (s .args .sessions) (s .args .items) (s .args .capacity) (s .args .table .now) (s .args .mail .now)
+Known s = Startable (config (s .args .sessions) (s .args .items) (s .args .capacity)) (s .args .table .now) (s .args .mail .now)
 
 known : (c : tie.Else1) → Known (c .before .before .before .before .before .before)
-known c = start-zero _ _ _ _ _ (admitted c)
+known c = start-zero _ _ _ (admitted c)
 
 start-refusal-requires : tie.Need-start-refusal-requires
 start-refusal-requires c κs = search needs
@@ -48,10 +48,10 @@ cast-clear-2 c = omega (arith, known (c .before))
 
 clear-requires : tie.Need-clear-requires
 clear-requires c κs =
-    let f = known (c .before) in (f .some-sessions, f .most-sessions, f .some-items, f .most-items, f .table-whole)
+    let f = known (c .before) in (f .some-sessions, f .max-sessions, f .some-items, f .max-items, f .table-whole)
 
 clear-requires-2 : tie.Need-clear-requires-2
-clear-requires-2 c κs = let f = known (c .before .before .before .before .before) in (f .some-room, f .most-room, f .mail-whole)
+clear-requires-2 c κs = let f = known (c .before .before .before .before .before) in (f .some-room, f .max-room, f .mail-whole)
 
 same-length-3 : tie.Need-same-length-3
 same-length-3 c = search needs

@@ -2,9 +2,10 @@
 use mathlib.Core.Path.{_≡_, sym, ap, _∙_}
 use Prim.Native.Nat.{ℕ, _≤_}
 use native.Mathlib.Omega.{arith}
-use Rattle.lockmgr.specs.Calls.{judged, Judged, stepped, refusedAnswer}
+use Rattle.lockmgr.specs.Calls.{judged, stepped, refusedAnswer}
+use Rattle.lockmgr.specs.Parts.{Judged}
 use Rattle.lockmgr.proofs.Judging.{judged-zero}
-use Rattle.lockmgr.proofs.Stepping.{most-sessions, most-items, step-refused, step-acts}
+use Rattle.lockmgr.proofs.Acting.{max-sessions, max-items, step-refused, step-acts}
 use borrow.Author.Needs.{needs}
 use Rattle.lockmgr.proofs.lockmgr_step.Statement.{statement}
 use Rattle.lockmgr.proofs.lockmgr_step.Tie as tie
@@ -35,13 +36,10 @@ returns c =
     (ap (λ (n : ℕ). stepped (refusedAnswer n) (s .args .table .now) (s .args .mail .now)) e ∙ sym (step-refused (s .args .verb) (s .args .session) (s .args .item) (s .args .table .now) (s .args .mail .now) (λ z. c .before .if1 .taken (e ∙ z))))
 
 cast-act : tie.Need-cast-act
-cast-act c = omega (arith, known c .1)
+cast-act c = let s = c .before .before .before .before .before .before in let j = known c .2 in omega (arith, j .session-high, max-sessions (s .args .session) (s .args .item) (s .args .table .now) (s .args .mail .now) j)
 
 cast-act-2 : tie.Need-cast-act-2
-cast-act-2 c = let s = c .before .before .before .before .before .before in let j = known c .2 in omega (arith, j .session-high, most-sessions (s .args .session) (s .args .item) (s .args .table .now) (s .args .mail .now) j)
-
-cast-act-3 : tie.Need-cast-act-3
-cast-act-3 c = let s = c .before .before .before .before .before .before in let j = known c .2 in omega (arith, j .item-high, most-items (s .args .session) (s .args .item) (s .args .table .now) (s .args .mail .now) j)
+cast-act-2 c = let s = c .before .before .before .before .before .before in let j = known c .2 in omega (arith, j .item-high, max-items (s .args .session) (s .args .item) (s .args .table .now) (s .args .mail .now) j)
 
 act-requires : tie.Need-act-requires
 act-requires c κs = known (c .before .before)
@@ -68,7 +66,6 @@ lockmgr-step-spec =
     returns
     cast-act
     cast-act-2
-    cast-act-3
     act-requires
     same-length-3
     same-length-4

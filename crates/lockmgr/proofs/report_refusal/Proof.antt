@@ -1,15 +1,15 @@
--- `report_refusal` meets its contract: each test that is passed says what the next callee requires.
+-- Each test that is passed says what the next callee requires.
 use mathlib.Core.Path.{_≡_, sym}
 use mathlib.Core.Bool.{true}
 use native.Mathlib.Omega.{arith}
+use Rattle.lists.proofs.Tests.{admits, refuses}
 use Rattle.table.specs.Layout as Table
 use Rattle.table.proofs.Laws as TableLaws
-use Rattle.lockmgr.proofs.Judging.{refuses, admits, report-size, report-table, report-number, report-none}
+use Rattle.lockmgr.proofs.Judging.{report-size, report-table, report-number, report-none}
 use borrow.Author.Needs.{needs}
 use Rattle.lockmgr.proofs.report_refusal.Statement.{statement}
 use Rattle.lockmgr.proofs.report_refusal.Tie as tie
 
--- the tests that were passed
 table-sized : (c : tie.Else1) → Table.sized (c .before .before .before .args .table .now) ≡ true
 table-sized c = admits (c .before .sized .result) (c .before .sized .ensures) (c .if1 .left)
 
@@ -26,42 +26,22 @@ well-formed-requires : tie.Need-well-formed-requires
 well-formed-requires c κs = table-sized c
 
 returns-2 : tie.Need-returns-2
-returns-2 c =
-    sym (report-table _ _ (table-sized (c .before .before)) (refuses (c .before .well-formed .result) (c .before .well-formed .ensures) (c .if2 .taken)))
+returns-2 c = sym (report-table _ _ (table-sized (c .before .before)) (refuses (c .before .well-formed .result) (c .before .well-formed .ensures) (c .if2 .taken)))
 
 returns-3 : tie.Need-returns-3
-returns-3 c =
-    let b = c .before in
-    sym (report-number _ _ (table-sized (b .before .before)) (table-formed b) (λ l h. omega arith))
+returns-3 c = sym (report-number _ _ (table-sized (c .before .before .before)) (table-formed (c .before)) (λ l h. omega arith))
 
-shared-slice-read-if4 : tie.Need-shared-slice-read-if4
-shared-slice-read-if4 c =
-    let b = c .before .before .before .before in
-    omega (arith, TableLaws.header-fits (b .before .before .before .args .table .now) (table-sized b))
+sessions-requires : tie.Need-sessions-requires
+sessions-requires c κs = TableLaws.header-fits (c .before .before .before .before .before .before .args .table .now) (table-sized (c .before .before .before))
 
 cast-if4 : tie.Need-cast-if4
-cast-if4 c = omega (arith, c .shared-slice-known2 .given 0)
+cast-if4 c = search needs
 
 returns-4 : tie.Need-returns-4
-returns-4 c =
-    let b = c .before .before .before in
-    sym (report-number _ _ (table-sized (b .before .before)) (table-formed b) (λ l h. omega arith))
+returns-4 c = sym (report-number _ _ (table-sized (c .before .before .before .before .before)) (table-formed (c .before .before .before)) (λ l h. omega (arith, c .before .sessions .ensures)))
 
 returns-5 : tie.Need-returns-5
-returns-5 c =
-    let b = c .before .before .before in
-    sym (report-none _ _ (table-sized (b .before .before)) (table-formed b) (omega arith) (omega arith))
+returns-5 c = sym (report-none _ _ (table-sized (c .before .before .before .before .before)) (table-formed (c .before .before .before)) (omega arith) (omega (arith, c .before .sessions .ensures)))
 
 pub report-refusal-spec : {M : Type 1} → statement M
-report-refusal-spec =
-    tie.close
-    (tie.spec
-    sized-requires
-    returns
-    well-formed-requires
-    returns-2
-    returns-3
-    shared-slice-read-if4
-    cast-if4
-    returns-4
-    returns-5)
+report-refusal-spec = tie.close (tie.spec sized-requires returns well-formed-requires returns-2 returns-3 sessions-requires cast-if4 returns-4 returns-5)

@@ -7,60 +7,56 @@ use native.Mathlib.Omega.{arith}
 use Rattle.mailbox.proofs.message.Statement.{statement}
 use Rattle.mailbox.proofs.message.Tie as tie
 
+route-place-requires : tie.Need-route-place-requires
+route-place-requires c κs = search needs
+
 capacity-requires : tie.Need-capacity-requires
-capacity-requires c κs = let s = c .before in omega (arith, kept-length (s .args .m .now) (s .pre .0))
+capacity-requires c κs = let s = c .before .before in omega (arith, kept-length (s .args .m .now) (s .pre .0 .kept), s .pre .0 .kept)
 
-mul-to : tie.Need-mul-to
-mul-to c = search needs
-
-add-to : tie.Need-add-to
-add-to c = search needs
-
-mul-to-2 : tie.Need-mul-to-2
-mul-to-2 c = search needs
-
-add-to-2 : tie.Need-add-to-2
-add-to-2 c = search needs
-
-shared-slice-read-new : tie.Need-shared-slice-read-new
-shared-slice-read-new c = search needs
-
-shared-slice-read-new-2 : tie.Need-shared-slice-read-new-2
-shared-slice-read-new-2 c = let s = c .before .before .before .before in omega (arith, kept-length (s .args .m .now) (s .pre .0), s .pre .0)
+body-place-requires : tie.Need-body-place-requires
+body-place-requires c κs = search needs
 
 add-new : tie.Need-add-new
 add-new c = search needs
 
-shared-slice-read-new-3 : tie.Need-shared-slice-read-new-3
-shared-slice-read-new-3 c = let s = c .before .before .before .before .before in omega (arith, kept-length (s .args .m .now) (s .pre .0), s .pre .0)
+shared-slice-read-new : tie.Need-shared-slice-read-new
+shared-slice-read-new c = let s = c .before .before .before .before .before in omega (arith, kept-length (s .args .m .now) (s .pre .0 .kept), s .pre .0 .kept)
+
+shared-slice-read-new-2 : tie.Need-shared-slice-read-new-2
+shared-slice-read-new-2 c = let s = c .before .before .before .before .before .before in omega (arith, kept-length (s .args .m .now) (s .pre .0 .kept), s .pre .0 .kept)
 
 add-new-2 : tie.Need-add-new-2
 add-new-2 c = search needs
 
+shared-slice-read-new-3 : tie.Need-shared-slice-read-new-3
+shared-slice-read-new-3 c = let s = c .before .before .before .before .before .before .before in omega (arith, kept-length (s .args .m .now) (s .pre .0 .kept), s .pre .0 .kept)
+
+add-new-3 : tie.Need-add-new-3
+add-new-3 c = search needs
+
 shared-slice-read-new-4 : tie.Need-shared-slice-read-new-4
-shared-slice-read-new-4 c = let s = c .before .before .before .before .before .before in omega (arith, kept-length (s .args .m .now) (s .pre .0), s .pre .0)
+shared-slice-read-new-4 c = let s = c .before .before .before .before .before .before .before .before in omega (arith, kept-length (s .args .m .now) (s .pre .0 .kept), s .pre .0 .kept)
 
 new-requires : tie.Need-new-requires
 new-requires c κs = search needs
 
 returns : tie.Need-returns
 unfolding entryAt
-returns c = c .new .ensures ∙ rw (c .before .before .before .before .before .capacity .ensures) refl
+returns c = (λ e. c .new .ensures ∙ rw (e, c .before .before .before .before .before .body-place .ensures, c .before .before .before .before .before .before .capacity .ensures, c .before .before .before .before .before .before .before .route-place .ensures) refl, λ e. c .new .ensures ∙ rw (e, c .before .before .before .before .before .body-place .ensures, c .before .before .before .before .before .before .capacity .ensures, c .before .before .before .before .before .before .before .route-place .ensures) refl)
 
 pub message-spec : {M : Type 1} → statement M
 message-spec =
     tie.close
     (tie.spec
+    route-place-requires
     capacity-requires
-    mul-to
-    add-to
-    mul-to-2
-    add-to-2
+    body-place-requires
+    add-new
     shared-slice-read-new
     shared-slice-read-new-2
-    add-new
-    shared-slice-read-new-3
     add-new-2
+    shared-slice-read-new-3
+    add-new-3
     shared-slice-read-new-4
     new-requires
     returns)

@@ -7,9 +7,9 @@ use lib.Seq.{take-all}
 use Rattle.message.specs.declared.Message.{Message}
 use Rattle.message.specs.declared.Outbox.{Outbox}
 use Rattle.message.specs.Outbox.{cells}
-use Rattle.mailbox.specs.Entry.{Entry}
+use Rattle.entry.specs.Entry.{Entry}
 use Rattle.mailbox.specs.Layout.{entriesOf, mailBytes}
-use Rattle.mailbox.specs.Below.{sent}
+use Rattle.entry.specs.Entry.{sent}
 use Rattle.mailbox.proofs.Laws.{kept-length, length-entries}
 use Rattle.mailbox.proofs.Moves.{one-more, length-more}
 use native.Mathlib.Omega.{arith}
@@ -25,17 +25,17 @@ abbrev μ-loop : tie.MeasureT-loop
 μ-loop m₀ direction party c count at n i₀ m i = n - i
 
 capacity-requires : tie.Need-capacity-requires Inv-loop μ-loop
-capacity-requires c κs = let s = c .before .before in omega (arith, kept-length (s .args .m .now) (s .pre .0))
+capacity-requires c κs = let s = c .before .before in omega (arith, kept-length (s .args .m .now) (s .pre .kept))
 
 count-requires : tie.Need-count-requires Inv-loop μ-loop
-count-requires c κs = let s = c .before .before .before .before in omega (arith, kept-length (s .args .m .now) (s .pre .0))
+count-requires c κs = let s = c .before .before .before .before in omega (arith, kept-length (s .args .m .now) (s .pre .kept))
 
 loop-holds : tie.Need-loop-holds Inv-loop μ-loop
 loop-holds c =
     let s = c .before .before .before .before .before .before in
     let m = s .args .m .now in
     let C = c .before .before .before .capacity in
-    (omega arith, refl, λ k e f. rw (append-nil, C .ensures) (s .pre .0 .bytes))
+    (omega arith, refl, λ k e f. rw (append-nil, C .ensures) (s .pre .kept .bytes))
 
 mul-msg : tie.Need-mul-msg Inv-loop μ-loop
 mul-msg c = omega arith
@@ -53,7 +53,7 @@ add-add : tie.Need-add-add Inv-loop μ-loop
 add-add c = omega arith
 
 add-requires : tie.Need-add-requires Inv-loop μ-loop
-add-requires c κs = let s = c .before .before .before .before .before .before .before .before .before .before .before .before in omega (arith, kept-length (s .args .m .now) (s .pre .0), s .pre .0, s .pre, c .before .before .before .before .before .loop .inv, c .before .before .before .before .before .before .before .count .ensures, c .before .before .before .before .before .before .before .before .before .capacity .ensures)
+add-requires c κs = let s = c .before .before .before .before .before .before .before .before .before .before .before .before in omega (arith, kept-length (s .args .m .now) (s .pre .kept), s .pre .kept, s .pre, c .before .before .before .before .before .loop .inv, c .before .before .before .before .before .before .before .count .ensures, c .before .before .before .before .before .before .before .before .before .capacity .ensures)
 
 add-i : tie.Need-add-i Inv-loop μ-loop
 add-i c = omega arith

@@ -1,7 +1,7 @@
 -- `remove` meets its contract, by the law of an entry taken out.
 use mathlib.Core.Path.{_≡_, sym, ap, _∙_}
 use Prim.Native.Nat.{ℕ}
-use Rattle.buffer.specs.Lists.{removeAt}
+use Rattle.lists.specs.Lists.{removeAt}
 use Rattle.mailbox.specs.Layout.{entriesOf, mailBytes}
 use Rattle.mailbox.proofs.Laws.{kept-length, length-entries}
 use Rattle.mailbox.proofs.Moves.{remove-mail}
@@ -11,10 +11,10 @@ use Rattle.mailbox.proofs.remove.Statement.{statement}
 use Rattle.mailbox.proofs.remove.Tie as tie
 
 capacity-requires : tie.Need-capacity-requires
-capacity-requires c κs = let s = c .before .before in omega (arith, kept-length (s .args .m .now) (s .pre .0))
+capacity-requires c κs = let s = c .before .before in omega (arith, kept-length (s .args .m .now) (s .pre .kept), s .pre .kept)
 
 count-requires : tie.Need-count-requires
-count-requires c κs = let s = c .before .before .before .before in omega (arith, kept-length (s .args .m .now) (s .pre .0))
+count-requires c κs = let s = c .before .before .before .before in omega (arith, kept-length (s .args .m .now) (s .pre .kept), s .pre .kept)
 
 sub-len : tie.Need-sub-len
 sub-len c = search needs
@@ -22,35 +22,23 @@ sub-len c = search needs
 mul-len : tie.Need-mul-len
 mul-len c = search needs
 
-mul-cut : tie.Need-mul-cut
-mul-cut c = search needs
-
-add-cut : tie.Need-add-cut
-add-cut c = search needs
+route-place-requires : tie.Need-route-place-requires
+route-place-requires c κs = search needs
 
 cut-requires : tie.Need-cut-requires
-cut-requires c κs = let s = c .before .before .before .before .before .before in omega (arith, kept-length (s .args .m .now) (s .pre .0), s .pre .0)
+cut-requires c κs = let s = c .before .before .before .before .before .before .before in omega (arith, kept-length (s .args .m .now) (s .pre .kept), s .pre .kept)
 
-mul-cut-2 : tie.Need-mul-cut-2
-mul-cut-2 c = search needs
-
-add-cut-2 : tie.Need-add-cut-2
-add-cut-2 c = search needs
-
-mul-cut-3 : tie.Need-mul-cut-3
-mul-cut-3 c = search needs
-
-add-cut-3 : tie.Need-add-cut-3
-add-cut-3 c = search needs
+body-place-requires : tie.Need-body-place-requires
+body-place-requires c κs = search needs
 
 cut-requires-2 : tie.Need-cut-requires-2
-cut-requires-2 c κs = let s = c .before .before .before .before .before .before .before .before .before .before in omega (arith, kept-length (s .args .m .now) (s .pre .0), s .pre .0, c .before .before .before .cut .kept .0, c .before .before .before .before .before .count .ensures, c .before .before .before .before .before .before .before .capacity .ensures)
+cut-requires-2 c κs = let s = c .before .before .before .before .before .before .before .before .before .before .before .before in omega (arith, kept-length (s .args .m .now) (s .pre .kept), s .pre .kept, c .before .before .before .before .cut .kept .0)
 
 sub-put16 : tie.Need-sub-put16
 sub-put16 c = search needs
 
 put16-requires : tie.Need-put16-requires
-put16-requires c κs = let s = c .before .before .before .before .before .before .before .before .before .before .before .before .before .before in omega (arith, kept-length (s .args .m .now) (s .pre .0), c .before .before .before .cut2 .kept .0, c .before .before .before .before .before .before .before .cut .kept .0)
+put16-requires c κs = let s = c .before .before .before .before .before .before .before .before .before .before .before .before .before .before .before .before in omega (arith, kept-length (s .args .m .now) (s .pre .kept), s .pre .kept, c .before .before .before .cut2 .kept .0, c .before .before .before .before .before .before .before .before .cut .kept .0)
 
 same-length : tie.Need-same-length
 same-length c = search needs
@@ -58,15 +46,14 @@ same-length c = search needs
 returns : tie.Need-returns
 returns c =
     let bodies = c .before .before .before .before .before .before in
-    let routes = bodies .before .before .before .before in
-    let n = routes .before .before .count in
-    let C = routes .before .before .before .before .capacity in
-    let s = routes .before .before .before .before .before .before .before in
+    let routes = bodies .before .before .before .before .before in
+    let n = routes .before .before .before .count in
+    let C = routes .before .before .before .before .before .capacity in
+    let s = routes .before .before .before .before .before .before .before .before in
     let m = s .args .m .now in
-    let kept = s .pre .0 in
-    let same : m ≡ mailBytes (C .result) (entriesOf m) = rw (C .ensures) (kept .bytes) in
+    let same : m ≡ mailBytes (C .result) (entriesOf m) = rw (C .ensures) (s .pre .kept .bytes) in
     c .before .before .put16 .ensures
-    ∙ remove-mail (C .result) (n .result) (s .args .k) (entriesOf m) (length-entries m ∙ sym (n .ensures)) (omega arith) (omega arith) same (routes .cut .ensures) (bodies .cut2 .ensures)
+    ∙ remove-mail (C .result) (n .result) (s .args .k) (entriesOf m) (length-entries m ∙ sym (n .ensures)) (omega arith) (omega arith) same (rw (routes .before .route-place .ensures) at (routes .cut .ensures)) (rw (bodies .before .body-place .ensures) at (bodies .cut2 .ensures))
     ∙ ap (λ (k : ℕ). mailBytes k (removeAt (s .args .k) (entriesOf m))) (C .ensures)
 
 pub remove-spec : {M : Type 1} → statement M
@@ -77,13 +64,9 @@ remove-spec =
     count-requires
     sub-len
     mul-len
-    mul-cut
-    add-cut
+    route-place-requires
     cut-requires
-    mul-cut-2
-    add-cut-2
-    mul-cut-3
-    add-cut-3
+    body-place-requires
     cut-requires-2
     sub-put16
     put16-requires

@@ -2,7 +2,7 @@
 use mathlib.Core.Path.{refl, sym, _∙_}
 use borrow.Author.Tests.{le-leb, lt-leb}
 use Rattle.mailbox.proofs.Laws.{sized-facts}
-use Rattle.mailbox.proofs.Cells.{whole-test}
+use Rattle.mailbox.proofs.Tests.{whole-test}
 use native.Mathlib.Omega.{arith}
 use Rattle.mailbox.proofs.well_formed.Statement.{statement}
 use Rattle.mailbox.proofs.well_formed.Tie as tie
@@ -16,49 +16,47 @@ count-requires c κs = let s = c .before .before in omega (arith, sized-facts (s
 mul-left : tie.Need-mul-left
 mul-left c = let s = c .before .before .before .before in omega (arith, sized-facts (s .args .m .now) (s .pre))
 
-entries-requires : tie.Need-entries-requires
-entries-requires c κs = let s = c .before .before .before .before in omega (arith, sized-facts (s .args .m .now) (s .pre))
+route-place-requires : tie.Need-route-place-requires
+route-place-requires c κs = let s = c .before .before .before .before in omega (arith, sized-facts (s .args .m .now) (s .pre))
 
-mul-zeros : tie.Need-mul-zeros
-mul-zeros c = let s = c .before .before .before .before .before .before in omega (arith, sized-facts (s .args .m .now) (s .pre))
+well-formed-requires : tie.Need-well-formed-requires
+well-formed-requires c κs = let s = c .before .before .before .before .before in omega (arith, sized-facts (s .args .m .now) (s .pre))
 
-add-zeros : tie.Need-add-zeros
-add-zeros c = let s = c .before .before .before .before .before .before in omega (arith, sized-facts (s .args .m .now) (s .pre))
+route-place-requires-2 : tie.Need-route-place-requires-2
+route-place-requires-2 c κs = let s = c .before .before .before .before .before .before .before in omega (arith, sized-facts (s .args .m .now) (s .pre))
 
-zeros-requires : tie.Need-zeros-requires
-zeros-requires c κs = let s = c .before .before .before .before .before .before in omega (arith, sized-facts (s .args .m .now) (s .pre))
+is-zero-requires : tie.Need-is-zero-requires
+is-zero-requires c κs = let s = c .before .before .before .before .before .before .before .before in omega (arith, sized-facts (s .args .m .now) (s .pre))
 
-mul-zeros-2 : tie.Need-mul-zeros-2
-mul-zeros-2 c = let s = c .before .before .before .before .before .before .before in omega (arith, sized-facts (s .args .m .now) (s .pre))
+body-place-requires : tie.Need-body-place-requires
+body-place-requires c κs = let s = c .before .before .before .before .before .before .before .before .before in omega (arith, sized-facts (s .args .m .now) (s .pre))
 
-add-zeros-2 : tie.Need-add-zeros-2
-add-zeros-2 c = let s = c .before .before .before .before .before .before .before in omega (arith, sized-facts (s .args .m .now) (s .pre))
-
-mul-zeros-3 : tie.Need-mul-zeros-3
-mul-zeros-3 c = let s = c .before .before .before .before .before .before .before in omega (arith, sized-facts (s .args .m .now) (s .pre))
-
-add-zeros-3 : tie.Need-add-zeros-3
-add-zeros-3 c = let s = c .before .before .before .before .before .before .before in omega (arith, sized-facts (s .args .m .now) (s .pre))
-
-zeros-requires-2 : tie.Need-zeros-requires-2
-zeros-requires-2 c κs = let s = c .before .before .before .before .before .before .before in omega (arith, sized-facts (s .args .m .now) (s .pre))
+is-zero-requires-2 : tie.Need-is-zero-requires-2
+is-zero-requires-2 c κs = let s = c .before .before .before .before .before .before .before .before .before .before in omega (arith, sized-facts (s .args .m .now) (s .pre))
 
 returns : tie.Need-returns
 returns c =
-    let a = c .before .before .before .before .before .before .before .before .args in
-    let test = whole-test (a .sessions) (a .items) (a .m .now) (c .before .before .before .before .before .before .capacity .ensures) (c .before .before .before .before .before .count .ensures) in
-    rw (c .zeros2 .ensures, c .before .zeros .ensures) (sym (test ∙ rw (le-leb _ _ (c .before .before .before .before .if1 .taken), ← c .before .before .before .entries .ensures, c .before .before .if2 .taken) refl))
+    let zero = c .before .before in
+    let form = zero .before .before .before in
+    let n = form .before .before .before in
+    let a = n .before .before .before .args in
+    let test = whole-test (a .sessions) (a .items) (a .m .now) (n .before .capacity .ensures) (n .count .ensures) in
+    rw (c .is-zero2 .ensures, zero .is-zero .ensures, c .before .body-place .ensures, zero .before .route-place2 .ensures)
+    (sym (test ∙ rw (le-leb _ _ (form .before .before .if1 .taken), ← form .before .route-place .ensures, ← form .well-formed .ensures, zero .before .before .if2 .taken) refl))
 
 returns-2 : tie.Need-returns-2
 returns-2 c =
-    let a = c .before .before .before .before .before .before .args in
-    let test = whole-test (a .sessions) (a .items) (a .m .now) (c .before .before .before .before .capacity .ensures) (c .before .before .before .count .ensures) in
-    sym (test ∙ rw (le-leb _ _ (c .before .before .if1 .taken), ← c .before .entries .ensures, c .if2 .left) refl)
+    let form = c .before in
+    let n = form .before .before .before in
+    let a = n .before .before .before .args in
+    let test = whole-test (a .sessions) (a .items) (a .m .now) (n .before .capacity .ensures) (n .count .ensures) in
+    sym (test ∙ rw (le-leb _ _ (form .before .before .if1 .taken), ← form .before .route-place .ensures, ← form .well-formed .ensures, c .if2 .left) refl)
 
 returns-3 : tie.Need-returns-3
 returns-3 c =
-    let a = c .before .before .before .before .args in
-    let test = whole-test (a .sessions) (a .items) (a .m .now) (c .before .before .capacity .ensures) (c .before .count .ensures) in
+    let n = c .before in
+    let a = n .before .before .before .args in
+    let test = whole-test (a .sessions) (a .items) (a .m .now) (n .before .capacity .ensures) (n .count .ensures) in
     sym (test ∙ rw (lt-leb _ _ (c .if1 .left)) refl)
 
 pub well-formed-spec : {M : Type 1} → statement M
@@ -68,15 +66,12 @@ well-formed-spec =
     capacity-requires
     count-requires
     mul-left
-    entries-requires
-    mul-zeros
-    add-zeros
-    zeros-requires
-    mul-zeros-2
-    add-zeros-2
-    mul-zeros-3
-    add-zeros-3
-    zeros-requires-2
+    route-place-requires
+    well-formed-requires
+    route-place-requires-2
+    is-zero-requires
+    body-place-requires
+    is-zero-requires-2
     returns
     returns-2
     returns-3)

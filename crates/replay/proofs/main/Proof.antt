@@ -25,11 +25,11 @@ write-requires : tie.Need-write-requires
 write-requires c κs = search needs
 
 array-share-prefix-out : tie.Need-array-share-prefix-out
-array-share-prefix-out c = omega (arith, c .before .write .ensures .2, c .before .write .kept .1 .0)
+array-share-prefix-out c = omega (arith, c .before .write .ensures .1, c .before .write .kept .1 .0)
 
 slice-aggregate-write-all : tie.Need-slice-aggregate-write-all
 slice-aggregate-write-all c =
-    let w = c .before .before .write in sym (length-take-le (w .result) (w .last .1 .0) (omega (arith, w .ensures .2, w .kept .1 .0)))
+    let w = c .before .before .write in sym (length-take-le (w .result) (w .last .1 .0) (omega (arith, w .ensures .1, w .kept .1 .0)))
 
 write-all-requires : tie.Need-write-all-requires
 write-all-requires c κs = search needs

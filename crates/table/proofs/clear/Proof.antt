@@ -14,19 +14,19 @@ Inv-loop t₀ sessions items n k₀ t k = (k ≤ sessions) × (t ≡ begun sessi
 abbrev μ-loop : tie.MeasureT-loop
 μ-loop t₀ sessions items n k₀ t k = sessions - k
 
-zero-requires : tie.Need-zero-requires Inv-loop μ-loop
-zero-requires c κs = search needs
+clear-requires : tie.Need-clear-requires Inv-loop μ-loop
+clear-requires c κs = search needs
 
 slice-write-t : tie.Need-slice-write-t Inv-loop μ-loop
-slice-write-t c = omega (arith, c .before .before .zero .kept .0)
+slice-write-t c = omega (arith, c .before .before .clear .kept .0)
 
 slice-write-t-2 : tie.Need-slice-write-t-2 Inv-loop μ-loop
-slice-write-t-2 c = simp length-set (omega (arith, c .before .before .zero .kept .0))
+slice-write-t-2 c = simp length-set (omega (arith, c .before .before .clear .kept .0))
 
 loop-holds : tie.Need-loop-holds Inv-loop μ-loop
 loop-holds c =
     let a = c .before .before .before .before .before .args in
-    let zeroed = c .before .before .zero .ensures in (
+    let zeroed = c .before .before .clear .ensures in (
       omega arith,
       rw (zeroed, c .before .before .before .before .before .pre .4) (begun-none (a .sessions) (a .items)),
     )
@@ -77,7 +77,7 @@ clear-spec =
     (tie.spec
     Inv-loop
     μ-loop
-    zero-requires
+    clear-requires
     slice-write-t
     slice-write-t-2
     loop-holds

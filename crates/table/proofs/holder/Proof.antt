@@ -7,8 +7,8 @@ use Rattle.table.proofs.Laws.{header-fits, item-fits}
 use Rattle.table.proofs.holder.Statement.{statement}
 use Rattle.table.proofs.holder.Tie as tie
 
-shared-slice-read-item-place : tie.Need-shared-slice-read-item-place
-shared-slice-read-item-place c = let f = header-fits (c .before .before .args .t .now) (c .before .before .pre .0) in omega arith
+sessions-requires : tie.Need-sessions-requires
+sessions-requires c κs = header-fits (c .before .args .t .now) (c .before .pre .sized)
 
 item-place-requires : tie.Need-item-place-requires
 item-place-requires c κs = search needs
@@ -16,14 +16,14 @@ item-place-requires c κs = search needs
 shared-slice-read-result : tie.Need-shared-slice-read-result
 shared-slice-read-result c =
     let start = c .before .before .before .before in
-    let f = item-fits (start .args .t .now) (start .pre .0) (start .args .x) (omega arith) (omega arith) in
-    omega (arith, c .before .item-place .ensures)
+    let f = item-fits (start .args .t .now) (start .pre .sized) (start .args .x) (omega arith) (omega arith) in
+    omega (arith, c .before .item-place .ensures, c .before .before .sessions .ensures)
 
 returns : tie.Need-returns
 unfolding item
-returns c = rw (c .before .item-place .ensures) refl
+returns c = rw (c .before .item-place .ensures, c .before .before .sessions .ensures) refl
 
 pub holder-spec : {M : Type 1} → statement M
 holder-spec =
     tie.close
-    (tie.spec shared-slice-read-item-place item-place-requires shared-slice-read-result returns)
+    (tie.spec sessions-requires item-place-requires shared-slice-read-result returns)

@@ -7,25 +7,25 @@ use Rattle.table.proofs.Laws.{header-fits, item-fits}
 use Rattle.table.proofs.put_item.Statement.{statement}
 use Rattle.table.proofs.put_item.Tie as tie
 
-slice-read-item-place : tie.Need-slice-read-item-place
-slice-read-item-place c = let f = header-fits (c .before .before .args .t .now) (c .before .before .pre .0) in omega arith
+sessions-requires : tie.Need-sessions-requires
+sessions-requires c κs = header-fits (c .before .before .args .t .now) (c .before .before .pre .sized)
 
 item-place-requires : tie.Need-item-place-requires
 item-place-requires c κs = search needs
 
 store-requires : tie.Need-store-requires
 store-requires c κs =
-    let start = c .before .before .before .before in
-    rw (c .before .item-place .ensures) (item-fits (start .args .t .now) (start .pre .0) (start .args .x) (omega arith) (omega arith))
+    let start = c .before .before .before .before .before in
+    rw (c .before .item-place .ensures, c .before .before .sessions .ensures) (item-fits (start .args .t .now) (start .pre .sized) (start .args .x) (omega arith) (omega arith))
 
 same-length : tie.Need-same-length
 same-length c = search needs
 
 returns : tie.Need-returns
 unfolding withItem
-returns c = c .before .before .store .ensures ∙ rw (c .before .before .before .before .item-place .ensures) refl
+returns c = c .before .before .store .ensures ∙ rw (c .before .before .before .before .item-place .ensures, c .before .before .before .before .before .sessions .ensures) refl
 
 pub put-item-spec : {M : Type 1} → statement M
 put-item-spec =
     tie.close
-    (tie.spec slice-read-item-place item-place-requires store-requires same-length returns)
+    (tie.spec sessions-requires item-place-requires store-requires same-length returns)

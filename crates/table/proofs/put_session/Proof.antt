@@ -13,7 +13,7 @@ session-place-requires c κs = search needs
 store-requires : tie.Need-store-requires
 store-requires c κs =
     let start = c .before .before .before in
-    rw (c .session-place .ensures) (session-fits (start .args .t .now) (start .pre .0) (start .args .k) (omega arith) (omega arith))
+    rw (c .session-place .ensures) (session-fits (start .args .t .now) (start .pre .sized) (start .args .k) (omega arith) (omega arith))
 
 same-length : tie.Need-same-length
 same-length c = search needs

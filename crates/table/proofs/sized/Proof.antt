@@ -5,8 +5,9 @@ use native.Mathlib.Omega.{arith}
 use borrow.Author.Needs.{needs}
 use borrow.Author.Tests.{ne-eqb}
 use lib.ListN.{length}
-use Rattle.buffer.specs.Lists.{between}
-use Rattle.table.specs.Layout.{most, size, sessionsOf, itemsOf, sized}
+use Rattle.lists.specs.Lists.{between}
+use Rattle.message.specs.Limits.{maxSessions, maxItems}
+use Rattle.table.specs.Layout.{size, sessionsOf, itemsOf, sized}
 use Rattle.table.proofs.sized.Statement.{statement}
 use Rattle.table.proofs.sized.Tie as tie
 
@@ -16,21 +17,28 @@ returns c =
     let t = c .before .before .args .t .now in
     let S = sessionsOf t in
     let M = itemsOf t in
-    rw (ne-eqb (length t) (size S M) (λ e. omega arith)) (sym (and-false (between 1 most S && between 1 most M)))
+    rw (ne-eqb (length t) (size S M) (λ e. omega arith)) (sym (and-false (between 1 maxSessions S && between 1 maxItems M)))
 
-shared-slice-read-s : tie.Need-shared-slice-read-s
-shared-slice-read-s c = search needs
+sessions-requires : tie.Need-sessions-requires
+sessions-requires c κs = search needs
 
-shared-slice-read-m : tie.Need-shared-slice-read-m
-shared-slice-read-m c = search needs
+items-requires : tie.Need-items-requires
+items-requires c κs = search needs
 
-bytes-requires : tie.Need-bytes-requires
-bytes-requires c κs = search needs
+cast-result : tie.Need-cast-result
+cast-result c = search needs
+
+cast-result-2 : tie.Need-cast-result-2
+cast-result-2 c = search needs
+
+size-requires : tie.Need-size-requires
+size-requires c κs = search needs
 
 returns-2 : tie.Need-returns-2
 unfolding sized
-returns-2 c = rw (c .bytes .ensures) refl
+returns-2 c = rw (c .size .ensures, c .before .items .ensures, c .before .before .sessions .ensures) refl
 
 pub sized-spec : {M : Type 1} → statement M
 sized-spec =
-    tie.close (tie.spec returns shared-slice-read-s shared-slice-read-m bytes-requires returns-2)
+    tie.close
+    (tie.spec returns sessions-requires items-requires cast-result cast-result-2 size-requires returns-2)

@@ -37,7 +37,7 @@ use denote.Triple.Table.{entered}
 use denote.Triple.Walked.{says, needs, Stays, stay-ref, stay-none, walkOf, AllGo, goes-none, goes-ref, Walks, ends-at, walked, walk-meets}
 use denote.Exit.{yes}
 use Rattle.tally.specs.declared.Tally.{Tally}
-use Rattle.tally.specs.Tally.{added}
+use Rattle.tally.specs.Tally.{added, Fits}
 use Rattle.tally.proofs.Tally as T
 use Rattle.tally.proofs.Tally.Laws as T′
 use Rattle.tally.proofs.add.Key.{name as #tally·add}
@@ -48,13 +48,10 @@ use Rattle.tally.proofs.add.Code as code
 abbrev Arg : Type 0
 Arg = RefT Tally × (ℕ × (ℕ × (ℕ × Unit {0})))
 
-abbrev Fit : Tally → ℕ → ℕ → ℕ → Type 0
-Fit h c d r = (h .closed + c < 2 ^ 64) × (h .declared + d < 2 ^ 64) × (h .«rolled_back» + r < 2 ^ 64)
-
 abbrev stayed : Stays (f.ended .signature .params) (f.ended .kept)
 stayed = (stay-ref (0 ∷ []) tt (plain (λ _. T.the-row)), (stay-none (λ _. u64) yes, (stay-none (λ _. u64) yes, (stay-none (λ _. u64) yes, tt))))
 
-module _ {M : Type 1} (𝓤 : URA M) (H : Heap 𝓤) (A : Atoms 𝓤) (W : Given 𝓤 H A) (at-mem : Memory → SProp 𝓤) (run : Routine → Fun 𝓤) (κ : Lft) (q : Share) (b o : ℕ) (γ : GName) (h : Tally) (c d r : ℕ) (fit : Fit h c d r) where
+module _ {M : Type 1} (𝓤 : URA M) (H : Heap 𝓤) (A : Atoms 𝓤) (W : Given 𝓤 H A) (at-mem : Memory → SProp 𝓤) (run : Routine → Fun 𝓤) (κ : Lft) (q : Share) (b o : ℕ) (γ : GName) (h : Tally) (c d r : ℕ) (fit : Fits h c d r) where
   abbrev x : Arg
   x = (record { ptr = (b, o); name = γ; now = h }, (c, (d, (r, tt))))
 
@@ -72,7 +69,7 @@ module _ {M : Type 1} (𝓤 : URA M) (H : Heap 𝓤) (A : Atoms 𝓤) (W : Given
 
   -- what closing the borrow asks
   made : Is T.the-row h′ (mach ∷ [])
-  made = LL.owes T.the-type T′.the-laws h′ ((refl, fit .0), ((refl, fit .1), ((refl, fit .2), tt)))
+  made = LL.owes T.the-type T′.the-laws h′ ((refl, fit .closed-fits), ((refl, fit .declared-fits), ((refl, fit .rolled-fits), tt)))
 
   abbrev Post : Val → SProp 𝓤
   Post = walkOf 𝓤 H A f.ended stayed (f.clauses 𝓤 H A at-mem run) .post (((κ, tt), (q, tt), tt, x, at), tt)
@@ -101,14 +98,14 @@ module _ {M : Type 1} (𝓤 : URA M) (H : Heap 𝓤) (A : Atoms 𝓤) (W : Given
         move ! (1 ∷ []) $ peeks ! T.the-row (Is T.the-row) (shows 𝓤 H A T.the-row) h (LL.vals T.the-type T′.the-laws h) (λ was. move ! (1 ∷ 0 ∷ []) $
         -- [the cell; what a Tally owns; the open borrow; obs; auth; _6 at 5; _5 at 7; _4 at 9; _3 at 11; _2 at 13; _1 at 15; _0 at 17]
         assigns ! (of-opd ! (load ! (from ! (hop ! (look ! 15 refl) (fld ! refl (stop !)))) (look-in ! 0 (sub ! 0 refl (whole !))))) (from ! (stop !)) (init ! 7 refl (tt, record { fits = LL.owed T.the-type T′.the-laws h (LL.vals T.the-type T′.the-laws h) was .0 .1 })) $
-        assigns ! (bin ! (load ! (from ! (stop !)) (look ! 7 refl)) (load ! (from ! (stop !)) (look ! 13 refl)) (record { fits = fit .0 })) (from ! (stop !)) (init ! 5 refl (tt, record { fits = fit .0 })) $
-        assigns ! (of-opd ! (load ! (from ! (stop !)) (look ! 5 refl))) (from ! (hop ! (look ! 15 refl) (fld ! refl (stop !)))) (store-in ! 0 (sub ! 0 refl (whole !)) (tt, record { fits = fit .0 })) $
+        assigns ! (bin ! (load ! (from ! (stop !)) (look ! 7 refl)) (load ! (from ! (stop !)) (look ! 13 refl)) (record { fits = fit .closed-fits })) (from ! (stop !)) (init ! 5 refl (tt, record { fits = fit .closed-fits })) $
+        assigns ! (of-opd ! (load ! (from ! (stop !)) (look ! 5 refl))) (from ! (hop ! (look ! 15 refl) (fld ! refl (stop !)))) (store-in ! 0 (sub ! 0 refl (whole !)) (tt, record { fits = fit .closed-fits })) $
         assigns ! (of-opd ! (load ! (from ! (hop ! (look ! 15 refl) (fld ! refl (stop !)))) (look-in ! 0 (sub ! 1 refl (whole !))))) (from ! (stop !)) (store ! 7 refl (tt, record { fits = LL.owed T.the-type T′.the-laws h (LL.vals T.the-type T′.the-laws h) was .1 .0 .1 })) $
-        assigns ! (bin ! (load ! (from ! (stop !)) (look ! 7 refl)) (load ! (from ! (stop !)) (look ! 11 refl)) (record { fits = fit .1 })) (from ! (stop !)) (store ! 5 refl (tt, record { fits = fit .1 })) $
-        assigns ! (of-opd ! (load ! (from ! (stop !)) (look ! 5 refl))) (from ! (hop ! (look ! 15 refl) (fld ! refl (stop !)))) (store-in ! 0 (sub ! 1 refl (whole !)) (tt, record { fits = fit .1 })) $
+        assigns ! (bin ! (load ! (from ! (stop !)) (look ! 7 refl)) (load ! (from ! (stop !)) (look ! 11 refl)) (record { fits = fit .declared-fits })) (from ! (stop !)) (store ! 5 refl (tt, record { fits = fit .declared-fits })) $
+        assigns ! (of-opd ! (load ! (from ! (stop !)) (look ! 5 refl))) (from ! (hop ! (look ! 15 refl) (fld ! refl (stop !)))) (store-in ! 0 (sub ! 1 refl (whole !)) (tt, record { fits = fit .declared-fits })) $
         assigns ! (of-opd ! (load ! (from ! (hop ! (look ! 15 refl) (fld ! refl (stop !)))) (look-in ! 0 (sub ! 2 refl (whole !))))) (from ! (stop !)) (store ! 7 refl (tt, record { fits = LL.owed T.the-type T′.the-laws h (LL.vals T.the-type T′.the-laws h) was .1 .1 .0 .1 })) $
-        assigns ! (bin ! (load ! (from ! (stop !)) (look ! 7 refl)) (load ! (from ! (stop !)) (look ! 9 refl)) (record { fits = fit .2 })) (from ! (stop !)) (store ! 5 refl (tt, record { fits = fit .2 })) $
-        assigns ! (of-opd ! (load ! (from ! (stop !)) (look ! 5 refl))) (from ! (hop ! (look ! 15 refl) (fld ! refl (stop !)))) (store-in ! 0 (sub ! 2 refl (whole !)) (tt, record { fits = fit .2 })) $
+        assigns ! (bin ! (load ! (from ! (stop !)) (look ! 7 refl)) (load ! (from ! (stop !)) (look ! 9 refl)) (record { fits = fit .rolled-fits })) (from ! (stop !)) (store ! 5 refl (tt, record { fits = fit .rolled-fits })) $
+        assigns ! (of-opd ! (load ! (from ! (stop !)) (look ! 5 refl))) (from ! (hop ! (look ! 15 refl) (fld ! refl (stop !)))) (store-in ! 0 (sub ! 2 refl (whole !)) (tt, record { fits = fit .rolled-fits })) $
         assigns ! (of-opd ! (unit-lit !)) (from ! (stop !)) (init ! 17 refl (tt, tt)) $
         move ! (1 ∷ []) $ drop ! $ owned ! T.the-row (Is T.the-row) ((LL.makes T.the-type T′.the-plain) 𝓤 H A) h′ _ made $ move ! (1 ∷ 0 ∷ []) $ closes ! tt T.the-row h′ (mach ∷ []) b o $
         -- [obs; the borrow; the token; _6 at 3; ..; _0 at 15]
@@ -121,7 +118,7 @@ module _ {M : Type 1} (𝓤 : URA M) (H : Heap 𝓤) (A : Atoms 𝓤) (W : Given
   add-walks : (C : Calls 𝓤 H) (Λ : Loops 𝓤 H) → Walks 𝓤 H A f.ended stayed (WpFn 𝓤 H C Λ code.function) (f.clauses 𝓤 H A at-mem run)
   add-walks C Λ = walked 𝓤 H A f.ended stayed (f.clauses 𝓤 H A at-mem run) (WpFn 𝓤 H C Λ code.function) (λ κs. (ptr-vals, (uint-vals w64, (uint-vals w64, (uint-vals w64, tt)))))
       (λ κs. (mut-tells (named 0) (κs .0) T.the-row, (uint-tells w64, (uint-tells w64, (uint-tells w64, tt)))))
-      (λ κs qs bounds a _ _. needs 𝓤 (Fit (a .0 .now) (a .1 .0) (a .1 .1 .0) (a .1 .1 .1 .0)) _
+      (λ κs qs bounds a _ _. needs 𝓤 (Fits (a .0 .now) (a .1 .0) (a .1 .1 .0) (a .1 .1 .1 .0)) _
       (λ fit. walk 𝓤 H A W at-mem run (κs .0) (qs .0) (a .0 .ptr .0) (a .0 .ptr .1) (a .0 .name) (a .0 .now) (a .1 .0) (a .1 .1 .0) (a .1 .1 .1 .0) fit C Λ))
 
   goes : AllGo 𝓤 H A W 1 (f.signature .params) (f.ended .kept) stayed

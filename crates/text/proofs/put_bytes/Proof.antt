@@ -5,7 +5,7 @@ use native.Mathlib.Omega.{arith}
 use native.Mathlib.Numerals.{add-one}
 use lib.ListN.{length, length-set}
 use lib.Seq.{paste, paste-zero, paste-suc}
-use Rattle.buffer.proofs.Laws.{paste-over}
+use Rattle.buffer.proofs.Laws.{paste-splice}
 use Rattle.text.proofs.put_bytes.Statement.{statement}
 use Rattle.text.proofs.put_bytes.Tie as tie
 
@@ -53,7 +53,7 @@ returns c =
     let a = c .before .before .args in
     let l = c .before .loop in
     let all : l .i ≡ length (a .bytes .now) = omega arith in
-    (l .inv .2 ∙ paste-over (a .out .now) (a .at) (a .bytes .now) (l .i) (sym all), ap (λ (n : ℕ). a .at + n) all)
+    (l .inv .2 ∙ paste-splice (a .out .now) (a .at) (a .bytes .now) (l .i) (sym all), ap (λ (n : ℕ). a .at + n) all)
 
 pub put-bytes-spec : {M : Type 1} → statement M
 put-bytes-spec =

@@ -4,15 +4,15 @@ use Prim.Native.Nat.{_+_, _-_, _≤_}
 use native.Mathlib.Omega.{arith}
 use lib.ListN.{length, take, length-set}
 use lib.Seq.{take-all}
-use Rattle.buffer.specs.Bytes.{over}
+use Rattle.buffer.specs.Bytes.{splice}
 use Rattle.text.specs.Text.{spaced}
-use Rattle.text.proofs.Laws.{over-none, spaced-put, spaced-room}
+use Rattle.text.proofs.Laws.{splice-none, spaced-put, spaced-room}
 use Rattle.text.proofs.put_spaced.Statement.{statement}
 use Rattle.text.proofs.put_spaced.Tie as tie
 
 abbrev Inv-loop : tie.InvT-loop
 Inv-loop out₀ at numbers next₀ i₀ out next i =
-    (i ≤ length numbers) × (length out ≡ length out₀) × (out ≡ over out₀ at (spaced (take i numbers))) × (next ≡ at + length (spaced (take i numbers)))
+    (i ≤ length numbers) × (length out ≡ length out₀) × (out ≡ splice out₀ at (spaced (take i numbers))) × (next ≡ at + length (spaced (take i numbers)))
 
 abbrev μ-loop : tie.MeasureT-loop
 μ-loop out₀ at numbers next₀ i₀ out next i = length numbers - i
@@ -20,7 +20,7 @@ abbrev μ-loop : tie.MeasureT-loop
 loop-holds : tie.Need-loop-holds Inv-loop μ-loop
 unfolding spaced
 loop-holds c =
-    let a = c .before .before .args in (omega arith, refl, sym (over-none (a .out .now) (a .at)), omega arith)
+    let a = c .before .before .args in (omega arith, refl, sym (splice-none (a .out .now) (a .at)), omega arith)
 
 slice-write-out : tie.Need-slice-write-out Inv-loop μ-loop
 slice-write-out c =

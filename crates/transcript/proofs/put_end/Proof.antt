@@ -3,9 +3,9 @@ use native.Mathlib.Omega.{arith}
 use mathlib.Core.List.{[], _∷_}
 use lib.ListN.{length-append}
 use Rattle.text.specs.Text.{rest}
-use Rattle.text.proofs.Laws.{over-then}
+use Rattle.text.proofs.Laws.{splice-then}
 use Rattle.transcript.specs.Transcript.{endWord, endLine}
-use Rattle.transcript.specs.Records.{tallyOf}
+use Rattle.tally.specs.Steps.{tallyOf}
 use Rattle.transcript.proofs.Lines.{end-short}
 use borrow.Author.Needs.{needs}
 use Rattle.transcript.proofs.put_end.Statement.{statement}
@@ -42,7 +42,7 @@ returns c =
     let l = a .left ∷ y .closed ∷ y .declared ∷ y .rolledBack ∷ [] in
     let len = length-append endWord (rest l) in
     let short = end-short (a .left) y (s .pre .0) (s .pre .1) (s .pre .2) (s .pre .3) in (
-      over-then (a .out .now) (a .at) endWord (rest l) (omega arith) (p .ensures .0) (p .ensures .1) (e .ensures .0),
+      splice-then (a .out .now) (a .at) endWord (rest l) (omega arith) (p .ensures .0) (p .ensures .1) (e .ensures .0),
       omega (arith, p .ensures .1, e .ensures .1),
       omega (arith, p .ensures .1, e .ensures .1),
     )

@@ -2,9 +2,9 @@
 use native.Mathlib.Omega.{arith}
 use lib.ListN.{length-append}
 use Rattle.text.specs.Text.{decimal, rest}
-use Rattle.text.proofs.Laws.{over-then, length-decimal}
+use Rattle.text.proofs.Laws.{splice-then, length-decimal}
 use Rattle.transcript.specs.Transcript.{stepLine}
-use Rattle.transcript.specs.Records.{stepOf}
+use Rattle.tally.specs.Steps.{stepOf}
 use Rattle.transcript.proofs.Lines.{numbers, step-short}
 use borrow.Author.Needs.{needs}
 use Rattle.transcript.proofs.put_step.Statement.{statement}
@@ -61,7 +61,7 @@ returns c =
     let l = numbers (stepOf (a .c)) (a .a) in
     let short = step-short (a .index) (stepOf (a .c)) (a .a) (s .pre .0) (omega arith) (omega arith) (omega arith) (omega arith) (omega arith) (omega arith) (omega arith) (omega (arith, c .before .before .before .before .before .struct-known8 .given)) in
     let len = length-append (decimal (a .index)) (rest l) in (
-      over-then (a .out .now) (a .at) (decimal (a .index)) (rest l) (omega arith) (d .ensures .0) (d .ensures .1) (e .ensures .0),
+      splice-then (a .out .now) (a .at) (decimal (a .index)) (rest l) (omega arith) (d .ensures .0) (d .ensures .1) (e .ensures .0),
       omega (arith, d .ensures .1, e .ensures .1),
       omega (arith, d .ensures .1, e .ensures .1),
     )

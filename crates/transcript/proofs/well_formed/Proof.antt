@@ -3,14 +3,14 @@ use mathlib.Core.Path.{refl, sym}
 use mathlib.Core.Bool.{_&&_, and-false}
 use Prim.Native.Nat.{_<_}
 use native.Mathlib.Omega.{arith}
-use borrow.Author.Needs.{needs}
 use borrow.Author.Tests.{ne-eqb}
 use lib.Dec.{leb}
 use lib.ListN.{length}
-use Rattle.buffer.specs.Lists.{between}
-use Rattle.buffer.proofs.Laws.{fromBytes-part-bound}
-use Rattle.table.specs.Layout as Table
-use Rattle.transcript.specs.Input.{sessionsIn, itemsIn, countIn, mostSteps, size, wellFormed}
+use Rattle.lists.specs.Lists.{between}
+use Rattle.buffer.proofs.Laws.{fromBytes-slice-bound}
+use Rattle.message.specs.Limits.{maxSessions, maxItems}
+use Rattle.transcript.specs.Input.{sessionsIn, itemsIn, countIn, maxSteps, size, wellFormed}
+use borrow.Author.Needs.{needs}
 use Rattle.transcript.proofs.well_formed.Statement.{statement}
 use Rattle.transcript.proofs.well_formed.Tie as tie
 
@@ -19,7 +19,7 @@ unfolding wellFormed
 returns c =
     let t = c .before .before .args .input .now in
     rw (ne-eqb (length t) (size (countIn t)) (λ e. omega arith))
-    (sym (and-false (between 1 Table.most (sessionsIn t) && between 1 Table.most (itemsIn t) && leb (countIn t) mostSteps)))
+    (sym (and-false (between 1 maxSessions (sessionsIn t) && between 1 maxItems (itemsIn t) && leb (countIn t) maxSteps)))
 
 shared-slice-read-s : tie.Need-shared-slice-read-s
 shared-slice-read-s c = search needs
@@ -30,17 +30,22 @@ shared-slice-read-m c = search needs
 get16-requires : tie.Need-get16-requires
 get16-requires c κs = search needs
 
+few : (c : tie.After-get16) → countIn (c .before .before .before .before .before .args .input .now) < 65536
+few c =
+    let s = c .before .before .before .before .before in
+    fromBytes-slice-bound (s .args .input .now) 2 2 (omega arith) (λ i f. omega (arith, c .before .before .shared-slice-known2 .given i))
+
+cast-result : tie.Need-cast-result
+cast-result c = omega (arith, c .before .before .shared-slice-known2 .given 0)
+
+cast-result-2 : tie.Need-cast-result-2
+cast-result-2 c = omega (arith, c .before .shared-slice-known3 .given 1)
+
 mul-result : tie.Need-mul-result
-mul-result c =
-    let t = c .before .before .before .before .before .args .input .now in
-    let low : countIn t < 65536 = fromBytes-part-bound t 2 2 (omega arith) (λ i f. omega (arith, c .before .before .shared-slice-known2 .given i)) in
-    omega (arith, c .get16 .ensures)
+mul-result c = omega (arith, c .get16 .ensures, few c)
 
 add-result : tie.Need-add-result
-add-result c =
-    let t = c .before .before .before .before .before .args .input .now in
-    let low : countIn t < 65536 = fromBytes-part-bound t 2 2 (omega arith) (λ i f. omega (arith, c .before .before .shared-slice-known2 .given i)) in
-    omega (arith, c .get16 .ensures)
+add-result c = omega (arith, c .get16 .ensures, few c)
 
 returns-2 : tie.Need-returns-2
 unfolding wellFormed
@@ -54,6 +59,8 @@ well-formed-spec =
     shared-slice-read-s
     shared-slice-read-m
     get16-requires
+    cast-result
+    cast-result-2
     mul-result
     add-result
     returns-2)

@@ -1,17 +1,40 @@
--- `write` meets its contract: any other input is bad; else its steps are played in buffers of the right sizes.
-use mathlib.Core.Path.{sym, ap, _∙_}
-use Prim.Native.Nat.{ℕ}
+-- `write` meets its contract: a short buffer is left; any other input is bad; else its steps are played in buffers of the right sizes.
+use mathlib.Core.Path.{_≡_, sym, ap, _∙_}
+use mathlib.Core.Bool.{true}
+use Prim.Native.Nat.{ℕ, _≤_, zero-le}
 use native.Mathlib.Omega.{arith}
 use borrow.Author.Tests.{not-true, not-false}
 use lib.ListN.{length, replicate, length-replicate}
 use lib.Seq.{length-take-le}
-use Rattle.buffer.specs.Bytes.{over}
+use Rattle.buffer.specs.Bytes.{splice}
+use Rattle.message.specs.Limits.{maxSessions, maxItems}
 use Rattle.mailbox.specs.Layout as Mail
-use Rattle.transcript.specs.Transcript.{capacity}
-use Rattle.transcript.proofs.Playing.{known, bad-input}
+use Rattle.table.specs.Layout as Table
+use Rattle.transcript.specs.Input.{wellFormed}
+use Rattle.transcript.specs.Transcript.{capacity, longest}
+use Rattle.transcript.proofs.Playing.{Known, known, bad-input, write-short, write-long}
 use borrow.Author.Needs.{needs}
 use Rattle.transcript.proofs.write.Statement.{statement}
 use Rattle.transcript.proofs.write.Tie as tie
+
+abbrev begin : tie.After-well-formed → tie.Start
+begin c = c .before .before .before .before
+
+long : (c : tie.After-well-formed) → longest ≤ length (begin c .args .out .now)
+long c = omega (arith, c .before .if1 .left)
+
+good : (c : tie.Else2) → wellFormed (begin (c .before) .args .input .now) ≡ true
+good c = let r = c .before .well-formed in sym (r .ensures) ∙ not-false (r .result) (c .if2 .left)
+
+input : (c : tie.Else2) → Known (begin (c .before) .args .input .now)
+input c = known (begin (c .before) .args .input .now) (good c)
+
+-- the part of the largest table that is lent
+lent : (c : tie.After-size) → c .size .result ≤ Table.size maxSessions maxItems
+lent c = let i = input (c .before .before .before) in omega (arith, c .size .ensures)
+
+returns : tie.Need-returns
+returns c = let a = c .before .before .before .args in (write-short (a .input .now) (a .out .now) (c .if1 .taken), zero-le)
 
 well-formed-requires : tie.Need-well-formed-requires
 well-formed-requires c κs = search needs
@@ -25,76 +48,69 @@ put-bytes-requires c κs = search needs
 same-length : tie.Need-same-length
 same-length c = search needs
 
-returns : tie.Need-returns
-returns c =
-    let s = c .before .before .before .before .before .before .before .before .before in
+returns-2 : tie.Need-returns-2
+returns-2 c =
+    let b = c .before .before .before .before .before .before in
+    let a = begin b .args in
     let p = c .before .before .put-bytes in
-    let r = c .before .before .before .before .before .before .well-formed in
-    let e = bad-input (s .args .input .now) (sym (r .ensures) ∙ not-true (r .result) (c .before .before .before .before .before .if1 .taken)) in
-    (p .ensures .0 ∙ ap (over (s .args .out .now) 0) (sym e), p .ensures .1 ∙ ap length (sym e), omega (arith, p .ensures .1))
+    let r = b .well-formed in
+    let e = bad-input (a .input .now) (sym (r .ensures) ∙ not-true (r .result) (c .before .before .before .before .before .if2 .taken)) in
+    (write-long (a .input .now) (a .out .now) (long b) (p .ensures .0 ∙ ap (splice (a .out .now) 0) (sym e)) (p .ensures .1 ∙ ap length (sym e)), omega (arith, p .ensures .1))
 
-shared-slice-read-table-bytes : tie.Need-shared-slice-read-table-bytes
-shared-slice-read-table-bytes c =
-    let r = c .before .before .well-formed in
-    let i = known (c .before .before .before .before .before .args .input .now) (sym (r .ensures) ∙ not-false (r .result) (c .before .if1 .left)) in omega arith
+shared-slice-read-size : tie.Need-shared-slice-read-size
+shared-slice-read-size c = let i = input (c .before) in omega arith
 
-shared-slice-read-table-bytes-2 : tie.Need-shared-slice-read-table-bytes-2
-shared-slice-read-table-bytes-2 c =
-    let r = c .before .before .before .well-formed in
-    let i = known (c .before .before .before .before .before .before .args .input .now) (sym (r .ensures) ∙ not-false (r .result) (c .before .before .if1 .left)) in omega arith
+shared-slice-read-size-2 : tie.Need-shared-slice-read-size-2
+shared-slice-read-size-2 c = let i = input (c .before .before) in omega arith
 
-table-bytes-requires : tie.Need-table-bytes-requires
-table-bytes-requires c κs = search needs
+size-requires : tie.Need-size-requires
+size-requires c κs = search needs
 
 array-borrow-prefix-table : tie.Need-array-borrow-prefix-table
-array-borrow-prefix-table c =
-    let r = c .before .before .before .before .well-formed in
-    let i = known (c .before .before .before .before .before .before .before .args .input .now) (sym (r .ensures) ∙ not-false (r .result) (c .before .before .before .if1 .left)) in omega (arith, c .table-bytes .ensures)
+array-borrow-prefix-table c = lent c
 
 slice-aggregate-play : tie.Need-slice-aggregate-play
-slice-aggregate-play c =
-    let r = c .before .before .before .before .before .well-formed in
-    let i = known (c .before .before .before .before .before .before .before .before .args .input .now) (sym (r .ensures) ∙ not-false (r .result) (c .before .before .before .before .if1 .left)) in
-    let n = c .before .table-bytes in
-    sym (length-take-le (n .result) (replicate 8962 0) (omega (arith, n .ensures)))
+slice-aggregate-play c = sym (length-take-le (c .before .size .result) (replicate (Table.size maxSessions maxItems) 0) (omega (arith, lent (c .before))))
 
 slice-aggregate-play-2 : tie.Need-slice-aggregate-play-2
 slice-aggregate-play-2 c = search needs
 
 play-requires : tie.Need-play-requires
 play-requires c κs =
-    let r = c .before .before .before .before .before .before .before .well-formed in
-    let t = c .before .before .before .before .before .before .before .before .before .before .args .input .now in
-    let w = sym (r .ensures) ∙ not-false (r .result) (c .before .before .before .before .before .before .if1 .left) in
-    let i = known t w in
-    let n = c .before .before .before .table-bytes in (
-      w,
-      length-take-le (n .result) (replicate 8962 0) (omega (arith, n .ensures)) ∙ n .ensures,
+    let b = c .before .before .before in
+    let e = b .before .before .before in (
+      good e,
+      length-take-le (b .size .result) (replicate (Table.size maxSessions maxItems) 0) (omega (arith, lent b)) ∙ b .size .ensures,
       length-replicate {A = ℕ} (Mail.size capacity) 0,
-      c .before .before .before .before .before .before .before .before .before .before .pre,
+      long (e .before),
     )
 
 same-length-2 : tie.Need-same-length-2
 same-length-2 c = search needs
 
-returns-2 : tie.Need-returns-2
-returns-2 c = search needs
+returns-3 : tie.Need-returns-3
+returns-3 c =
+    let p = c .before .before .before .before in
+    let b = p .before .before .before .before .before .before .before .before in
+    let a = begin b .args in
+    (write-long (a .input .now) (a .out .now) (long b) (p .play .ensures .0) (p .play .ensures .1), p .play .ensures .2)
 
 pub write-spec : {M : Type 1} → statement M
 write-spec =
     tie.close
     (tie.spec
+    returns
     well-formed-requires
     slice-aggregate-put-bytes
     put-bytes-requires
     same-length
-    returns
-    shared-slice-read-table-bytes
-    shared-slice-read-table-bytes-2
-    table-bytes-requires
+    returns-2
+    shared-slice-read-size
+    shared-slice-read-size-2
+    size-requires
     array-borrow-prefix-table
     slice-aggregate-play
     slice-aggregate-play-2
     play-requires
     same-length-2
-    returns-2)
+    returns-3)

@@ -4,6 +4,7 @@ use mathlib.Core.Logic.{⊎-elim}
 use Prim.Native.Nat.{ℕ, suc, _≤_, _-_, zero-le}
 use native.Mathlib.Omega.{arith}
 use lib.ListN.{getD}
+use Rattle.message.specs.Limits.{maxSessions}
 use Rattle.waits.specs.Waits.{waitsAt}
 use Rattle.waits.specs.OnTable.{locks}
 use Rattle.waits.proofs.Laws.{Queue, item-queue, holder-read, placesMarked, places-free, places-first, places-last, mark-write, mark-keep}
@@ -21,29 +22,29 @@ queue : (c : tie.After-item Inv-loop μ-loop) → Queue (c .item .result)
 queue c =
     let a = c .before .before .before .before .args in
     let p = c .before .before .before .before .pre in
-    item-queue (a .t .now) (p .0) (p .1) (a .x) (p .2) (p .3) (c .item .ensures)
+    item-queue (a .t .now) (p .0) (p .1) (c .item .ensures)
 
 -- the session at which the loop stands
-here : (c : tie.In-loop Inv-loop μ-loop) → (1 ≤ getD (c .before .before .item .result .queue) (c .before .loop .j) 0) × (getD (c .before .before .item .result .queue) (c .before .loop .j) 0 ≤ 64)
+here : (c : tie.In-loop Inv-loop μ-loop) → (1 ≤ getD (c .before .before .item .result .queue) (c .before .loop .j) 0) × (getD (c .before .before .item .result .queue) (c .before .loop .j) 0 ≤ maxSessions)
 here c = queue (c .before .before) .session (c .before .loop .j) (c .loop-test .taken)
 
 holder-requires : tie.Need-holder-requires Inv-loop μ-loop
-holder-requires c κs = let p = c .before .pre in (p .0, p .2, p .3)
+holder-requires c κs = c .before .pre .1
 
 returns : tie.Need-returns Inv-loop μ-loop
 returns c =
     let a = c .before .before .before .args in
     let p = c .before .before .before .pre in
-    p .4 ∙ places-free (a .t .now) (a .x) (p .2) (sym (holder-read (a .t .now) (a .x) (c .before .holder .ensures)) ∙ c .if1 .taken)
+    p .2 ∙ places-free (a .t .now) (p .1) (sym (holder-read (a .t .now) (a .x) (c .before .holder .ensures)) ∙ c .if1 .taken)
 
 item-requires : tie.Need-item-requires Inv-loop μ-loop
-item-requires c κs = let p = c .before .before .before .pre in (p .0, p .2, p .3)
+item-requires c κs = c .before .before .before .pre .1
 
 loop-holds : tie.Need-loop-holds Inv-loop μ-loop
 loop-holds c =
     let a = c .before .before .before .before .args in
     let p = c .before .before .before .before .pre in
-    (zero-le, p .4 ∙ places-first (a .t .now) (a .x) (p .2) (c .item .result))
+    (zero-le, p .2 ∙ places-first (a .t .now) (p .1) (c .item .result))
 
 cast-loop : tie.Need-cast-loop Inv-loop μ-loop
 cast-loop c = let q = queue (c .before) in omega arith
@@ -93,7 +94,7 @@ returns-2 c =
     let held = holder-read (a .t .now) (a .x) (c .before .before .before .before .holder .ensures) in
     let all : c .before .loop .j ≡ c .before .before .item .result .waiting = omega arith in
     (rw (all) at (c .before .loop .inv .1))
-    ∙ places-last (a .t .now) (a .x) (p .2) (λ z. c .before .before .before .if1 .left (held ∙ z)) (c .before .before .item .ensures)
+    ∙ places-last (a .t .now) (p .1) (λ z. c .before .before .before .if1 .left (held ∙ z)) (c .before .before .item .ensures)
 
 pub mark-spec : {M : Type 1} → statement M
 mark-spec =

@@ -2,9 +2,10 @@
 use mathlib.Core.Path.{_≡_, sym, ap, _∙_}
 use Prim.Native.Nat.{ℕ, _≤_, _+_, _-_}
 use native.Mathlib.Omega.{arith}
-use Rattle.table.specs.Layout.{itemsOf}
-use Rattle.table.proofs.Laws.{sized-facts}
-use Rattle.waits.proofs.Laws.{index-in, placesAmong, places-none}
+use Rattle.table.specs.Layout.{itemsOf, HasItem}
+use Rattle.table.proofs.Laws.{sized-facts, header-fits}
+use Rattle.waits.specs.Places.{placesAmong}
+use Rattle.waits.proofs.Laws.{places-none}
 use Rattle.waits.proofs.places.Statement.{statement}
 use Rattle.waits.proofs.places.Tie as tie
 
@@ -14,37 +15,44 @@ Inv-loop t items at₀ x₀ at x = (1 ≤ x) × (x ≤ items + 1) × (at ≡ pla
 abbrev μ-loop : tie.MeasureT-loop
 μ-loop t items at₀ x₀ at x = items + 1 - x
 
-shared-slice-read-items : tie.Need-shared-slice-read-items Inv-loop μ-loop
-shared-slice-read-items c =
-    let a = c .before .before .args in index-in (a .t .now) 1 (sized-facts (a .t .now) (c .before .before .pre .0) .some-items)
+abbrev begin : tie.After-items Inv-loop μ-loop → tie.Start Inv-loop μ-loop
+begin c = c .before .before
+
+-- x is one of the items
+here : (c : tie.In-loop Inv-loop μ-loop) → HasItem (begin (c .before .before) .args .t .now) (c .before .loop .x)
+here c =
+    let i = c .before .before .items .ensures in
+    record { sized = begin (c .before .before) .pre .sized; low = c .before .loop .inv .0; high = omega (arith, i, c .loop-test .taken) }
+
+items-requires : tie.Need-items-requires Inv-loop μ-loop
+items-requires c κs = let s = c .before in header-fits (s .args .t .now) (s .pre .sized)
 
 loop-holds : tie.Need-loop-holds Inv-loop μ-loop
-loop-holds c = (omega arith, omega arith, places-none (c .before .before .args .t .now))
+loop-holds c = (omega arith, omega arith, places-none (begin c .args .t .now))
 
 mark-requires : tie.Need-mark-requires Inv-loop μ-loop
-mark-requires c κs =
-    let p = c .before .before .before .before .before .pre in
-    let i = c .before .before .loop .inv in (p .0, p .1, i .0, c .before .loop-test .taken, i .2)
+mark-requires c κs = let l = c .before .before in (begin (l .before) .pre, here (c .before), l .loop .inv .2)
 
 add-x : tie.Need-add-x Inv-loop μ-loop
 add-x c =
-    let b = sized-facts (c .before .before .before .before .before .before .args .t .now) (c .before .before .before .before .before .before .pre .0) in
-    omega (arith, b .most-items, c .before .before .loop-test .taken)
+    let d = c .before .before in
+    let s = begin (d .before .before) in
+    omega (arith, sized-facts (s .args .t .now) (s .pre .sized) .max-items, here d .high)
 
 loop-less : tie.Need-loop-less Inv-loop μ-loop
 loop-less c = omega arith
 
 loop-again : tie.Need-loop-again Inv-loop μ-loop
 loop-again c =
-    let t = c .before .before .before .before .before .before .args .t .now in
-    let x = c .before .before .before .loop .x in
+    let l = c .before .before .before in
+    let x = l .loop .x in
     let same : x + 1 - 1 ≡ x = omega arith in
-    (omega arith, omega (arith, c .before .before .loop-test .taken), c .mark .ensures ∙ ap (λ (n : ℕ). placesAmong n t) (sym same))
+    (omega arith, omega (arith, c .before .before .loop-test .taken), c .mark .ensures ∙ ap (λ (n : ℕ). placesAmong n (begin (l .before) .args .t .now)) (sym same))
 
 returns : tie.Need-returns Inv-loop μ-loop
 returns c =
-    let t = c .before .before .before .before .args .t .now in
-    let all : c .before .loop .x - 1 ≡ itemsOf t = omega arith in
+    let t = begin (c .before .before) .args .t .now in
+    let all : c .before .loop .x - 1 ≡ itemsOf t = omega (arith, c .before .before .items .ensures) in
     c .before .loop .inv .2 ∙ ap (λ (n : ℕ). placesAmong n t) all
 
 pub places-spec : {M : Type 1} → statement M
@@ -53,7 +61,7 @@ places-spec =
     (tie.spec
     Inv-loop
     μ-loop
-    shared-slice-read-items
+    items-requires
     loop-holds
     mark-requires
     add-x

@@ -5,8 +5,8 @@ use native.Mathlib.Omega.{arith}
 use borrow.Author.Tests.{eq-eqb, ne-eqb}
 use lib.ListN.{getD, length}
 use lib.Seq.{getD-take}
-use Rattle.buffer.specs.Lists.{removeAt}
-use Rattle.buffer.proofs.ListLaws.{removeAt-length}
+use Rattle.lists.specs.Lists.{removeAt}
+use Rattle.lists.proofs.Laws.{removeAt-length}
 use Rattle.session.specs.Seniority.{senior}
 use Rattle.item.specs.NextHolder.{nextHolder}
 use Rattle.item.specs.Record.{unpacked}
@@ -41,11 +41,11 @@ without-requires c κs = search needs
 
 handed-over-requires : tie.Need-handed-over-requires
 handed-over-requires c κs =
-    let s = c .before .before .before .before .before .before .before .before in
+    let s = c .before .before .before .before .before .before .before in
     let i = s .args .self in
     let q = unpacked i .queue in
-    let next = c .before .before .before .next-holder in
-    let rest = c .before .without in
+    let next = c .before .before .next-holder in
+    let rest = c .without in
     let n = queue-length i (s .pre) in
     let k = getD (i .queue) (next .result) 0 in
     holds-packed _ k (removeAt (next .result) q) (holds-other (rest .result) (i .holder) (removeAt (next .result) q) (rest .ensures) k) (omega (arith, s .pre .fits, next .ensures .1, removeAt-length (next .result) q (omega arith)))
@@ -53,16 +53,16 @@ handed-over-requires c κs =
 returns-3 : tie.Need-returns-3
 unfolding onRelease
 returns-3 c =
-    let s = c .before .before .before .before .before .before .before .before .before in
+    let s = c .before .before .before .before .before .before .before .before in
     let i = s .args .self in
     let q = unpacked i .queue in
-    let next = c .before .before .before .before .next-holder in
-    let rest = c .before .before .without in
+    let next = c .before .before .before .next-holder in
+    let rest = c .before .without in
     let n = queue-length i (s .pre) in
     let some : 0 < length q = omega (arith, next .ensures .1) in
     let first : getD q (next .result) 0 ≡ getD (i .queue) (next .result) 0 = getD-take (i .waiting) (i .queue) (next .result) 0 (next .ensures .1) in
     let left = holds-queue (rest .result) (i .holder) (removeAt (next .result) q) (rest .ensures) in
-    rw (eq-eqb _ _ (c .before .before .before .before .before .before .before .if1 .left), vacated-more senior nextHolder q some, ← next .ensures .0, first, ← left) (c .handed-over .ensures)
+    rw (eq-eqb _ _ (c .before .before .before .before .before .before .if1 .left), vacated-more senior nextHolder q some, ← next .ensures .0, first, ← left) (c .handed-over .ensures)
 
 pub on-release-spec : {M : Type 1} → statement M
 on-release-spec =

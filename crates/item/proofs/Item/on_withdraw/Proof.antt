@@ -2,21 +2,18 @@
 use mathlib.Core.Path.{ap, _∙_}
 use mathlib.Core.List.{[], _∷_}
 use Prim.Native.Nat.{ℕ}
-use Rattle.buffer.specs.Lists.{removeAt}
+use Rattle.lists.specs.Lists.{removeAt}
 use Rattle.message.specs.Kind
 use Rattle.message.specs.Outbox.{plain}
 use Rattle.item.specs.Record.{unpacked, packed, lock}
-use Rattle.item.proofs.Laws.{step-eq, one-of}
+use Rattle.item.proofs.Laws.{step-eq}
 use Rattle.item.specs.Rules.{without, onWithdraw}
 use borrow.Author.Needs.{needs}
 use Rattle.item.proofs.Item.on_withdraw.Statement.{statement}
 use Rattle.item.proofs.Item.on_withdraw.Tie as tie
 
-new-requires : tie.Need-new-requires
-new-requires c κs = search needs
-
-one-requires : tie.Need-one-requires
-one-requires c κs = search needs
+single-requires : tie.Need-single-requires
+single-requires c κs = search needs
 
 place-requires : tie.Need-place-requires
 place-requires c κs = search needs
@@ -27,12 +24,12 @@ without-requires c κs = search needs
 returns : tie.Need-returns
 unfolding onWithdraw without
 returns c =
-    let s = c .before .before .before .before in
+    let s = c .before .before .before in
     let i = s .args .self in
     step-eq _ _ _ (lock (i .holder) (without (s .args .t) (unpacked i .queue))) (plain (s .args .t) Kind.withdrawn ∷ [])
     (c .without .ensures ∙ ap (λ (k : ℕ). packed (lock (i .holder) (removeAt k (unpacked i .queue)))) (c .before .place .ensures))
-    (one-of (c .before .before .one .ensures) (c .before .before .before .new .ensures))
+    (c .before .before .single .ensures)
 
 pub on-withdraw-spec : {M : Type 1} → statement M
 on-withdraw-spec =
-    tie.close (tie.spec new-requires one-requires place-requires without-requires returns)
+    tie.close (tie.spec single-requires place-requires without-requires returns)

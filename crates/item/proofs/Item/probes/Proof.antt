@@ -1,15 +1,16 @@
 -- `Item::probes` meets its contract. The invariant: behind the list given stand the probes for the first i of the queue.
 use mathlib.Core.Path.{_≡_, sym, ap, _∙_}
-use mathlib.Core.List.{List, [], _∷_, _++_, append-assoc, append-nil}
+use mathlib.Core.List.{List, _++_, append-nil}
 use Prim.Native.Nat.{_+_, _-_, _≤_}
 use native.Mathlib.Omega.{arith}
-use lib.ListN.{length, take, getD, length-map}
+use lib.ListN.{length, take, getD}
 use Rattle.message.specs.declared.Message.{Message}
 use Rattle.message.specs.declared.Outbox.{Outbox}
 use Rattle.message.specs.Outbox.{message, outboxOf}
 use Rattle.message.specs.Kind
 use Rattle.session.specs.Seniority.{senior}
-use Rattle.buffer.specs.Lists.{only}
+use Rattle.lists.specs.Lists.{filter}
+use Rattle.session.proofs.Laws.{array-length}
 use Rattle.item.specs.Rules.{probes}
 use Rattle.item.proofs.Laws.{push-outbox, probes-more, probes-same}
 use Rattle.item.proofs.Item.probes.Statement.{statement}
@@ -27,7 +28,7 @@ cast-count : tie.Need-cast-count Inv-loop μ-loop
 cast-count c = omega arith
 
 loop-holds : tie.Need-loop-holds Inv-loop μ-loop
-unfolding probes only
+unfolding probes filter
 loop-holds c = (omega arith, omega arith, λ l e. e ∙ ap outboxOf (sym (append-nil l)))
 
 array-read-r : tie.Need-array-read-r Inv-loop μ-loop
@@ -57,14 +58,13 @@ loop-again c =
     let q = s .args .self .queue in
     let h = s .args .self .holder in
     let b = c .before .before .before .loop in
-    let len : length q ≡ 64 = sym (length-map q (λ v. v)) ∙ s .good .0 .1 .1 .1 .1 .0 .1 .0 .1 in
+    let len : length q ≡ 64 = array-length q (s .good .0 .1 .1 .1 .1 .0 .1 .0 .1) in
     let m = message h Kind.probe (getD q (b .i) 0) h in
     let t = probes-more q (b .i) (omega arith) senior h (sym (c .before .senior .ensures) ∙ c .if1 .taken) in (
       omega arith,
       omega arith,
       λ l e.
-          push-outbox (record { n = b .n; at = b .at }) (l ++ probes senior h (take (b .i) q)) m (omega arith) (b .inv .2 l e)
-          ∙ ap outboxOf (append-assoc l (probes senior h (take (b .i) q)) (m ∷ []) ∙ ap (λ (r : List Message). l ++ r) (sym t)),
+          push-outbox (record { n = b .n; at = b .at }) l (probes senior h (take (b .i) q)) _ m (omega arith) (b .inv .2 l e) t,
     )
 
 loop-less-2 : tie.Need-loop-less-2 Inv-loop μ-loop
@@ -75,7 +75,7 @@ loop-again-2 c =
     let s = c .before .before .before .before .before .before .before in
     let q = s .args .self .queue in
     let b = c .before .before .before .loop in
-    let len : length q ≡ 64 = sym (length-map q (λ v. v)) ∙ s .good .0 .1 .1 .1 .1 .0 .1 .0 .1 in
+    let len : length q ≡ 64 = array-length q (s .good .0 .1 .1 .1 .1 .0 .1 .0 .1) in
     let t = probes-same q (b .i) (omega arith) senior (s .args .self .holder) (sym (c .before .senior .ensures) ∙ c .if1 .left) in
     (omega arith, omega arith, λ l e. b .inv .2 l e ∙ ap (λ (r : List Message). outboxOf (l ++ r)) (sym t))
 

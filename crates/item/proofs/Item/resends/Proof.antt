@@ -1,13 +1,14 @@
 -- `Item::resends` meets its contract. The invariant: behind the list given stand the resends to the first i of the queue.
 use mathlib.Core.Path.{_≡_, sym, ap, _∙_}
-use mathlib.Core.List.{List, [], _∷_, _++_, append-assoc, append-nil}
+use mathlib.Core.List.{List, _++_, append-nil}
 use Prim.Native.Nat.{_+_, _-_, _≤_}
 use native.Mathlib.Omega.{arith}
-use lib.ListN.{length, take, getD, length-map}
+use lib.ListN.{length, take, getD}
 use Rattle.message.specs.declared.Message.{Message}
 use Rattle.message.specs.declared.Outbox.{Outbox}
 use Rattle.message.specs.Outbox.{plain, outboxOf}
 use Rattle.message.specs.Kind
+use Rattle.session.proofs.Laws.{array-length}
 use Rattle.item.specs.Rules.{resends}
 use Rattle.item.proofs.Laws.{push-outbox, resends-more}
 use Rattle.item.proofs.Item.resends.Statement.{statement}
@@ -51,12 +52,11 @@ loop-again c =
     let s = c .before .before .before .before .before in
     let q = s .args .self .queue in
     let b = c .before .loop in
-    let len : length q ≡ 64 = sym (length-map q (λ v. v)) ∙ s .good .0 .1 .1 .1 .1 .0 .1 .0 .1 in (
+    let len : length q ≡ 64 = array-length q (s .good .0 .1 .1 .1 .1 .0 .1 .0 .1) in (
       omega arith,
       omega arith,
       λ l e.
-          push-outbox (record { n = b .n; at = b .at }) (l ++ resends (take (b .i) q)) (plain (getD q (b .i) 0) Kind.resend) (omega arith) (b .inv .2 l e)
-          ∙ ap outboxOf (append-assoc l (resends (take (b .i) q)) (plain (getD q (b .i) 0) Kind.resend ∷ []) ∙ ap (λ (r : List Message). l ++ r) (sym (resends-more q (b .i) (omega arith)))),
+          push-outbox (record { n = b .n; at = b .at }) l (resends (take (b .i) q)) _ (plain (getD q (b .i) 0) Kind.resend) (omega arith) (b .inv .2 l e) (resends-more q (b .i) (omega arith)),
     )
 
 returns : tie.Need-returns Inv-loop μ-loop

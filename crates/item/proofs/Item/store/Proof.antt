@@ -1,7 +1,8 @@
 -- `Item::store` meets its contract: its stores are the record's bytes written over the table.
-use mathlib.Core.Path.{sym, _∙_}
+use mathlib.Core.Path.{_∙_}
 use native.Mathlib.Omega.{arith}
-use lib.ListN.{length-set, length-map}
+use lib.ListN.{length-set}
+use Rattle.session.proofs.Laws.{array-length}
 use Rattle.item.proofs.Laws.{store-eq}
 use borrow.Author.Needs.{needs}
 use Rattle.item.proofs.Item.store.Statement.{statement}
@@ -30,7 +31,7 @@ returns c =
     let s = c .before .before .before .before .before .before in
     let a = s .args in
     c .before .before .put-row .ensures
-    ∙ store-eq (a .t .now) (a .at) (a .self) (sym (length-map (a .self .queue) (λ v. v)) ∙ s .good .0 .1 .1 .1 .1 .0 .1 .0 .1) (omega arith)
+    ∙ store-eq (a .t .now) (a .at) (a .self) (array-length (a .self .queue) (s .good .0 .1 .1 .1 .1 .0 .1 .0 .1)) (omega arith)
 
 pub store-spec : {M : Type 1} → statement M
 store-spec =

@@ -1,6 +1,8 @@
 -- `Item::vacant` meets its contract: the queue is empty.
 use mathlib.Core.Path.{refl}
+use mathlib.Core.List.{[]}
 use Rattle.item.specs.Rules.{vacated}
+use Rattle.item.proofs.Laws.{packed-eq, queue-padded}
 use borrow.Author.Needs.{needs}
 use Rattle.item.proofs.Item.vacant.Statement.{statement}
 use Rattle.item.proofs.Item.vacant.Tie as tie
@@ -10,7 +12,10 @@ empty-requires c κs = search needs
 
 returns : tie.Need-returns
 unfolding vacated
-returns c = rw (c .before .pre .1, c .empty .ensures) refl
+returns c =
+    let s = c .before in
+    let i = s .args .self in
+    rw (c .empty .ensures, packed-eq 0 (i .waiting) (i .queue) [] (s .pre .1) (rw (s .pre .1) at (queue-padded i (s .pre .0))), s .pre .1) refl
 
 pub vacant-spec : {M : Type 1} → statement M
 vacant-spec = tie.close (tie.spec empty-requires returns)

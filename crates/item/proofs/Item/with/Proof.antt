@@ -12,21 +12,21 @@ use Rattle.item.proofs.Item.with.Tie as tie
 cast-n : tie.Need-cast-n
 cast-n c = search needs
 
-array-write-queue : tie.Need-array-write-queue
-array-write-queue c = search needs
+add-self : tie.Need-add-self
+add-self c = search needs
 
-add-t7 : tie.Need-add-t7
-add-t7 c = search needs
+cast-self : tie.Need-cast-self
+cast-self c = search needs
 
-cast-t8 : tie.Need-cast-t8
-cast-t8 c = search needs
+element-write-self : tie.Need-element-write-self
+element-write-self c = search needs
 
 returns : tie.Need-returns
 returns c =
-    let a = c .before .before .args in
-    let f = c .before .before .pre .0 in
-    let l = unpacked (a .self) .queue in
-    packed-eq (a .self .holder) (a .self .waiting + 1) _ (l ++ (a .t ∷ [])) (omega (arith, length-append l (a .t ∷ []), queue-length (a .self) f)) (queue-put (a .self) f (a .t) (c .before .before .pre .1))
+    let i = c .args .t1 in
+    let f = c .pre .packed in
+    let l = unpacked i .queue in
+    packed-eq (i .holder) (i .waiting + 1) _ (l ++ (c .args .t ∷ [])) (omega (arith, length-append l (c .args .t ∷ []), queue-length i f)) (queue-put i f (c .args .t) (c .pre .room))
 
 pub with-spec : {M : Type 1} → statement M
-with-spec = tie.close (tie.spec cast-n array-write-queue add-t7 cast-t8 returns)
+with-spec = tie.close (tie.spec cast-n add-self cast-self element-write-self returns)

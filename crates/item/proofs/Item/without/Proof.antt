@@ -3,10 +3,11 @@ use mathlib.Core.Path.{_≡_, sym, ap, _∙_}
 use Prim.Native.Nat.{ℕ, _-_, _≤_, _<_}
 use mathlib.Core.List.{List}
 use native.Mathlib.Omega.{arith}
-use lib.ListN.{length, set, length-map}
+use lib.ListN.{length, set}
 use Rattle.buffer.specs.Bytes.{padded}
-use Rattle.buffer.specs.Lists.{removeAt}
-use Rattle.buffer.proofs.ListLaws.{removeAt-past, removeAt-length}
+use Rattle.lists.specs.Lists.{removeAt}
+use Rattle.lists.proofs.Laws.{removeAt-length, removeAt-past}
+use Rattle.session.proofs.Laws.{array-length}
 use Rattle.item.specs.Record.{unpacked, packed, lock}
 use Rattle.item.proofs.Laws.{packed-eq, queue-length, queue-padded, shifted, shift-none, shift-step, shift-last}
 use Rattle.item.proofs.Item.without.Statement.{statement}
@@ -55,7 +56,7 @@ loop-again c =
     let s = c .before .before .before .before .before in
     let a = s .args in
     let l = c .before .loop in
-    let q : length (a .self .queue) ≡ 64 = sym (length-map (a .self .queue) (λ v. v)) ∙ s .good .0 .1 .1 .1 .1 .0 .1 .0 .1 in (
+    let q : length (a .self .queue) ≡ 64 = array-length (a .self .queue) (s .good .0 .1 .1 .1 .1 .0 .1 .0 .1) in (
       omega arith,
       omega arith,
       rw (l .inv .2) (shift-step (a .k) (l .i) (l .inv .0) (a .self .queue) (omega arith)),
@@ -67,11 +68,11 @@ sub-queue c = omega arith
 array-write-queue-2 : tie.Need-array-write-queue-2 Inv-loop μ-loop
 array-write-queue-2 c = omega arith
 
-sub-t14 : tie.Need-sub-t14 Inv-loop μ-loop
-sub-t14 c = omega arith
+sub-self : tie.Need-sub-self Inv-loop μ-loop
+sub-self c = omega arith
 
-cast-t17 : tie.Need-cast-t17 Inv-loop μ-loop
-cast-t17 c = omega arith
+cast-self : tie.Need-cast-self Inv-loop μ-loop
+cast-self c = omega arith
 
 returns-2 : tie.Need-returns-2 Inv-loop μ-loop
 returns-2 c =
@@ -103,6 +104,6 @@ without-spec =
     loop-again
     sub-queue
     array-write-queue-2
-    sub-t14
-    cast-t17
+    sub-self
+    cast-self
     returns-2)

@@ -1,19 +1,16 @@
--- `Session::cleaned` meets its contract, by what `to_held` and `cleared` ensure.
+-- `Session::cleaned` meets its contract, by what `to_held` ensures.
 use mathlib.Core.Path.{refl}
-use borrow.Author.Needs.{needs}
 use Rattle.session.specs.Rules.{cleaned}
+use borrow.Author.Needs.{needs}
 use Rattle.session.proofs.Session.cleaned.Statement.{statement}
 use Rattle.session.proofs.Session.cleaned.Tie as tie
 
 to-held-requires : tie.Need-to-held-requires
 to-held-requires c κs = search needs
 
-cleared-requires : tie.Need-cleared-requires
-cleared-requires c κs = search needs
-
 returns : tie.Need-returns
 unfolding cleaned
-returns c = rw (c .before .to-held .ensures, c .cleared .ensures) refl
+returns c = rw (c .before .to-held .ensures) refl
 
 pub cleaned-spec : {M : Type 1} → statement M
-cleaned-spec = tie.close (tie.spec to-held-requires cleared-requires returns)
+cleaned-spec = tie.close (tie.spec to-held-requires returns)

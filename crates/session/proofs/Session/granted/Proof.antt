@@ -1,17 +1,10 @@
 -- `Session::granted` meets its contract, by what `insert` ensures.
 use mathlib.Core.Path.{refl, _∙_}
 use borrow.Author.Tests.{eq-eqb, ne-eqb}
-use borrow.Author.Needs.{needs}
 use Rattle.session.specs.Rules.{granted}
+use borrow.Author.Needs.{needs}
 use Rattle.session.proofs.Session.granted.Statement.{statement}
 use Rattle.session.proofs.Session.granted.Tie as tie
-
-dropped-requires : tie.Need-dropped-requires
-dropped-requires c κs = search needs
-
-returns : tie.Need-returns
-unfolding granted
-returns c = c .dropped .ensures ∙ rw (ne-eqb _ _ (c .before .if1 .taken)) refl
 
 insert-requires : tie.Need-insert-requires
 insert-requires c κs = search needs
@@ -19,10 +12,17 @@ insert-requires c κs = search needs
 empty-requires : tie.Need-empty-requires
 empty-requires c κs = search needs
 
+returns : tie.Need-returns
+unfolding granted
+returns c = rw (eq-eqb _ _ (c .before .before .if1 .taken), c .empty .ensures, c .before .insert .ensures) refl
+
+dropped-requires : tie.Need-dropped-requires
+dropped-requires c κs = search needs
+
 returns-2 : tie.Need-returns-2
 unfolding granted
-returns-2 c = rw (c .empty .ensures, c .before .before .insert .ensures, eq-eqb _ _ (c .before .before .before .if1 .left)) refl
+returns-2 c = c .dropped .ensures ∙ rw (ne-eqb _ _ (c .before .if1 .left)) refl
 
 pub granted-spec : {M : Type 1} → statement M
 granted-spec =
-    tie.close (tie.spec dropped-requires returns insert-requires empty-requires returns-2)
+    tie.close (tie.spec insert-requires empty-requires returns dropped-requires returns-2)

@@ -1,7 +1,7 @@
 -- `Session::probed` meets its contract, by what `junior` and `kept_probe` ensure.
 use mathlib.Core.Path.{refl, _∙_}
-use borrow.Author.Needs.{needs}
 use Rattle.session.specs.Rules.{probed}
+use borrow.Author.Needs.{needs}
 use Rattle.session.proofs.Session.probed.Statement.{statement}
 use Rattle.session.proofs.Session.probed.Tie as tie
 

@@ -29,7 +29,9 @@ dropped-requires : tie.Need-dropped-requires
 dropped-requires c κs = search needs
 
 probed-requires : tie.Need-probed-requires
-probed-requires c κs = c .before .before .before .pre .initiator (c .before .before .match .keys2)
+probed-requires c κs =
+    let s = c .before .before .before in
+    record { initiator = s .pre .initiator (c .before .before .match .keys2); stage = early (s .args .self .stage) (c .before .if1 .left) (c .if2 .taken) }
 
 dropped-requires-2 : tie.Need-dropped-requires-2
 dropped-requires-2 c κs = search needs

@@ -1,22 +1,19 @@
--- `Session::release` meets its contract, by what `one` and `remove` ensure.
+-- `Session::release` meets its contract, by what `single` and `remove` ensure.
 use mathlib.Core.Path.{refl}
-use borrow.Author.Needs.{needs}
 use Rattle.session.specs.Rules.{released}
+use borrow.Author.Needs.{needs}
 use Rattle.session.proofs.Session.release.Statement.{statement}
 use Rattle.session.proofs.Session.release.Tie as tie
 
-new-requires : tie.Need-new-requires
-new-requires c κs = search needs
-
-one-requires : tie.Need-one-requires
-one-requires c κs = search needs
+single-requires : tie.Need-single-requires
+single-requires c κs = search needs
 
 remove-requires : tie.Need-remove-requires
 remove-requires c κs = search needs
 
 returns : tie.Need-returns
 unfolding released
-returns c = rw (c .before .one .ensures, c .before .before .new .ensures, c .remove .ensures) refl
+returns c = rw (c .before .before .single .ensures, c .before .remove .ensures) refl
 
 pub release-spec : {M : Type 1} → statement M
-release-spec = tie.close (tie.spec new-requires one-requires remove-requires returns)
+release-spec = tie.close (tie.spec single-requires remove-requires returns)

@@ -1,12 +1,12 @@
 -- `Session::store` meets its contract: its four stores are one run of bytes written.
-use mathlib.Core.Path.{sym, ap, _∙_}
+use mathlib.Core.Path.{ap, _∙_}
 use mathlib.Core.List.{List}
 use Prim.Native.Nat.{ℕ, _+_}
 use native.Mathlib.Omega.{arith}
 use borrow.Author.Needs.{needs}
-use lib.ListN.{length-set, length-map}
-use Rattle.buffer.specs.Bytes.{over}
-use Rattle.session.proofs.Laws.{store-eq}
+use lib.ListN.{length-set}
+use Rattle.buffer.specs.Bytes.{splice}
+use Rattle.session.proofs.Laws.{array-length, store-eq}
 use Rattle.session.proofs.Session.store.Statement.{statement}
 use Rattle.session.proofs.Session.store.Tie as tie
 
@@ -40,8 +40,8 @@ returns c =
     let b = c .before .before .before .before .before .before .before in
     let start = b .before .before .before in
     let a = start .args in
-    c .before .before .put-row .ensures ∙ ap (λ (l : List ℕ). over l (a .at + 10) (a .self .juniors)) (b .put64 .ensures)
-    ∙ store-eq (a .t .now) (a .at) (a .self) (omega arith) (sym (length-map (a .self .juniors) (λ v. v)) ∙ start .good .0 .1 .1 .1 .1 .1 .0 .1 .0 .1)
+    c .before .before .put-row .ensures ∙ ap (λ (l : List ℕ). splice l (a .at + 10) (a .self .juniors)) (b .put64 .ensures)
+    ∙ store-eq (a .t .now) (a .at) (a .self) (omega arith) (array-length (a .self .juniors) (start .good .0 .1 .1 .1 .1 .1 .0 .1 .0 .1))
 
 pub store-spec : {M : Type 1} → statement M
 store-spec =

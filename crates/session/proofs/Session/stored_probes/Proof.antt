@@ -3,14 +3,14 @@ use mathlib.Core.Path.{_≡_, refl, sym, ap, _∙_}
 use mathlib.Core.List.{List, [], _∷_, _++_, append-assoc, append-nil}
 use Prim.Native.Nat.{_+_, _-_, _≤_}
 use native.Mathlib.Omega.{arith}
-use lib.ListN.{length, drop, getD, length-append, length-map, drop-of-length-le}
+use lib.ListN.{length, drop, getD, length-append, drop-of-length-le}
 use Rattle.message.proofs.Laws.{push-cells}
 use Rattle.message.specs.Outbox.{message, cells, outboxOf}
 use Rattle.message.specs.declared.Outbox.{Outbox}
 use Rattle.message.specs.declared.Message.{Message}
 use Rattle.message.specs.Kind
 use Rattle.session.specs.Rules.{probesFrom}
-use Rattle.session.proofs.Laws.{probes-none, probes-some}
+use Rattle.session.proofs.Laws.{array-length, probes-none, probes-some}
 use Rattle.session.proofs.Session.stored_probes.Statement.{statement}
 use Rattle.session.proofs.Session.stored_probes.Tie as tie
 
@@ -23,7 +23,7 @@ abbrev μ-loop : tie.MeasureT-loop
 μ-loop x juniors at₀ n₀ i₀ at n i = 64 - i
 
 juniors-64 : (c : tie.Start Inv-loop μ-loop) → length (c .args .self .juniors) ≡ 64
-juniors-64 c = sym (length-map (c .args .self .juniors) (λ v. v)) ∙ c .good .0 .1 .1 .1 .1 .1 .0 .1 .0 .1
+juniors-64 c = array-length (c .args .self .juniors) (c .good .0 .1 .1 .1 .1 .1 .0 .1 .0 .1)
 
 loop-holds : tie.Need-loop-holds Inv-loop μ-loop
 loop-holds c = (omega arith, omega arith, λ l e f. (l, e, f, refl))

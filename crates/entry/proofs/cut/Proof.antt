@@ -1,0 +1,92 @@
+-- `cut` meets its contract. The invariant: the first n bytes of what is left are pasted over the buffer.
+use mathlib.Core.Path.{_≡_, refl, ap, _∙_}
+use mathlib.Core.List.{List}
+use Prim.Native.Nat.{ℕ, _+_, _-_, _≤_}
+use native.Mathlib.Numerals.{add-one}
+use lib.ListN.{length, getD, length-set}
+use lib.Seq.{paste, paste-zero, paste-suc}
+use Rattle.entry.proofs.Cuts.{closedUp, closed-length, moved, closed-end}
+use native.Mathlib.Omega.{arith}
+use Rattle.entry.proofs.cut.Statement.{statement}
+use Rattle.entry.proofs.cut.Tie as tie
+
+abbrev Inv-loop : tie.InvT-loop
+Inv-loop m₀ from len end n₀ m n = (n ≤ len - 3) × (length m ≡ length m₀) × (m ≡ paste m₀ from (closedUp m₀ from len) n)
+
+abbrev μ-loop : tie.MeasureT-loop
+μ-loop m₀ from len end n₀ m n = len - 3 - n
+
+sub-end : tie.Need-sub-end Inv-loop μ-loop
+sub-end c = omega arith
+
+loop-holds : tie.Need-loop-holds Inv-loop μ-loop
+loop-holds c = (omega arith, refl, paste-zero (c .before .args .m .now) (c .before .args .from) (closedUp (c .before .args .m .now) (c .before .args .from) (c .before .args .len)))
+
+add-m : tie.Need-add-m Inv-loop μ-loop
+add-m c = omega arith
+
+add-m-2 : tie.Need-add-m-2 Inv-loop μ-loop
+add-m-2 c = omega arith
+
+slice-read-m : tie.Need-slice-read-m Inv-loop μ-loop
+slice-read-m c = omega arith
+
+add-m-3 : tie.Need-add-m-3 Inv-loop μ-loop
+add-m-3 c = omega arith
+
+slice-write-m : tie.Need-slice-write-m Inv-loop μ-loop
+slice-write-m c = omega arith
+
+add-n : tie.Need-add-n Inv-loop μ-loop
+add-n c = omega arith
+
+loop-less : tie.Need-loop-less Inv-loop μ-loop
+loop-less c = omega arith
+
+loop-again : tie.Need-loop-again Inv-loop μ-loop
+loop-again c =
+    let s = c .before .before .before .before in
+    let a = s .args in
+    let l = c .before .before .loop in
+    let fits = s .pre .0 in
+    let b : getD (l .m) (a .from + l .n + 3) 0 ≡ getD (closedUp (a .m .now) (a .from) (a .len)) (l .n) 0 =
+    ap (λ (r : List ℕ). getD r (a .from + l .n + 3) 0) (l .inv .2) ∙ moved (a .m .now) (a .from) (a .len) fits (l .n) (omega arith) in
+    (omega arith, simp length-set (l .inv .1), rw (b, l .inv .2, add-one) (paste-suc (a .m .now) (a .from) (closedUp (a .m .now) (a .from) (a .len)) (l .n) 0 (omega arith) (omega (arith, closed-length (a .m .now) (a .from) (a .len) fits))))
+
+add-put : tie.Need-add-put Inv-loop μ-loop
+add-put c = omega arith
+
+put-requires : tie.Need-put-requires Inv-loop μ-loop
+put-requires c κs = omega arith
+
+same-length : tie.Need-same-length Inv-loop μ-loop
+same-length c = c .before .before .put .kept .0 ∙ c .before .before .before .before .before .loop .inv .1
+
+returns : tie.Need-returns Inv-loop μ-loop
+returns c =
+    let s = c .before .before .before .before .before .before .before in
+    let a = s .args in
+    let l = c .before .before .before .before .before .loop in
+    let all : l .n ≡ a .len - 3 = omega arith in
+    c .before .before .put .ensures ∙ closed-end (a .m .now) (a .from) (a .len) (s .pre .0) (s .pre .1) (l .m) (rw (all) at (l .inv .2))
+
+pub cut-spec : {M : Type 1} → statement M
+cut-spec =
+    tie.close
+    (tie.spec
+    Inv-loop
+    μ-loop
+    sub-end
+    loop-holds
+    add-m
+    add-m-2
+    slice-read-m
+    add-m-3
+    slice-write-m
+    add-n
+    loop-less
+    loop-again
+    add-put
+    put-requires
+    same-length
+    returns)

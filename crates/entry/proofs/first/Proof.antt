@@ -1,0 +1,64 @@
+-- `first` meets its contract. The invariant: the entries passed are not on the route.
+use mathlib.Core.Path.{_≡_, refl, sym, _∙_}
+use mathlib.Core.Bool.{true}
+use Prim.Native.Nat.{_+_, _*_, _-_, _≤_}
+use Rattle.entry.specs.Entry.{width}
+use Rattle.entry.specs.Cells.{misses}
+use native.Mathlib.Omega.{arith}
+use Rattle.lists.specs.Lists.{everyBelow}
+use Rattle.lists.proofs.Laws.{below-more}
+use Rattle.entry.proofs.first.Statement.{statement}
+use Rattle.entry.proofs.first.Tie as tie
+
+abbrev Inv-loop : tie.InvT-loop
+Inv-loop m at n d t x i₀ i = (i ≤ n) × (everyBelow i (λ k. misses m d t x (at + width * k)) ≡ true)
+
+abbrev μ-loop : tie.MeasureT-loop
+μ-loop m at n d t x i₀ i = n - i
+
+passed-requires : tie.Need-passed-requires Inv-loop μ-loop
+passed-requires c κs = omega arith
+
+loop-holds : tie.Need-loop-holds Inv-loop μ-loop
+loop-holds c = c .passed .ensures
+
+mul-off : tie.Need-mul-off Inv-loop μ-loop
+mul-off c = omega arith
+
+add-off : tie.Need-add-off Inv-loop μ-loop
+add-off c = omega arith
+
+off-requires : tie.Need-off-requires Inv-loop μ-loop
+off-requires c κs = omega arith
+
+add-i : tie.Need-add-i Inv-loop μ-loop
+add-i c = omega arith
+
+loop-less : tie.Need-loop-less Inv-loop μ-loop
+loop-less c = omega arith
+
+loop-again : tie.Need-loop-again Inv-loop μ-loop
+loop-again c = (omega arith, rw (below-more, c .before .before .before .loop .inv .1, ← c .before .off .ensures, c .if1 .taken) refl)
+
+returns : tie.Need-returns Inv-loop μ-loop
+returns c = let l = c .before .before .before .loop in (omega arith, l .inv .1, λ _. sym (c .before .off .ensures) ∙ c .if1 .left)
+
+returns-2 : tie.Need-returns-2 Inv-loop μ-loop
+returns-2 c = let l = c .before .loop in (omega arith, l .inv .1, λ h. absurd (omega arith))
+
+pub first-spec : {M : Type 1} → statement M
+first-spec =
+    tie.close
+    (tie.spec
+    Inv-loop
+    μ-loop
+    passed-requires
+    loop-holds
+    mul-off
+    add-off
+    off-requires
+    add-i
+    loop-less
+    loop-again
+    returns
+    returns-2)

@@ -1,0 +1,64 @@
+-- Where the three bytes of a route and of a body stand, and the tests of entries as the code makes them: byte by byte, in blocks of sixteen entries.
+use Prim.Native.Nat.{ℕ, zero, suc, _+_, _*_}
+use mathlib.Core.Bool.{Bool, not, _&&_, _||_, Bool·beq}
+use mathlib.Core.List.{List, [], _∷_}
+use lib.Dec.{eqb, leb}
+use lib.ListN.{getD}
+use Rattle.message.specs.Kind
+use Rattle.entry.specs.Entry.{Entry, toItem, toSession, width}
+
+-- a block of entries, and its bytes in either array
+abbrev pub blockEntries : ℕ
+blockEntries = 16
+
+abbrev pub blockCells : ℕ
+blockCells = width * blockEntries
+
+-- the entry whose route stands at one place and whose body stands at another
+abbrev pub entryFrom : List ℕ → ℕ → ℕ → Entry
+entryFrom m at to =
+    record {
+      direction = getD m at 0;
+      session = getD m (at + 1) 0;
+      item = getD m (at + 2) 0;
+      kind = getD m to 0;
+      a = getD m (to + 1) 0;
+      b = getD m (to + 2) 0;
+    }
+
+-- a number is zero where the kind carries none, and only there
+abbrev pub fits : Bool → ℕ → Bool
+fits carries v = not (Bool·beq (eqb v 0) carries)
+
+-- direction, session and body agree, for a kind of at most 10
+unfoldable pub agree : ℕ → ℕ → ℕ → ℕ → ℕ → Bool
+agree d t k a b =
+    (eqb d toItem && leb Kind.request k && leb k Kind.withdraw || eqb d toSession && (eqb k Kind.probe || eqb k Kind.clean || leb Kind.grant k))
+    && fits (Kind.carries k) a
+    && fits (Kind.carries k) b
+    && (not (eqb k Kind.abort) || eqb a t)
+
+-- the byte of a route at one place and the byte of a body at another: both are within their bounds, and the entry that starts there agrees, unless it is skipped
+abbrev pub cell : List ℕ → ℕ → ℕ → ℕ → ℕ → ℕ → Bool
+cell m at to top high skip =
+    leb 1 (getD m at 0)
+    && leb (getD m at 0) top
+    && leb (getD m to 0) high
+    && (eqb skip 1 || agree (getD m at 0) (getD m (at + 1) 0) (getD m to 0) (getD m (to + 1) 0) (getD m (to + 2) 0))
+
+-- cell i of a block whose routes and bodies start at two places
+abbrev pub cellAt : List ℕ → List ℕ → List ℕ → List ℕ → ℕ → ℕ → ℕ → Bool
+cellAt m tops highs skips at to i = cell m (at + i) (to + i) (getD tops i 0) (getD highs i 0) (getD skips i 0)
+
+-- three numbers, n times
+unfoldable pub thrice : ℕ → ℕ → ℕ → ℕ → List ℕ
+thrice zero a b c = []
+thrice (suc n) a b c = a ∷ b ∷ c ∷ thrice n a b c
+
+-- the three bytes at a place are not the route
+unfoldable pub misses : List ℕ → ℕ → ℕ → ℕ → ℕ → Bool
+misses m d t x at = not (eqb (getD m at 0) d) || not (eqb (getD m (at + 1) 0) t) || not (eqb (getD m (at + 2) 0) x)
+
+-- a byte is skipped, or starts no such route
+abbrev pub missCell : List ℕ → List ℕ → ℕ → ℕ → ℕ → ℕ → ℕ → Bool
+missCell m skips d t x at i = eqb (getD skips i 0) 1 || misses m d t x (at + i)

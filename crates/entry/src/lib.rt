@@ -1,0 +1,220 @@
+// The entries of the mailbox (01: mail), three bytes of a route and three of a body each: their form, the search for a route, bytes taken out and put in.
+use message::Message;
+ghost use mathlib.Core.Path.{_≡_};
+ghost use mathlib.Core.Bool.{true, false};
+ghost use mathlib.Core.List.{[], _∷_};
+ghost use Prim.Native.Nat.{_+_, _*_, _≤_, _<_};
+ghost use lib.ListN.{length, drop};
+ghost use Rattle.buffer.specs.Bytes.{slice, splice, padded};
+ghost use Rattle.lists.specs.Lists.{everyBelow};
+ghost use Rattle.entry.specs.Entry as Entry;
+ghost use Rattle.entry.specs.Entry.{width};
+ghost use Rattle.entry.specs.Cells.{blockEntries, blockCells, entryFrom, agree, cell, cellAt, thrice, misses, missCell};
+
+// The two directions: session to item, item to session.
+pub const TO_ITEM: u8 = 1;
+
+pub const TO_SESSION: u8 = 2;
+
+// The bytes of a route, and those of a body.
+pub const WIDTH: usize = 3;
+
+// A block of entries, and its bytes in either array.
+const BLOCK_ENTRIES: usize = 16;
+
+const BLOCK_CELLS: usize = 48;
+
+// Whether direction, session and body agree, for a kind of at most 10; with no branch.
+fn agree(d: u8, t: u8, k: u8, a: u8, b: u8) -> bool
+    ensures { λ r. ⌜ r ≡ agree d t k a b ⌝ }
+{
+    let both_ways = (k == Message::PROBE) | (k == Message::CLEAN);
+    let carries = both_ways | (k == Message::ABORT);
+    let to_item = (d == TO_ITEM) & (k >= Message::REQUEST) & (k <= Message::WITHDRAW);
+    let to_session = (d == TO_SESSION) & (both_ways | (k >= Message::GRANT));
+    (to_item | to_session)
+        & ((a == 0) ^ carries)
+        & ((b == 0) ^ carries)
+        & ((k != Message::ABORT) | (a == t))
+}
+
+// The byte of a route at `at` and the byte of a body at `to`.
+fn cell(m: &[u8], at: usize, to: usize, top: u8, high: u8, skip: u8) -> bool
+    requires { ⌜ (at + 2 ≤ length (now m)) × (to + 3 ≤ length (now m)) ⌝ }
+    ensures { λ q. ⌜ q ≡ cell (now (m .entry)) at to top high skip ⌝ }
+{
+    let r = m[at];
+    let k = m[to];
+    let agrees = agree(r, m[at + 1], k, m[to + 1], m[to + 2]);
+    (r >= 1) & (r <= top) & (k <= high) & ((skip == 1) | agrees)
+}
+
+// Three numbers, for each entry of a block.
+fn thrice(a: u8, b: u8, c: u8) -> [u8; BLOCK_CELLS]
+    ensures { λ r. ⌜ r ≡ thrice blockEntries a b c ⌝ }
+{
+    let mut r = [0u8; BLOCK_CELLS];
+    let mut i: usize = 0;
+    while i < BLOCK_ENTRIES {
+        let at = WIDTH * i;
+        r[at] = a;
+        r[at + 1] = b;
+        r[at + 2] = c;
+        i += 1;
+    }
+    r
+}
+
+// A block, cell by cell: no early exit, so that the loop is done by vectors.
+fn block(
+    m: &[u8],
+    at: usize,
+    to: usize,
+    tops: &[u8; BLOCK_CELLS],
+    highs: &[u8; BLOCK_CELLS],
+    skips: &[u8; BLOCK_CELLS],
+) -> bool
+    requires { ⌜ (at + blockCells + 2 ≤ length (now m)) × (to + blockCells + 2 ≤ length (now m)) ⌝ }
+    ensures { λ r. ⌜ r ≡ everyBelow blockCells (cellAt (now (m .entry)) (now (tops .entry)) (now (highs .entry)) (now (skips .entry)) at to) ⌝ }
+{
+    let mut ok = true;
+    let mut i: usize = 0;
+    while i < BLOCK_CELLS {
+        ok = ok & cell(m, at + i, to + i, tops[i], highs[i], skips[i]);
+        i += 1;
+    }
+    ok
+}
+
+// One entry, with no branch.
+fn entry(m: &[u8], at: usize, to: usize, s: u8, x: u8) -> bool
+    requires { ⌜ (at + width ≤ length (now m)) × (to + width ≤ length (now m)) ⌝ }
+    ensures { λ r. ⌜ r ≡ Entry.wellFormed s x (entryFrom (now (m .entry)) at to) ⌝ }
+{
+    let t = m[at + 1];
+    let v = m[at + 2];
+    let a = m[to + 1];
+    let b = m[to + 2];
+    cell(m, at, to, TO_SESSION, Message::WITHDRAWN, 0)
+        & ((t >= 1) & (t <= s) & (a <= s))
+        & ((v >= 1) & (v <= x) & (b <= s))
+}
+
+// A number of entries, all of them well-formed: whole blocks are passed.
+fn formed(m: &[u8], at: usize, to: usize, n: usize, s: u8, x: u8) -> usize
+    requires { ⌜ (at + width * n ≤ length (now m)) × (to + width * n ≤ length (now m)) ⌝ }
+    ensures { λ r. ⌜ (r ≤ n) × (everyBelow r (λ k. Entry.wellFormed s x (entryFrom (now (m .entry)) (at + width * k) (to + width * k))) ≡ true) ⌝ }
+{
+    if n <= BLOCK_ENTRIES {
+        return 0;
+    }
+    let tops = thrice(TO_SESSION, s, x);
+    let highs = thrice(Message::WITHDRAWN, s, s);
+    let skips = thrice(0, 1, 1);
+    let mut i: usize = 0;
+    while BLOCK_ENTRIES < n - i {
+        let p = WIDTH * i;
+        if block(m, at + p, to + p, &tops, &highs, &skips) {
+            i += BLOCK_ENTRIES;
+        } else {
+            return i;
+        }
+    }
+    i
+}
+
+// Whether the n entries whose routes stand from `at` on and whose bodies stand from `to` on are well-formed, for s sessions and x items.
+pub fn well_formed(m: &[u8], at: usize, to: usize, n: usize, s: u8, x: u8) -> bool
+    requires { ⌜ (at + width * n ≤ length (now m)) × (to + width * n ≤ length (now m)) ⌝ }
+    ensures { λ r. ⌜ r ≡ everyBelow n (λ k. Entry.wellFormed s x (entryFrom (now (m .entry)) (at + width * k) (to + width * k))) ⌝ }
+{
+    let mut i = formed(m, at, to, n, s, x);
+    while i < n {
+        let p = WIDTH * i;
+        if entry(m, at + p, to + p, s, x) {
+            i += 1;
+        } else {
+            return false;
+        }
+    }
+    true
+}
+
+// Whether the three bytes at `at` are not the route.
+fn off(m: &[u8], at: usize, d: u8, t: u8, x: u8) -> bool
+    requires { ⌜ at + width ≤ length (now m) ⌝ }
+    ensures { λ r. ⌜ r ≡ misses (now (m .entry)) d t x at ⌝ }
+{
+    (m[at] != d) | (m[at + 1] != t) | (m[at + 2] != x)
+}
+
+// Whether no entry of a block is on the route.
+fn block_off(m: &[u8], at: usize, d: u8, t: u8, x: u8, skips: &[u8; BLOCK_CELLS]) -> bool
+    requires { ⌜ at + blockCells + 2 ≤ length (now m) ⌝ }
+    ensures { λ r. ⌜ r ≡ everyBelow blockCells (missCell (now (m .entry)) (now (skips .entry)) d t x at) ⌝ }
+{
+    let mut ok = true;
+    let mut i: usize = 0;
+    while i < BLOCK_CELLS {
+        ok = ok & ((skips[i] == 1) | off(m, at + i, d, t, x));
+        i += 1;
+    }
+    ok
+}
+
+// A number of entries, none of them on the route: whole blocks are passed.
+fn passed(m: &[u8], at: usize, n: usize, d: u8, t: u8, x: u8) -> usize
+    requires { ⌜ at + width * n ≤ length (now m) ⌝ }
+    ensures { λ r. ⌜ (r ≤ n) × (everyBelow r (λ k. misses (now (m .entry)) d t x (at + width * k)) ≡ true) ⌝ }
+{
+    let skips = thrice(0, 1, 1);
+    let mut i: usize = 0;
+    while BLOCK_ENTRIES < n - i {
+        if block_off(m, at + WIDTH * i, d, t, x, &skips) {
+            i += BLOCK_ENTRIES;
+        } else {
+            return i;
+        }
+    }
+    i
+}
+
+// The place of the first of n entries that is on the route, or n; the routes stand from `at` on.
+pub fn first(m: &[u8], at: usize, n: usize, d: u8, t: u8, x: u8) -> usize
+    requires { ⌜ at + width * n ≤ length (now m) ⌝ }
+    ensures { λ r. ⌜ (r ≤ n) × (everyBelow r (λ k. misses (now (m .entry)) d t x (at + width * k)) ≡ true) × (r < n → misses (now (m .entry)) d t x (at + width * r) ≡ false) ⌝ }
+{
+    let mut i = passed(m, at, n, d, t, x);
+    while i < n {
+        if off(m, at + WIDTH * i, d, t, x) {
+            i += 1;
+        } else {
+            return i;
+        }
+    }
+    i
+}
+
+// Writes a route or a body at `at`.
+pub fn put(m: &mut [u8], at: usize, a: u8, b: u8, c: u8)
+    requires { ⌜ at + width ≤ length (now m) ⌝ }
+    ensures { λ _. ⌜ now (m .exit) ≡ splice (now (m .entry)) at (a ∷ b ∷ c ∷ []) ⌝ }
+{
+    m[at] = a;
+    m[at + 1] = b;
+    m[at + 2] = c;
+}
+
+// Takes a route or a body out at `from`: the rest of the len bytes move down, and zeros follow.
+pub fn cut(m: &mut [u8], from: usize, len: usize)
+    requires { ⌜ (from + len ≤ length (now m)) × (width ≤ len) ⌝ }
+    ensures { λ _. ⌜ now (m .exit) ≡ splice (now (m .entry)) from (padded len (drop width (slice (now (m .entry)) from len))) ⌝ }
+{
+    let end = len - WIDTH;
+    let mut n: usize = 0;
+    while n < end {
+        m[from + n] = m[from + n + WIDTH];
+        n += 1;
+    }
+    put(m, from + end, 0, 0, 0);
+}

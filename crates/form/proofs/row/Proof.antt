@@ -1,0 +1,75 @@
+-- `row` meets its contract. The loop's invariant: the flag is the test on the bytes passed.
+use mathlib.Core.Path.{_≡_, refl, sym}
+use Prim.Native.Nat.{_+_, _-_, _≤_}
+use native.Mathlib.Omega.{arith}
+use borrow.Author.Needs.{needs}
+use lib.ListN.{getD}
+use Rattle.buffer.specs.Bytes.{slice}
+use Rattle.lists.specs.Lists.{all}
+use Rattle.buffer.proofs.Laws.{slice-more, length-slice}
+use Rattle.form.proofs.FormLaws.{within, within-more, within-none, limit}
+use Rattle.message.specs.Limits.{maxSessions}
+use Rattle.form.proofs.row.Statement.{statement}
+use Rattle.form.proofs.row.Tie as tie
+
+abbrev Inv-loop : tie.InvT-loop
+Inv-loop t at s n limits from ok₀ i₀ ok i = (i ≤ maxSessions) × (ok ≡ within s n (slice t at i))
+
+abbrev μ-loop : tie.MeasureT-loop
+μ-loop t at s n limits from ok₀ i₀ ok i = maxSessions - i
+
+sub-from : tie.Need-sub-from Inv-loop μ-loop
+sub-from c = search needs
+
+loop-holds : tie.Need-loop-holds Inv-loop μ-loop
+loop-holds c = (omega arith, sym (within-none (c .args .s) (c .args .n)))
+
+add-ok : tie.Need-add-ok Inv-loop μ-loop
+add-ok c = search needs
+
+shared-slice-read-ok : tie.Need-shared-slice-read-ok Inv-loop μ-loop
+shared-slice-read-ok c = search needs
+
+add-ok-2 : tie.Need-add-ok-2 Inv-loop μ-loop
+add-ok-2 c = search needs
+
+element-copy-out-ok : tie.Need-element-copy-out-ok Inv-loop μ-loop
+element-copy-out-ok c = search needs
+
+add-i : tie.Need-add-i Inv-loop μ-loop
+add-i c = search needs
+
+loop-less : tie.Need-loop-less Inv-loop μ-loop
+loop-less c = search needs
+
+loop-again : tie.Need-loop-again Inv-loop μ-loop
+loop-again c =
+    let start = c .before .before .before .before in
+    let t = start .args .t .now in
+    let at = start .args .at in
+    let s = start .args .s in
+    let n = start .args .n in
+    let i = c .before .before .before .loop .i in (
+      omega arith,
+      rw (c .before .before .before .loop .inv .1, start .pre .2, limit maxSessions s n i (omega arith) (omega arith), slice-more t at i (omega arith), within-more s n (slice t at i) (getD t (at + i) 0), length-slice t at i (omega arith)) refl,
+    )
+
+returns : tie.Need-returns Inv-loop μ-loop
+returns c = let all : c .before .loop .i ≡ maxSessions = omega arith in rw (all) at (c .before .loop .inv .1)
+
+pub row-spec : {M : Type 1} → statement M
+row-spec =
+    tie.close
+    (tie.spec
+    Inv-loop
+    μ-loop
+    sub-from
+    loop-holds
+    add-ok
+    shared-slice-read-ok
+    add-ok-2
+    element-copy-out-ok
+    add-i
+    loop-less
+    loop-again
+    returns)

@@ -1,0 +1,184 @@
+-- Laws of the tests over the numbers 1 to n (lowest, every, count), and two pigeonhole principles.
+use mathlib.Core.Path.{_≡_, refl, sym, _∙_}
+use mathlib.Core.Bool.{Bool, true, false, cond, not, _&&_, _||_, true≢false}
+use mathlib.Core.List.{List, [], _∷_}
+use mathlib.Core.Logic.{_≢_, _⊎_, inl, inr}
+use Prim.Native.Nat.{ℕ, zero, suc, _+_, _≤_, _<_, zero-le}
+use native.Mathlib.Numerals.{add-one}
+use native.Mathlib.Omega.{arith}
+use native.Mathlib.Decide.{ℕ-discrete}
+use lib.Dec.{eqb}
+use lib.ListN.{length}
+use borrow.Author.Tests.{eqb-true, eqb-false, ne-eqb, not-true}
+use Rattle.lists.specs.Lists.{between, every, lowest, count, member, distinct, all}
+use Rattle.lists.proofs.Tests.{and-both, and-intro, fails, refuted, by-test, within, eqb-self}
+
+-- ---- lowest
+
+lowest-step : (n : ℕ) (p : ℕ → Bool) (P : ℕ → Type 0) → (lowest n p ≢ 0 → P (lowest n p)) → (lowest n p ≡ 0 → p (suc n) ≡ true → P (suc n))
+    → (lowest n p ≡ 0 → p (suc n) ≡ false → P 0) → P (lowest (suc n) p)
+unfolding lowest
+lowest-step n p P old new none =
+    by-test P (eqb (lowest n p) 0)
+    (λ e. by-test P (p (suc n)) (new (eqb-true (lowest n p) 0 e)) (none (eqb-true (lowest n p) 0 e)))
+    (λ e. old (eqb-false (lowest n p) 0 e))
+
+pub lowest-le : (n : ℕ) (p : ℕ → Bool) → lowest n p ≤ n
+unfolding lowest
+lowest-le zero p = omega arith
+lowest-le (suc n) p = lowest-step n p (λ k. k ≤ suc n) (λ _. omega (arith, lowest-le n p)) (λ _ _. omega arith) (λ _ _. omega arith)
+
+pub lowest-passes : (n : ℕ) (p : ℕ → Bool) → lowest n p ≢ 0 → p (lowest n p) ≡ true
+unfolding lowest
+lowest-passes zero p h = absurd (h refl)
+lowest-passes (suc n) p h = lowest-step n p (λ k. k ≢ 0 → p k ≡ true) (λ _. lowest-passes n p) (λ _ e _. e) (λ _ _ z. absurd (z refl)) h
+
+pub lowest-found : (n : ℕ) (p : ℕ → Bool) (k : ℕ) → 1 ≤ k → k ≤ n → p k ≡ true → (1 ≤ lowest n p) × (lowest n p ≤ k)
+lowest-found zero p k a b e = absurd (omega arith)
+lowest-found (suc n) p k a b e = go (ℕ-discrete k (suc n)) (lowest-found n p k a)
+  where
+    go : Dec (k ≡ suc n) → (k ≤ n → p k ≡ true → (1 ≤ lowest n p) × (lowest n p ≤ k)) → (1 ≤ lowest (suc n) p) × (lowest (suc n) p ≤ k)
+    go (yes q) ih =
+        lowest-step n p (λ m. (1 ≤ m) × (m ≤ k)) (λ h. omega (arith, lowest-le n p)) (λ _ _. omega arith)
+        (λ _ f. absurd (true≢false (sym (rw q at e) ∙ f)))
+    go (no q) ih =
+        let r = ih (omega arith) e in
+        lowest-step n p (λ m. (1 ≤ m) × (m ≤ k)) (λ _. r) (λ z _. absurd (omega arith)) (λ z _. absurd (omega arith))
+
+-- nothing passes, so there is no lowest
+pub lowest-none : (n : ℕ) (p : ℕ → Bool) → ((k : ℕ) → 1 ≤ k → k ≤ n → p k ≡ false) → lowest n p ≡ 0
+unfolding lowest
+lowest-none zero p h = refl
+lowest-none (suc n) p h =
+    lowest-step n p (λ m. m ≡ 0) (λ z. lowest-none n p (λ k a b. h k a (omega arith)))
+    (λ _ e. absurd (true≢false (sym e ∙ h (suc n) (omega arith) (omega arith)))) (λ _ _. refl)
+
+-- there is no lowest, so nothing passes
+pub lowest-zero : (n : ℕ) (p : ℕ → Bool) → lowest n p ≡ 0 → (k : ℕ) → 1 ≤ k → k ≤ n → p k ≡ false
+lowest-zero n p z k a b = fails (p k) (λ e. let r = lowest-found n p k a b e in omega arith)
+
+pub lowest-same : (n : ℕ) (p q : ℕ → Bool) → ((k : ℕ) → 1 ≤ k → k ≤ n → p k ≡ q k) → lowest n p ≡ lowest n q
+unfolding lowest
+lowest-same zero p q h = refl
+lowest-same (suc n) p q h = rw (lowest-same n p q (λ k a b. h k a (omega arith)), h (suc n) (omega arith) (omega arith))
+
+-- some number from 1 to n passes, or none
+pub some-or-none : (n : ℕ) (p : ℕ → Bool) → ((k : ℕ) × (1 ≤ k) × (k ≤ n) × (p k ≡ true)) ⊎ ((k : ℕ) → 1 ≤ k → k ≤ n → p k ≡ false)
+some-or-none n p = go (ℕ-discrete (lowest n p) 0)
+  where
+    go : Dec (lowest n p ≡ 0) → ((k : ℕ) × (1 ≤ k) × (k ≤ n) × (p k ≡ true)) ⊎ ((k : ℕ) → 1 ≤ k → k ≤ n → p k ≡ false)
+    go (yes z) = inr (lowest-zero n p z)
+    go (no z) = inl (lowest n p, omega arith, lowest-le n p, lowest-passes n p z)
+
+-- ---- every
+
+pub every-at : (n : ℕ) (p : ℕ → Bool) → every n p ≡ true → (k : ℕ) → 1 ≤ k → k ≤ n → p k ≡ true
+unfolding every
+every-at zero p e k a b = absurd (omega arith)
+every-at (suc n) p e k a b = go (and-both (every n p) (p (suc n)) e) (ℕ-discrete k (suc n)) (every-at n p)
+  where
+    go : (every n p ≡ true) × (p (suc n) ≡ true) → Dec (k ≡ suc n) → (every n p ≡ true → (k : ℕ) → 1 ≤ k → k ≤ n → p k ≡ true) → p k ≡ true
+    go r (yes q) ih = rw q (r .1)
+    go r (no q) ih = ih (r .0) k a (omega arith)
+
+pub every-intro : (n : ℕ) (p : ℕ → Bool) → ((k : ℕ) → 1 ≤ k → k ≤ n → p k ≡ true) → every n p ≡ true
+unfolding every
+every-intro zero p h = refl
+every-intro (suc n) p h = and-intro (every-intro n p (λ k a b. h k a (omega arith))) (h (suc n) (omega arith) (omega arith))
+
+pub every-same : (n : ℕ) (p q : ℕ → Bool) → ((k : ℕ) → 1 ≤ k → k ≤ n → p k ≡ q k) → every n p ≡ every n q
+unfolding every
+every-same zero p q h = refl
+every-same (suc n) p q h = rw (every-same n p q (λ k a b. h k a (omega arith)), h (suc n) (omega arith) (omega arith))
+
+pub every-more : (n : ℕ) (p : ℕ → Bool) → every (n + 1) p ≡ every n p && p (suc n)
+unfolding every
+every-more n p = rw (add-one) refl
+
+pub every-false : (n : ℕ) (p : ℕ → Bool) (k : ℕ) → 1 ≤ k → k ≤ n → p k ≡ false → every n p ≡ false
+every-false n p k l h = refuted (every n p) (p k) (λ e. every-at n p e k l h)
+
+-- ---- count
+
+pub count-same : (n : ℕ) (p q : ℕ → Bool) → ((k : ℕ) → 1 ≤ k → k ≤ n → p k ≡ q k) → count n p ≡ count n q
+unfolding count
+count-same zero p q h = refl
+count-same (suc n) p q h = rw (count-same n p q (λ k a b. h k a (omega arith)), h (suc n) (omega arith) (omega arith))
+
+pub count-le : (n : ℕ) (p : ℕ → Bool) → count n p ≤ n
+unfolding count
+count-le zero p = omega arith
+count-le (suc n) p = by-test (λ (k : ℕ). k ≤ suc n) (p (suc n)) (λ _. omega (arith, count-le n p)) (λ _. omega (arith, count-le n p))
+
+pub count-none : (n : ℕ) (p : ℕ → Bool) → ((k : ℕ) → 1 ≤ k → k ≤ n → p k ≡ false) → count n p ≡ 0
+unfolding count
+count-none zero p h = refl
+count-none (suc n) p h = rw (h (suc n) (omega arith) (omega arith)) (count-none n p (λ k a b. h k a (omega arith)))
+
+-- what passes is counted
+pub count-some : (n : ℕ) (p : ℕ → Bool) (k : ℕ) → 1 ≤ k → k ≤ n → p k ≡ true → 1 ≤ count n p
+unfolding count
+count-some zero p k a b e = absurd (omega arith)
+count-some (suc n) p k a b e = go (ℕ-discrete k (suc n)) (count-some n p k a)
+  where
+    go : Dec (k ≡ suc n) → (k ≤ n → p k ≡ true → 1 ≤ count n p) → 1 ≤ cond (p (suc n)) (suc (count n p)) (count n p)
+    go (yes q) ih = rw (rw q at e) (omega arith)
+    go (no q) ih = by-test (λ (m : ℕ). 1 ≤ m) (p (suc n)) (λ _. omega arith) (λ _. ih (omega arith) e)
+
+one-up : (t : Bool) (x y : ℕ) → x ≡ y + 1 → cond t (suc x) x ≡ cond t (suc y) y + 1
+one-up true x y h = omega arith
+one-up false x y h = h
+
+-- one more passes
+pub count-one-more : (n : ℕ) (p q : ℕ → Bool) (k : ℕ) → 1 ≤ k → k ≤ n → p k ≡ true → q k ≡ false → ((j : ℕ) → 1 ≤ j → j ≤ n → j ≢ k → p j ≡ q j)
+    → count n p ≡ count n q + 1
+unfolding count
+count-one-more zero p q k a b e f h = absurd (omega arith)
+count-one-more (suc n) p q k a b e f h = go (ℕ-discrete k (suc n)) (λ b. count-one-more n p q k a b e f (λ j c d. h j c (omega arith)))
+  where
+    go : Dec (k ≡ suc n) → (k ≤ n → count n p ≡ count n q + 1)
+        → cond (p (suc n)) (suc (count n p)) (count n p) ≡ cond (q (suc n)) (suc (count n q)) (count n q) + 1
+    go (yes z) ih = rw (rw z at e, rw z at f) (omega (arith, count-same n p q (λ j c d. h j c (omega arith) (omega arith))))
+    go (no z) ih = rw (h (suc n) (omega arith) (omega arith) (λ y. z (sym y))) (one-up (q (suc n)) (count n p) (count n q) (ih (omega arith)))
+
+-- ---- pigeonhole principles
+
+-- the numbers f 0 to f (k - 1), all different and all from 1 to n: there are at most n of them
+pub pigeonhole : (n k : ℕ) (f : ℕ → ℕ) → ((i : ℕ) → i < k → (1 ≤ f i) × (f i ≤ n)) → ((i j : ℕ) → i < j → j < k → f i ≢ f j) → k ≤ n
+pigeonhole n zero f b d = omega arith
+pigeonhole zero (suc k) f b d = absurd (let r = b 0 (omega arith) in omega arith)
+pigeonhole (suc n) (suc k) f b d = let r = pigeonhole n k g inside different in omega arith
+  where
+    -- the last number takes the place of the number n + 1
+    g : ℕ → ℕ
+    g i = cond (eqb (f i) (suc n)) (f k) (f i)
+
+    inside : (i : ℕ) → i < k → (1 ≤ g i) × (g i ≤ n)
+    inside i h =
+        let r = b i (omega arith) in
+        let l = b k (omega arith) in
+        by-test (λ (m : ℕ). (1 ≤ m) × (m ≤ n)) (eqb (f i) (suc n))
+        (λ e. let z = eqb-true (f i) (suc n) e in omega (arith, d i k h (omega arith)))
+        (λ e. let z : f i ≢ suc n = eqb-false (f i) (suc n) e in omega arith)
+
+    different : (i j : ℕ) → i < j → j < k → g i ≢ g j
+    different i j h l =
+        by-test (λ (m : ℕ). m ≢ g j) (eqb (f i) (suc n))
+        (λ e. by-test (λ (m : ℕ). f k ≢ m) (eqb (f j) (suc n))
+        (λ q. absurd (d i j h (omega arith) (eqb-true (f i) (suc n) e ∙ sym (eqb-true (f j) (suc n) q))))
+        (λ q z. d j k l (omega arith) (sym z)))
+        (λ e. by-test (λ (m : ℕ). f i ≢ m) (eqb (f j) (suc n)) (λ q. d i k (omega arith) (omega arith)) (λ q. d i j h (omega arith)))
+
+-- distinct numbers from 1 to n are at most n of them: as many as the numbers from 1 to n that stand in the list
+length-count : (n : ℕ) (l : List ℕ) → distinct l ≡ true → all (between 1 n) l ≡ true → length l ≤ count n (λ k. member k l)
+unfolding member distinct all
+length-count n [] d h = zero-le
+length-count n (a ∷ l) d h =
+    let new = and-both (not (member a l)) (distinct l) d in
+    let range = and-both (between 1 n a) (all (between 1 n) l) h in
+    let ends = within 1 n a (range .0) in
+    let more = count-one-more n (λ k. eqb a k || member k l) (λ k. member k l) a (ends .0) (ends .1) (rw (eqb-self a) refl) (not-true (member a l) (new .0)) (λ j _ _ q. rw (ne-eqb a j (λ e. q (sym e))) refl) in
+    omega (arith, length-count n l (new .1) (range .1))
+
+pub distinct-length : (n : ℕ) (l : List ℕ) → distinct l ≡ true → all (between 1 n) l ≡ true → length l ≤ n
+distinct-length n l d h = omega (arith, length-count n l d h, count-le n (λ k. member k l))

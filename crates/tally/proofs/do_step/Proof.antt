@@ -1,0 +1,69 @@
+-- `do_step` meets its contract: the stages read before and after say whether the session was rolled back.
+use mathlib.Core.Path.{refl}
+use Rattle.tally.proofs.Steps.{formed-after, counts-step}
+use borrow.Author.Needs.{needs}
+use Rattle.tally.proofs.do_step.Statement.{statement}
+use Rattle.tally.proofs.do_step.Tie as tie
+
+abbrev begin : tie.After-lockmgr-step → tie.Start
+begin c = c .before .before .before .before .before .before .before .before .before
+
+stage-requires : tie.Need-stage-requires
+stage-requires c κs = search needs
+
+cast-lockmgr-step : tie.Need-cast-lockmgr-step
+cast-lockmgr-step c = search needs
+
+cast-lockmgr-step-2 : tie.Need-cast-lockmgr-step-2
+cast-lockmgr-step-2 c = search needs
+
+cast-lockmgr-step-3 : tie.Need-cast-lockmgr-step-3
+cast-lockmgr-step-3 c = search needs
+
+lockmgr-step-requires : tie.Need-lockmgr-step-requires
+lockmgr-step-requires c κs = search needs
+
+stage-requires-2 : tie.Need-stage-requires-2
+stage-requires-2 c κs =
+    let d = c .before .before .before .before .before in
+    let a = begin d .args in
+    formed-after (a .c) (a .table .now) (a .mail .now) (begin d .pre) (d .lockmgr-step .ensures) .records .sized
+
+cast-t10 : tie.Need-cast-t10
+cast-t10 c = search needs
+
+declarations-requires : tie.Need-declarations-requires
+declarations-requires c κs = search needs
+
+rollbacks-requires : tie.Need-rollbacks-requires
+rollbacks-requires c κs = search needs
+
+same-length : tie.Need-same-length
+same-length c = search needs
+
+same-length-2 : tie.Need-same-length-2
+same-length-2 c = search needs
+
+returns : tie.Need-returns
+returns c =
+    let d = c .before .before .before .before .before .before .before .before .before in
+    let a = begin d .args in
+    counts-step (a .c) (a .table .now) (a .mail .now) (begin d .pre) (d .lockmgr-step .ensures) (d .before .before .before .before .before .stage .ensures)
+    (c .before .before .before .stage2 .ensures) refl (c .before .declarations .ensures) (c .rollbacks .ensures)
+
+pub do-step-spec : {M : Type 1} → statement M
+do-step-spec =
+    tie.close
+    (tie.spec
+    stage-requires
+    cast-lockmgr-step
+    cast-lockmgr-step-2
+    cast-lockmgr-step-3
+    lockmgr-step-requires
+    stage-requires-2
+    cast-t10
+    declarations-requires
+    rollbacks-requires
+    same-length
+    same-length-2
+    returns)

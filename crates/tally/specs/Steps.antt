@@ -1,0 +1,41 @@
+-- What the code of a step does, as the lock manager's definitions have it.
+use Prim.Native.Nat.{ℕ, _≤_}
+use mathlib.Core.Path.{_≡_}
+use mathlib.Core.Bool.{cond}
+use mathlib.Core.List.{List}
+use Rattle.lists.specs.Lists.{between}
+use Rattle.table.specs.Layout as Table
+use Rattle.lockmgr.specs.declared.Answer.{Answer}
+use Rattle.lockmgr.specs.Calls.{stepped, step}
+use Rattle.lockmgr.specs.Run as Run
+use Rattle.tally.specs.declared.Tally.{Tally}
+use Rattle.tally.specs.Tally.{added}
+use Rattle.tally.specs.declared.Step.{Step}
+use Rattle.tally.specs.declared.Counted.{Counted}
+
+abbrev pub stepOf : Step → Run.Step
+stepOf c = record { verb = c .verb; session = c .session; item = c .item }
+
+abbrev pub tallyOf : Tally → Run.Tally
+tallyOf t = record { closed = t .closed; declared = t .declared; rolledBack = t .«rolled_back» }
+
+-- the stage of session t, or 0 where there is no such session
+abbrev pub stageOr0 : List ℕ → ℕ → ℕ
+stageOr0 table t = cond (between 1 (Table.sessionsOf table) t) (Table.session table t .stage) 0
+
+-- a tally with what a step counts added to it
+abbrev pub counting : Tally → Counted → Tally
+counting t d = added t (d .closed) (d .declared) (d .«rolled_back»)
+
+-- what a step answers and counts, and both buffers after
+pub record Counts (c : Run.Step) (table mail : List ℕ) (d : Counted) (table′ mail′ : List ℕ) : Type 0 where
+  pub did : stepped (d .answer) table′ mail′ ≡ step (c .verb) (c .session) (c .item) table mail
+  pub counts : (t : Tally) → tallyOf (counting t d) ≡ Run.counted (c .session) table (step (c .verb) (c .session) (c .item) table mail) (tallyOf t)
+  pub closed-few : d .closed ≤ 1
+  pub declared-few : d .declared ≤ 1
+  pub rolled-few : d .«rolled_back» ≤ 1
+
+-- what a step answers, and the tally and both buffers after
+pub record Tallied (c : Run.Step) (table mail : List ℕ) (t : Tally) (a : Answer) (u : Tally) (table′ mail′ : List ℕ) : Type 0 where
+  pub did : stepped a table′ mail′ ≡ step (c .verb) (c .session) (c .item) table mail
+  pub tally : tallyOf u ≡ Run.counted (c .session) table (step (c .verb) (c .session) (c .item) table mail) (tallyOf t)
