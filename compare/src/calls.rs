@@ -1,17 +1,10 @@
 //! The three calls, by whoever answers them.
 
 use crate::{fast, library};
-use model::{Answer, Cycle, Misreading};
+use model::{Answer, Config, Cycle, Misreading};
 
 pub trait Calls {
-    fn start(
-        &self,
-        sessions: u64,
-        items: u64,
-        capacity: u64,
-        table: &mut [u8],
-        mail: &mut [u8],
-    ) -> u8;
+    fn start(&self, config: Config, table: &mut [u8], mail: &mut [u8]) -> u8;
     fn step(&self, verb: u64, session: u64, item: u64, table: &mut [u8], mail: &mut [u8])
         -> Answer;
     fn report(&self, session: u64, table: &[u8]) -> Cycle;
@@ -21,9 +14,9 @@ pub trait Calls {
 macro_rules! calls {
     ($name:ident, $module:path) => {
         impl Calls for $name {
-            fn start(&self, s: u64, m: u64, c: u64, table: &mut [u8], mail: &mut [u8]) -> u8 {
+            fn start(&self, config: Config, table: &mut [u8], mail: &mut [u8]) -> u8 {
                 use $module as answers;
-                answers::start(s, m, c, table, mail)
+                answers::start(config, table, mail)
             }
             fn step(&self, v: u64, s: u64, i: u64, table: &mut [u8], mail: &mut [u8]) -> Answer {
                 use $module as answers;
@@ -53,8 +46,8 @@ calls!(Fast, fast);
 pub struct Misread(pub Misreading);
 
 impl Calls for Misread {
-    fn start(&self, s: u64, m: u64, c: u64, table: &mut [u8], mail: &mut [u8]) -> u8 {
-        model::start(s, m, c, table, mail)
+    fn start(&self, config: Config, table: &mut [u8], mail: &mut [u8]) -> u8 {
+        model::start(config, table, mail)
     }
     fn step(&self, v: u64, s: u64, i: u64, table: &mut [u8], mail: &mut [u8]) -> Answer {
         model::step_as(self.0, v, s, i, table, mail)

@@ -1,17 +1,25 @@
 //! The cases that are compared. A round is a few thousand calls of every kind,
 //! settled by its seed; the walks over all bytes are the same each time.
 
-use crate::comparison::{Buffers, Comparison};
-use crate::forge::{well_formed, Filling, Shape, BREAKS, LARGEST};
+use crate::comparison::{held, Buffers, Comparison};
+use crate::forge::{self, well_formed, Filling, BREAKS};
+use crate::numbers::{
+    kind, DELIVER_TO_ITEM, DELIVER_TO_SESSION, GROWING, RELEASE, REQUEST, SHRINKING, TO_ITEM,
+};
+use model::layout::{
+    DIRECTION, HOLDER, ITEM_SIZE, JUNIORS, KIND, MAX_SESSIONS, QUEUE, QUEUE_LENGTH, ROUTE_ITEM,
+    ROUTE_SESSION, SESSION_SIZE, STAGE, TABLE_ITEMS, TABLE_SESSIONS,
+};
 use model::scenario::Random;
+use model::{Config, ACCEPTED};
 
 type Outcome = Result<(), String>;
 type Case = fn(&mut Comparison, &mut Random) -> Outcome;
 
-const REQUEST: u64 = 1;
-const RELEASE: u64 = 2;
-const TO_ITEM: u64 = 3;
-const TO_SESSION: u64 = 4;
+const LARGEST: Config = Config::LARGEST;
+
+/// The verbs are 1 to this.
+const LAST_VERB: u64 = DELIVER_TO_SESSION;
 
 /// The kinds of cases, how many of each a round has, and one round in how many
 /// has them.
@@ -49,15 +57,25 @@ pub fn round(comparison: &mut Comparison, seed: u64) -> Outcome {
 }
 
 /// Buffers of a fresh lock manager.
-fn fresh(comparison: &mut Comparison, shape: Shape) -> Result<Buffers, String> {
-    let mut buffers = Buffers {
-        table: vec![0xA5; shape.table_length()],
-        mail: vec![0x5A; shape.mail_length()],
-    };
-    match comparison.start(shape.sessions, shape.items, shape.capacity, &mut buffers)? {
-        0 => Ok(buffers),
+fn fresh(comparison: &mut Comparison, config: Config) -> Result<Buffers, String> {
+    let mut buffers = Buffers::filled(config, 0xA5);
+    match comparison.start(config, &mut buffers)? {
+        ACCEPTED => Ok(buffers),
         refusal => Err(format!("start is refused with {refusal}")),
     }
+}
+
+/// Any well-formed buffers, mostly small.
+fn forged_buffers(random: &mut Random) -> (Config, Buffers) {
+    let config = forge::config(random);
+    let count = Filling::draw(random).of(random, config.capacity);
+    (config, well_formed(random, config, count))
+}
+
+/// A verb, a session and an item within their bounds.
+fn any_call(random: &mut Random, config: Config) -> (u64, u64, u64) {
+    let verb = random.between(REQUEST, LAST_VERB);
+    (verb, config.any_session(random), config.any_item(random))
 }
 
 /// A message of well-formed mail, as far as its delivery asks.
@@ -69,19 +87,16 @@ struct Waiting {
     kind: u8,
 }
 
-fn messages(buffers: &Buffers) -> u64 {
-    u64::from(buffers.mail[2]) | u64::from(buffers.mail[3]) << 8
-}
-
 fn message(buffers: &Buffers, place: u64) -> Waiting {
-    let capacity = usize::from(buffers.mail[0]) | usize::from(buffers.mail[1]) << 8;
-    let route = &buffers.mail[4 + 3 * place as usize..][..3];
-    let body = &buffers.mail[4 + 3 * (capacity + place as usize)..][..3];
+    let route = buffers.route(place as usize);
     Waiting {
-        verb: if route[0] == 1 { TO_ITEM } else { TO_SESSION },
-        session: route[1].into(),
-        item: route[2].into(),
-        kind: body[0],
+        verb: match route[DIRECTION] {
+            TO_ITEM => DELIVER_TO_ITEM,
+            _ => DELIVER_TO_SESSION,
+        },
+        session: route[ROUTE_SESSION].into(),
+        item: route[ROUTE_ITEM].into(),
+        kind: buffers.body(place as usize)[KIND],
     }
 }
 
@@ -97,31 +112,29 @@ enum Schedule {
     SlowItem(u64),
 }
 
-const PROBE: u8 = 3;
-
 impl Schedule {
-    fn draw(random: &mut Random, shape: Shape) -> Schedule {
+    fn draw(random: &mut Random, config: Config) -> Schedule {
         match random.between(1, 8) {
             1 => Schedule::Oldest,
             2 => Schedule::Newest,
             3 => Schedule::ProbesFirst,
             4 => Schedule::ProbesLast,
-            5 => Schedule::SlowSession(shape.any_session(random)),
-            6 => Schedule::SlowItem(shape.any_item(random)),
+            5 => Schedule::SlowSession(config.any_session(random)),
+            6 => Schedule::SlowItem(config.any_item(random)),
             _ => Schedule::Any,
         }
     }
 
     fn choose(self, random: &mut Random, buffers: &Buffers) -> Option<Waiting> {
-        let last = messages(buffers).checked_sub(1)?;
+        let last = (buffers.count() as u64).checked_sub(1)?;
         let first = match self {
             Schedule::Oldest => return Some(message(buffers, 0)),
             Schedule::Newest => return Some(message(buffers, last)),
             _ => random.between(0, last),
         };
         let fits = |m: &Waiting| match self {
-            Schedule::ProbesFirst => m.kind == PROBE,
-            Schedule::ProbesLast => m.kind != PROBE,
+            Schedule::ProbesFirst => m.kind == kind::PROBE,
+            Schedule::ProbesLast => m.kind != kind::PROBE,
             Schedule::SlowSession(slow) => m.session != slow,
             Schedule::SlowItem(slow) => m.item != slow,
             _ => true,
@@ -136,12 +149,12 @@ impl Schedule {
 
 /// A number that is seldom right: out of bounds, or right if its upper bits
 /// were lost.
-fn odd_number(random: &mut Random, right: u64, most: u64) -> u64 {
+fn odd_number(random: &mut Random, right: u64, max: u64) -> u64 {
     match random.between(1, 12) {
         1 => 0,
-        2 => most + 1,
-        3 => 64,
-        4 => 65,
+        2 => max + 1,
+        3 => LARGEST.sessions,
+        4 => LARGEST.sessions + 1,
         5 => 255,
         6 => 256,
         7 => right + 256,
@@ -157,35 +170,35 @@ fn odd_number(random: &mut Random, right: u64, most: u64) -> u64 {
 fn any_step(
     comparison: &mut Comparison,
     random: &mut Random,
-    shape: Shape,
+    config: Config,
     buffers: &mut Buffers,
 ) -> Outcome {
     let verb = match random.between(0, 6) {
-        6 => odd_number(random, REQUEST, 4),
+        6 => odd_number(random, REQUEST, LAST_VERB),
         verb => verb,
     };
-    let session = random.between(0, shape.sessions + 1);
-    let item = random.between(0, shape.items + 1);
+    let session = random.between(0, config.sessions + 1);
+    let item = random.between(0, config.items + 1);
     comparison.step(verb, session, item, buffers)?;
     Ok(())
 }
 
 /// A run of steps from start, by bursts, with all mail delivered now and then.
-fn run(comparison: &mut Comparison, random: &mut Random, shape: Shape, steps: u64) -> Outcome {
-    let mut buffers = fresh(comparison, shape)?;
+fn run(comparison: &mut Comparison, random: &mut Random, config: Config, steps: u64) -> Outcome {
+    let mut buffers = fresh(comparison, config)?;
     let deliver_in_ten = random.between(2, 9);
     let release_one_in = random.between(3, 40);
-    let mut schedule = Schedule::draw(random, shape);
+    let mut schedule = Schedule::draw(random, config);
     let mut draining = false;
     for _ in 0..steps {
         if random.one_in(30) {
-            schedule = Schedule::draw(random, shape);
+            schedule = Schedule::draw(random, config);
             draining = random.one_in(3);
         }
         if random.one_in(40) {
-            any_step(comparison, random, shape, &mut buffers)?;
+            any_step(comparison, random, config, &mut buffers)?;
         } else if random.one_in(10) {
-            comparison.report(shape.any_session(random), &buffers)?;
+            comparison.report(config.any_session(random), &buffers)?;
         } else if draining || random.between(1, 10) <= deliver_in_ten {
             match schedule.choose(random, &buffers) {
                 None => draining = false,
@@ -199,7 +212,7 @@ fn run(comparison: &mut Comparison, random: &mut Random, shape: Shape, steps: u6
             } else {
                 REQUEST
             };
-            let (session, item) = own_step(random, shape, &buffers, verb);
+            let (session, item) = own_step(random, config, &buffers, verb);
             comparison.step(verb, session, item, &mut buffers)?;
         }
     }
@@ -208,14 +221,15 @@ fn run(comparison: &mut Comparison, random: &mut Random, shape: Shape, steps: u6
 
 /// A session and an item for a request or a release, accepted if some tries
 /// find such.
-fn own_step(random: &mut Random, shape: Shape, buffers: &Buffers, verb: u64) -> (u64, u64) {
+fn own_step(random: &mut Random, config: Config, buffers: &Buffers, verb: u64) -> (u64, u64) {
     let mut drawn = (1, 1);
     for _ in 0..6 {
-        drawn = (shape.any_session(random), shape.any_item(random));
-        let record = &buffers.table[2 + 74 * (drawn.0 as usize - 1)..][..74];
-        let held = u64::from_le_bytes(record[2..10].try_into().unwrap());
-        let holds = held >> (drawn.1 - 1) & 1 == 1;
-        if (record[0] == 1 || record[0] == 3 && verb == RELEASE) && holds == (verb == RELEASE) {
+        drawn = (config.any_session(random), config.any_item(random));
+        let record = buffers.session(drawn.0 as usize);
+        let stage = record[STAGE];
+        let holds = held(record) >> (drawn.1 - 1) & 1 == 1;
+        let releases = verb == RELEASE;
+        if (stage == GROWING || stage == SHRINKING && releases) && holds == releases {
             break;
         }
     }
@@ -223,7 +237,7 @@ fn own_step(random: &mut Random, shape: Shape, buffers: &Buffers, verb: u64) -> 
 }
 
 fn small_run(comparison: &mut Comparison, random: &mut Random) -> Outcome {
-    let shape = Shape {
+    let config = Config {
         sessions: random.between(1, 8),
         items: random.between(1, 8),
         capacity: match random.between(1, 8) {
@@ -234,16 +248,16 @@ fn small_run(comparison: &mut Comparison, random: &mut Random) -> Outcome {
             _ => 300,
         },
     };
-    run(comparison, random, shape, 400)
+    run(comparison, random, config, 400)
 }
 
 fn medium_run(comparison: &mut Comparison, random: &mut Random) -> Outcome {
-    let shape = Shape {
+    let config = Config {
         sessions: random.between(9, 32),
         items: random.between(9, 32),
         capacity: random.between(200, 1000),
     };
-    run(comparison, random, shape, 500)
+    run(comparison, random, config, 500)
 }
 
 fn largest_run(comparison: &mut Comparison, random: &mut Random) -> Outcome {
@@ -254,20 +268,16 @@ fn largest_run(comparison: &mut Comparison, random: &mut Random) -> Outcome {
 /// fewer, that the last request closes.
 fn long_cycle(comparison: &mut Comparison, random: &mut Random) -> Outcome {
     let sessions = if random.one_in(2) {
-        64
+        LARGEST.sessions
     } else {
-        random.between(3, 63)
+        random.between(3, LARGEST.sessions - 1)
     };
-    let shape = Shape {
-        sessions,
-        items: sessions,
-        capacity: 4096,
-    };
-    let mut buffers = fresh(comparison, shape)?;
+    let config = Config::new(sessions, sessions, LARGEST.capacity);
+    let mut buffers = fresh(comparison, config)?;
     let mut accepted = |comparison: &mut Comparison, verb, session, item| {
         let answer = comparison.step(verb, session, item, &mut buffers)?;
         match answer.refusal {
-            0 => Ok(answer),
+            ACCEPTED => Ok(answer),
             refusal => Err(format!(
                 "step {verb} {session} {item} is refused with {refusal}"
             )),
@@ -275,13 +285,13 @@ fn long_cycle(comparison: &mut Comparison, random: &mut Random) -> Outcome {
     };
     for session in 1..=sessions {
         accepted(comparison, REQUEST, session, session)?;
-        accepted(comparison, TO_ITEM, session, session)?;
-        accepted(comparison, TO_SESSION, session, session)?;
+        accepted(comparison, DELIVER_TO_ITEM, session, session)?;
+        accepted(comparison, DELIVER_TO_SESSION, session, session)?;
     }
     for session in 1..=sessions {
         let next = session % sessions + 1;
         accepted(comparison, REQUEST, session, next)?;
-        let answer = accepted(comparison, TO_ITEM, session, next)?;
+        let answer = accepted(comparison, DELIVER_TO_ITEM, session, next)?;
         if (answer.closed == 1) != (session == sessions) {
             return Err(format!(
                 "session {session} answers closed {}",
@@ -290,7 +300,7 @@ fn long_cycle(comparison: &mut Comparison, random: &mut Random) -> Outcome {
         }
     }
     let length = comparison
-        .report(shape.any_session(random), &buffers)?
+        .report(config.any_session(random), &buffers)?
         .length;
     if u64::from(length) != sessions {
         return Err(format!(
@@ -311,21 +321,21 @@ fn long_cycle(comparison: &mut Comparison, random: &mut Random) -> Outcome {
 fn some_steps(
     comparison: &mut Comparison,
     random: &mut Random,
-    shape: Shape,
+    config: Config,
     buffers: &mut Buffers,
     steps: u64,
 ) -> Outcome {
     for _ in 0..steps {
         match random.between(1, 10) {
-            1 => any_step(comparison, random, shape, buffers)?,
+            1 => any_step(comparison, random, config, buffers)?,
             2 | 3 => {
                 let verb = if random.one_in(3) { RELEASE } else { REQUEST };
-                let (session, item) = own_step(random, shape, buffers, verb);
+                let (session, item) = own_step(random, config, buffers, verb);
                 comparison.step(verb, session, item, buffers)?;
             }
             4 => {
-                let verb = random.between(TO_ITEM, TO_SESSION);
-                let (session, item) = (shape.any_session(random), shape.any_item(random));
+                let verb = random.between(DELIVER_TO_ITEM, DELIVER_TO_SESSION);
+                let (session, item) = (config.any_session(random), config.any_item(random));
                 comparison.step(verb, session, item, buffers)?;
             }
             _ => {
@@ -335,16 +345,14 @@ fn some_steps(
             }
         }
     }
-    comparison.report(shape.any_session(random), buffers)?;
+    comparison.report(config.any_session(random), buffers)?;
     Ok(())
 }
 
 fn forged(comparison: &mut Comparison, random: &mut Random) -> Outcome {
-    let shape = Shape::draw(random);
-    let count = Filling::draw(random).of(random, shape.capacity);
-    let mut buffers = well_formed(random, shape, count);
+    let (config, mut buffers) = forged_buffers(random);
     let steps = random.between(3, 8);
-    some_steps(comparison, random, shape, &mut buffers, steps)
+    some_steps(comparison, random, config, &mut buffers, steps)
 }
 
 fn forged_largest(comparison: &mut Comparison, random: &mut Random) -> Outcome {
@@ -362,58 +370,60 @@ fn forged_largest(comparison: &mut Comparison, random: &mut Random) -> Outcome {
 
 /// No room, or hardly any.
 fn full_mail(comparison: &mut Comparison, random: &mut Random) -> Outcome {
-    let mut shape = Shape::draw(random);
+    let mut config = forge::config(random);
     if random.one_in(2) {
-        shape.capacity = random.between(1, 2);
+        config.capacity = random.between(1, 2);
     }
-    let room = random.between(0, 3).min(shape.capacity);
-    let mut buffers = well_formed(random, shape, shape.capacity - room);
+    let room = random.between(0, 3).min(config.capacity);
+    let mut buffers = well_formed(random, config, config.capacity - room);
     let steps = random.between(3, 8);
-    some_steps(comparison, random, shape, &mut buffers, steps)
+    some_steps(comparison, random, config, &mut buffers, steps)
 }
 
 /// The steps that send most: a request with all 64 probes, a clean or a
 /// release at an item where 62 or 63 wait, into mail with more or less room.
 fn many_sends(comparison: &mut Comparison, random: &mut Random) -> Outcome {
-    let shape = Shape {
+    let config = Config {
         capacity: random.between(100, 400),
         ..LARGEST
     };
     let room = random.between(0, 140);
-    let count = shape.capacity.saturating_sub(room);
-    let buffers = well_formed(random, shape, count);
+    let count = config.capacity.saturating_sub(room);
+    let buffers = well_formed(random, config, count);
 
     let mut own = buffers.clone();
-    let session = shape.any_session(random);
-    let record = &mut own.table[2 + 74 * (session as usize - 1)..][..74];
-    record[..10].fill(0);
-    record[0] = 1;
-    for junior in &mut record[10..] {
-        *junior = shape.any_session(random) as u8;
+    let session = config.any_session(random);
+    let record = own.session_mut(session as usize);
+    record.fill(0);
+    record[STAGE] = GROWING;
+    for junior in &mut record[JUNIORS] {
+        *junior = config.any_session(random) as u8;
     }
-    comparison.step(REQUEST, session, shape.any_item(random), &mut own)?;
+    comparison.step(REQUEST, session, config.any_item(random), &mut own)?;
 
     let Some(place) = count.checked_sub(1) else {
         return Ok(());
     };
-    for kind in [2, 4, 5] {
+    for kind in [kind::RELEASE, kind::CLEAN, kind::REBROADCAST] {
         let mut at_item = buffers.clone();
-        let holder = random.between(50, 64);
-        let item = shape.any_item(random);
-        let record = &mut at_item.table[2 + 74 * 64 + 66 * (item as usize - 1)..][..66];
+        let holder = random.between(50, config.sessions) as u8;
+        let item = config.any_item(random);
+        let record = at_item.item_mut(item as usize);
         record.fill(0);
-        record[0] = holder as u8;
-        record[1] = 63;
-        let waiting = (1..=64).filter(|&session| session != holder as u8);
-        for (byte, session) in record[2..].iter_mut().rev().skip(1).zip(waiting) {
+        record[HOLDER] = holder;
+        // All others wait, the most junior first.
+        record[QUEUE_LENGTH] = MAX_SESSIONS as u8 - 1;
+        let waiting = (1..=MAX_SESSIONS as u8).filter(|&session| session != holder);
+        for (byte, session) in record[QUEUE].iter_mut().zip(waiting.rev()) {
             *byte = session;
         }
-        let route = 4 + 3 * place as usize;
-        let body = route + 3 * shape.capacity as usize;
-        let ab = if kind == 4 { 1 } else { 0 };
-        at_item.mail[route..route + 3].copy_from_slice(&[1, holder as u8, item as u8]);
-        at_item.mail[body..body + 3].copy_from_slice(&[kind, ab, ab]);
-        comparison.step(TO_ITEM, holder, item, &mut at_item)?;
+        let ab = u8::from(kind == kind::CLEAN);
+        at_item.set_message(
+            place as usize,
+            [TO_ITEM, holder, item as u8],
+            [kind, ab, ab],
+        );
+        comparison.step(DELIVER_TO_ITEM, holder.into(), item, &mut at_item)?;
     }
     Ok(())
 }
@@ -427,18 +437,21 @@ fn broken_largest(comparison: &mut Comparison, random: &mut Random) -> Outcome {
     broken_forms(comparison, random, Some(LARGEST))
 }
 
-fn broken_forms(comparison: &mut Comparison, random: &mut Random, shape: Option<Shape>) -> Outcome {
+fn broken_forms(
+    comparison: &mut Comparison,
+    random: &mut Random,
+    config: Option<Config>,
+) -> Outcome {
     for way in BREAKS {
-        let shape = shape.unwrap_or_else(|| Shape::draw(random));
-        let count = random.between(0, shape.capacity);
-        let mut buffers = well_formed(random, shape, count);
-        if !way.apply(random, shape, &mut buffers) {
+        let config = config.unwrap_or_else(|| forge::config(random));
+        let count = random.between(0, config.capacity);
+        let mut buffers = well_formed(random, config, count);
+        if !way.apply(random, config, &mut buffers) {
             continue;
         }
-        let verb = random.between(REQUEST, TO_SESSION);
-        let (session, item) = (shape.any_session(random), shape.any_item(random));
+        let (verb, session, item) = any_call(random, config);
         let refusal = comparison.step(verb, session, item, &mut buffers)?.refusal;
-        if refusal != way.refusal {
+        if refusal != way.refusal as u8 {
             return Err(format!("{} is refused with {refusal}", way.name));
         }
         comparison.coverage.broken(way.name);
@@ -450,9 +463,7 @@ fn broken_forms(comparison: &mut Comparison, random: &mut Random, shape: Option<
 /// One to three changes anywhere, then a step and a report, sometimes with
 /// numbers out of bounds too, so that causes meet each other.
 fn damaged(comparison: &mut Comparison, random: &mut Random) -> Outcome {
-    let shape = Shape::draw(random);
-    let count = Filling::draw(random).of(random, shape.capacity);
-    let mut buffers = well_formed(random, shape, count);
+    let (config, mut buffers) = forged_buffers(random);
     let changes = if random.one_in(3) {
         random.between(2, 3)
     } else {
@@ -461,19 +472,15 @@ fn damaged(comparison: &mut Comparison, random: &mut Random) -> Outcome {
     for _ in 0..changes {
         damage(random, &mut buffers);
     }
-    let (mut verb, mut session, mut item) = (
-        random.between(REQUEST, TO_SESSION),
-        shape.any_session(random),
-        shape.any_item(random),
-    );
+    let (mut verb, mut session, mut item) = any_call(random, config);
     if random.one_in(4) {
-        session = odd_number(random, session, shape.sessions);
+        session = odd_number(random, session, config.sessions);
     }
     if random.one_in(6) {
-        item = odd_number(random, item, shape.items);
+        item = odd_number(random, item, config.items);
     }
     if random.one_in(8) {
-        verb = odd_number(random, verb, 4);
+        verb = odd_number(random, verb, LAST_VERB);
     }
     comparison.step(verb, session, item, &mut buffers)?;
     comparison.report(session, &buffers)?;
@@ -520,27 +527,30 @@ fn any_byte(random: &mut Random, old: u8) -> u8 {
         3 => old ^ 1 << random.between(0, 7),
         4 => 0,
         5 => random.between(1, 10) as u8,
-        6 => 64 + random.between(0, 1) as u8,
+        6 => MAX_SESSIONS as u8 + random.between(0, 1) as u8,
         _ => random.between(0, 255) as u8,
     }
 }
 
-/// 33 sessions more and 37 items less give a table of equal length, whose
+/// So many sessions more and items less give a table of equal length, whose
 /// records then lie elsewhere.
+const MORE_SESSIONS: u64 = ITEM_SIZE as u64 / 2;
+const LESS_ITEMS: u64 = SESSION_SIZE as u64 / 2;
+
 fn other_bounds(comparison: &mut Comparison, random: &mut Random) -> Outcome {
-    let shape = Shape {
-        sessions: random.between(34, 64),
-        items: random.between(1, 27),
+    let config = Config {
+        sessions: random.between(MORE_SESSIONS + 1, LARGEST.sessions),
+        items: random.between(1, LARGEST.items - LESS_ITEMS),
         capacity: random.between(1, 8),
     };
     let mut buffers = if random.one_in(2) {
-        fresh(comparison, shape)?
+        fresh(comparison, config)?
     } else {
-        well_formed(random, shape, 0)
+        well_formed(random, config, 0)
     };
-    buffers.table[0] -= 33;
-    buffers.table[1] += 37;
-    let (session, item) = (shape.any_session(random), shape.any_item(random));
+    buffers.table[TABLE_SESSIONS] -= MORE_SESSIONS as u8;
+    buffers.table[TABLE_ITEMS] += LESS_ITEMS as u8;
+    let (_, session, item) = any_call(random, config);
     comparison.step(REQUEST, session, item, &mut buffers)?;
     comparison.report(session, &buffers)?;
     Ok(())
@@ -548,14 +558,11 @@ fn other_bounds(comparison: &mut Comparison, random: &mut Random) -> Outcome {
 
 /// Well-formed buffers and numbers that are seldom right.
 fn numbers(comparison: &mut Comparison, random: &mut Random) -> Outcome {
-    let shape = Shape::draw(random);
-    let count = Filling::draw(random).of(random, shape.capacity);
-    let mut buffers = well_formed(random, shape, count);
-    let verb = random.between(REQUEST, TO_SESSION);
-    let (session, item) = (shape.any_session(random), shape.any_item(random));
-    let odd_verb = odd_number(random, verb, 4);
-    let odd_session = odd_number(random, session, shape.sessions);
-    let odd_item = odd_number(random, item, shape.items);
+    let (config, mut buffers) = forged_buffers(random);
+    let (verb, session, item) = any_call(random, config);
+    let odd_verb = odd_number(random, verb, LAST_VERB);
+    let odd_session = odd_number(random, session, config.sessions);
+    let odd_item = odd_number(random, item, config.items);
     comparison.step(odd_verb, session, item, &mut buffers)?;
     comparison.step(verb, odd_session, item, &mut buffers)?;
     comparison.step(verb, session, odd_item, &mut buffers)?;
@@ -566,54 +573,41 @@ fn numbers(comparison: &mut Comparison, random: &mut Random) -> Outcome {
 
 /// Starts with right and wrong numbers and lengths, on bytes of any kind.
 fn starts(comparison: &mut Comparison, random: &mut Random) -> Outcome {
-    let mut shape = Shape::draw(random);
+    let mut config = forge::config(random);
     if random.one_in(8) {
-        shape.sessions = random.between(1, 64);
-        shape.items = random.between(1, 64);
-        shape.capacity = random.between(1, 300);
+        config.sessions = random.between(1, LARGEST.sessions);
+        config.items = random.between(1, LARGEST.items);
+        config.capacity = random.between(1, 300);
     }
     if random.one_in(60) {
-        shape = LARGEST;
+        config = LARGEST;
     }
     let filler = random.between(0, 255) as u8;
-    let mut buffers = Buffers {
-        table: vec![filler; shape.table_length()],
-        mail: vec![filler; shape.mail_length()],
-    };
-    let (mut sessions, mut items, mut capacity) = (shape.sessions, shape.items, shape.capacity);
+    let mut buffers = Buffers::filled(config, filler);
     match random.between(1, 8) {
-        1 => sessions = odd_number(random, sessions, 64),
-        2 => items = odd_number(random, items, 64),
-        3 => capacity = odd_number(random, capacity, 4096),
+        1 => config.sessions = odd_number(random, config.sessions, LARGEST.sessions),
+        2 => config.items = odd_number(random, config.items, LARGEST.items),
+        3 => config.capacity = odd_number(random, config.capacity, LARGEST.capacity),
         4 => damage(random, &mut buffers),
-        5 => (sessions, items) = (items, sessions),
+        5 => (config.sessions, config.items) = (config.items, config.sessions),
         _ => {}
     }
-    comparison.start(sessions, items, capacity, &mut buffers)?;
+    comparison.start(config, &mut buffers)?;
     // Bounds passed, and buffers of the length that would belong to them.
     if random.one_in(4) {
-        let (sessions, items, capacity) = match random.between(1, 6) {
-            1 => (65, 1, 1),
-            2 => (1, 65, 1),
-            3 => (1, 1, 4097),
-            4 => (0, 1, 1),
-            5 => (1, 0, 1),
-            _ => (1, 1, 0),
-        };
-        let shape = Shape {
-            sessions,
-            items,
-            capacity,
-        };
-        let mut buffers = Buffers {
-            table: vec![filler; shape.table_length()],
-            mail: vec![filler; shape.mail_length()],
-        };
-        comparison.start(sessions, items, capacity, &mut buffers)?;
+        let mut config = Config::new(1, 1, 1);
+        match random.between(1, 6) {
+            1 => config.sessions = LARGEST.sessions + 1,
+            2 => config.items = LARGEST.items + 1,
+            3 => config.capacity = LARGEST.capacity + 1,
+            4 => config.sessions = 0,
+            5 => config.items = 0,
+            _ => config.capacity = 0,
+        }
+        let mut buffers = Buffers::filled(config, filler);
+        comparison.start(config, &mut buffers)?;
         // The same numbers carried by the buffers.
-        buffers.table[0] = sessions as u8;
-        buffers.table[1] = items as u8;
-        buffers.mail[..2].copy_from_slice(&(capacity as u16).to_le_bytes());
+        buffers.set_numbers(config);
         comparison.step(REQUEST, 1, 1, &mut buffers)?;
         comparison.report(1, &buffers)?;
     }
@@ -624,16 +618,12 @@ fn starts(comparison: &mut Comparison, random: &mut Random) -> Outcome {
 /// table, a report.
 pub fn every_value(comparison: &mut Comparison) -> Outcome {
     let mut random = Random::new(0);
-    let shape = Shape {
-        sessions: 2,
-        items: 2,
-        capacity: 2,
-    };
-    for count in 0..=shape.capacity {
-        let buffers = well_formed(&mut random, shape, count);
+    let config = Config::new(2, 2, 2);
+    for count in 0..=config.capacity {
+        let buffers = well_formed(&mut random, config, count);
         for place in 0..buffers.table.len() + buffers.mail.len() {
             for value in 0..=255 {
-                one_change(comparison, &mut random, shape, &buffers, place, value)?;
+                one_change(comparison, &mut random, config, &buffers, place, value)?;
             }
         }
     }
@@ -643,26 +633,22 @@ pub fn every_value(comparison: &mut Comparison) -> Outcome {
 /// Every byte of larger buffers in turn with one other value.
 pub fn every_place(comparison: &mut Comparison) -> Outcome {
     let mut random = Random::new(0);
-    let shapes = [
-        (1, 1, 1, 1),
-        (3, 5, 7, 4),
-        (16, 15, 17, 16),
-        (17, 33, 31, 15),
-        (63, 64, 65, 32),
-        (64, 63, 300, 299),
-        (64, 64, 4096, 64),
-        (64, 64, 4096, 4090),
+    let (last_session, last_item) = (LARGEST.sessions, LARGEST.items);
+    let configs = [
+        (Config::new(1, 1, 1), 1),
+        (Config::new(3, 5, 7), 4),
+        (Config::new(16, 15, 17), 16),
+        (Config::new(17, 33, 31), 15),
+        (Config::new(last_session - 1, last_item, 65), 32),
+        (Config::new(last_session, last_item - 1, 300), 299),
+        (LARGEST, 64),
+        (LARGEST, LARGEST.capacity - 6),
     ];
-    for (sessions, items, capacity, count) in shapes {
-        let shape = Shape {
-            sessions,
-            items,
-            capacity,
-        };
-        let buffers = well_formed(&mut random, shape, count);
+    for (config, count) in configs {
+        let buffers = well_formed(&mut random, config, count);
         for place in 0..buffers.table.len() + buffers.mail.len() {
             let value = random.between(1, 255) as u8;
-            one_change(comparison, &mut random, shape, &buffers, place, value)?;
+            one_change(comparison, &mut random, config, &buffers, place, value)?;
         }
     }
     Ok(())
@@ -673,7 +659,7 @@ pub fn every_place(comparison: &mut Comparison) -> Outcome {
 fn one_change(
     comparison: &mut Comparison,
     random: &mut Random,
-    shape: Shape,
+    config: Config,
     buffers: &Buffers,
     place: usize,
     value: u8,
@@ -683,11 +669,10 @@ fn one_change(
         None => changed.table[place] = value,
         Some(place) => changed.mail[place] = value,
     }
-    let (session, item) = (shape.any_session(random), shape.any_item(random));
+    let (verb, session, item) = any_call(random, config);
     if place < changed.table.len() {
         comparison.report(session, &changed)?;
     }
-    let verb = random.between(REQUEST, TO_SESSION);
     comparison.step(verb, session, item, &mut changed)?;
     Ok(())
 }

@@ -3,13 +3,92 @@
 
 use crate::calls::Calls;
 use crate::coverage::Coverage;
-use model::{Answer, Cycle};
+use model::layout::{
+    body_at, item_at, read_u16, route_at, session_at, write_u16, BODY_SIZE, HELD, MAIL_CAPACITY,
+    MAIL_COUNT, MAIL_HEADER, QUEUE, QUEUE_LENGTH, ROUTE_SIZE, TABLE_HEADER, TABLE_ITEMS,
+    TABLE_SESSIONS,
+};
+use model::{Answer, Config, Cycle};
 
 /// The two buffers of a lock manager.
 #[derive(Clone, PartialEq, Eq, Debug, Default)]
 pub struct Buffers {
     pub table: Vec<u8>,
     pub mail: Vec<u8>,
+}
+
+impl Buffers {
+    /// Buffers of the lengths that a start asks for, filled with one byte.
+    pub fn filled(config: Config, filler: u8) -> Buffers {
+        Buffers {
+            table: vec![filler; config.table_length()],
+            mail: vec![filler; config.mail_length()],
+        }
+    }
+
+    /// The numbers of a config, written where the buffers carry them.
+    pub fn set_numbers(&mut self, config: Config) {
+        self.table[TABLE_SESSIONS] = config.sessions as u8;
+        self.table[TABLE_ITEMS] = config.items as u8;
+        write_u16(&mut self.mail[MAIL_CAPACITY], config.capacity as usize);
+    }
+
+    pub fn session(&self, session: usize) -> &[u8] {
+        &self.table[session_at(session)]
+    }
+
+    pub fn session_mut(&mut self, session: usize) -> &mut [u8] {
+        &mut self.table[session_at(session)]
+    }
+
+    pub fn item(&self, item: usize) -> &[u8] {
+        &self.table[item_at(self.sessions(), item)]
+    }
+
+    pub fn item_mut(&mut self, item: usize) -> &mut [u8] {
+        let bytes = item_at(self.sessions(), item);
+        &mut self.table[bytes]
+    }
+
+    fn sessions(&self) -> usize {
+        self.table[TABLE_SESSIONS].into()
+    }
+
+    pub fn capacity(&self) -> usize {
+        read_u16(&self.mail[MAIL_CAPACITY]).into()
+    }
+
+    pub fn count(&self) -> usize {
+        read_u16(&self.mail[MAIL_COUNT]).into()
+    }
+
+    pub fn set_count(&mut self, count: usize) {
+        write_u16(&mut self.mail[MAIL_COUNT], count);
+    }
+
+    pub fn route(&self, place: usize) -> &[u8] {
+        &self.mail[route_at(place)]
+    }
+
+    pub fn body(&self, place: usize) -> &[u8] {
+        &self.mail[body_at(self.capacity(), place)]
+    }
+
+    pub fn set_message(&mut self, place: usize, route: [u8; ROUTE_SIZE], body: [u8; BODY_SIZE]) {
+        let capacity = self.capacity();
+        self.mail[route_at(place)].copy_from_slice(&route);
+        self.mail[body_at(capacity, place)].copy_from_slice(&body);
+    }
+}
+
+/// The items in the mask of a session's record.
+pub fn held(session: &[u8]) -> u64 {
+    u64::from_le_bytes(session[HELD].try_into().unwrap())
+}
+
+/// The sessions in the queue of an item's record.
+pub fn queue(item: &[u8]) -> &[u8] {
+    &item[QUEUE][..usize::from(item[QUEUE_LENGTH])]
 }
 
 /// Bytes that the subject gets, between others that it must not touch. The
@@ -98,35 +177,23 @@ impl Comparison {
             .or(mail.map(|text| format!("mail: {text}")));
         match found {
             None => Ok(()),
-            Some(text) => Err(format!("{call} {}: {text}", shape(before))),
+            Some(text) => Err(format!("{call} {}: {text}", sizes(before))),
         }
     }
 
-    pub fn start(
-        &mut self,
-        sessions: u64,
-        items: u64,
-        capacity: u64,
-        buffers: &mut Buffers,
-    ) -> Result<u8, String> {
+    pub fn start(&mut self, config: Config, buffers: &mut Buffers) -> Result<u8, String> {
         self.load(buffers);
-        let found = self.subject.start(
-            sessions,
-            items,
-            capacity,
-            self.table.lent(),
-            self.mail.lent(),
-        );
+        let (table, mail) = (self.table.lent(), self.mail.lent());
+        let found = self.subject.start(config, table, mail);
         let after = &mut self.after;
-        let expected = model::start(sessions, items, capacity, &mut after.table, &mut after.mail);
-        let call = format!("start {sessions} {items} {capacity}");
+        let expected = model::start(config, &mut after.table, &mut after.mail);
+        let call = format!("start {config:?}");
         if found != expected {
-            let shape = shape(buffers);
-            return Err(format!("{call} {shape}: answers {found}, not {expected}"));
+            let sizes = sizes(buffers);
+            return Err(format!("{call} {sizes}: answers {found}, not {expected}"));
         }
         self.same_bytes(&call, buffers)?;
-        self.coverage
-            .start([sessions, items, capacity], buffers, expected);
+        self.coverage.start(config, buffers, expected);
         std::mem::swap(buffers, &mut self.after);
         Ok(expected)
     }
@@ -145,9 +212,9 @@ impl Comparison {
         let after = &mut self.after;
         let expected = model::step(verb, session, item, &mut after.table, &mut after.mail);
         if found != expected {
-            let shape = shape(buffers);
+            let sizes = sizes(buffers);
             return Err(format!(
-                "step {verb} {session} {item} {shape}: answers {found:?}, not {expected:?}"
+                "step {verb} {session} {item} {sizes}: answers {found:?}, not {expected:?}"
             ));
         }
         self.same_bytes(&format!("step {verb} {session} {item}"), buffers)?;
@@ -161,13 +228,13 @@ impl Comparison {
         let found = self.subject.report(session, self.table.lent());
         let expected = model::report(session, &buffers.table);
         if found != expected {
-            let shape = shape(buffers);
+            let sizes = sizes(buffers);
             return Err(format!(
-                "report {session} {shape}: answers {found:?}, not {expected:?}"
+                "report {session} {sizes}: answers {found:?}, not {expected:?}"
             ));
         }
         if let Some(text) = self.table.differs(&buffers.table) {
-            return Err(format!("report {session} {}: {text}", shape(buffers)));
+            return Err(format!("report {session} {}: {text}", sizes(buffers)));
         }
         self.coverage.report(session, buffers, expected);
         Ok(expected)
@@ -175,13 +242,13 @@ impl Comparison {
 }
 
 /// The buffers in a few words.
-fn shape(buffers: &Buffers) -> String {
+fn sizes(buffers: &Buffers) -> String {
     let start = |bytes: &[u8], n: usize| format!("{:?}", &bytes[..n.min(bytes.len())]);
     format!(
         "on a table of {} bytes {} and mail of {} bytes {}",
         buffers.table.len(),
-        start(&buffers.table, 2),
+        start(&buffers.table, TABLE_HEADER),
         buffers.mail.len(),
-        start(&buffers.mail, 4),
+        start(&buffers.mail, MAIL_HEADER),
     )
 }

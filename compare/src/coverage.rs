@@ -2,9 +2,15 @@
 //! branches of every rule, ways to break the form, sizes and numbers. A place
 //! that was never met makes the comparison worthless, so it fails then.
 
-use crate::comparison::Buffers;
-use model::layout::{mail_length, table_length, ITEM_SIZE, MOST, MOST_CAPACITY, SESSION_SIZE};
-use model::{Answer, Cycle};
+use crate::comparison::{held, queue, Buffers};
+use crate::numbers::{
+    kind, CLEANING, DELIVER_TO_ITEM, GROWING, RELEASE, REQUEST, TO_ITEM, TO_SESSION, WAITING,
+    WITHDRAWING,
+};
+use model::layout::{
+    AWAITED, BODY_A, BODY_B, HOLDER, JUNIORS, KIND, MAX_SESSIONS, STAGE, TABLE_HEADER,
+};
+use model::{Answer, Config, Cycle, Refusal, ACCEPTED};
 use std::collections::BTreeMap;
 use std::fmt::{self, Display, Formatter};
 
@@ -12,20 +18,35 @@ use std::fmt::{self, Display, Formatter};
 pub const REFUSALS_AT_LEAST: u64 = 1_000;
 
 /// The calls and the refusals that each can give.
-const CALLS: [(&str, &[usize]); 3] = [
-    ("start", &[2]),
-    ("step", &[1, 2, 3, 4, 5, 6, 7, 8, 9]),
-    ("report", &[2, 3, 5]),
+const CALLS: [(&str, &[Refusal]); 3] = [
+    ("start", &[Refusal::BadSize]),
+    ("step", &Refusal::ALL),
+    (
+        "report",
+        &[Refusal::BadSize, Refusal::BadTable, Refusal::BadNumber],
+    ),
 ];
+
+const START: usize = 0;
+const STEP: usize = 1;
+const REPORT: usize = 2;
+
+/// Refusals and, first, an accepted call.
+const ANSWERS: usize = Refusal::ALL.len() + 1;
+
+/// Whether a call can give a refusal of this number.
+fn gives(refusals: &[Refusal], number: usize) -> bool {
+    refusals.iter().any(|&refusal| refusal as usize == number)
+}
 
 /// The kinds that reach a session.
 const KINDS: [(u8, &str); 6] = [
-    (3, "probe"),
-    (4, "clean"),
-    (7, "grant"),
-    (8, "resend"),
-    (9, "abort"),
-    (10, "withdrawn"),
+    (kind::PROBE, "probe"),
+    (kind::CLEAN, "clean"),
+    (kind::GRANT, "grant"),
+    (kind::RESEND, "resend"),
+    (kind::ABORT, "abort"),
+    (kind::WITHDRAWN, "withdrawn"),
 ];
 
 const STAGES: [&str; 6] = [
@@ -138,36 +159,12 @@ impl Group {
 }
 
 pub struct Coverage {
-    refusals: [[u64; 10]; CALLS.len()],
+    refusals: [[u64; ANSWERS]; CALLS.len()],
     pairs: [[u64; STAGES.len()]; KINDS.len()],
     items: Group,
     sessions: Group,
     situations: Group,
     breaks: Group,
-}
-
-/// A well-formed table, read by place.
-struct Records<'a> {
-    table: &'a [u8],
-    sessions: usize,
-}
-
-impl<'a> Records<'a> {
-    fn new(table: &'a [u8]) -> Records<'a> {
-        Records {
-            table,
-            sessions: table[0].into(),
-        }
-    }
-
-    fn session(&self, session: usize) -> &'a [u8] {
-        &self.table[2 + SESSION_SIZE * (session - 1)..][..SESSION_SIZE]
-    }
-
-    fn item(&self, item: usize) -> &'a [u8] {
-        let behind = 2 + SESSION_SIZE * self.sessions;
-        &self.table[behind + ITEM_SIZE * (item - 1)..][..ITEM_SIZE]
-    }
 }
 
 impl Coverage {
@@ -209,77 +206,63 @@ impl Coverage {
         }
     }
 
-    pub(crate) fn start(&mut self, numbers: [u64; 3], before: &Buffers, refusal: u8) {
-        self.count(0, refusal, &numbers, before);
-        if refusal == 0 && before.table.iter().chain(&before.mail).any(|&b| b != 0) {
+    pub(crate) fn start(&mut self, config: Config, before: &Buffers, refusal: u8) {
+        let numbers = [config.sessions, config.items, config.capacity];
+        self.count(START, refusal, &numbers, before);
+        if refusal == ACCEPTED && before.table.iter().chain(&before.mail).any(|&b| b != 0) {
             self.situations.hit("accepted start on used bytes");
         }
     }
 
     pub(crate) fn report(&mut self, session: u64, buffers: &Buffers, cycle: Cycle) {
-        self.count(2, cycle.refusal, &[session], buffers);
-        if cycle.refusal == 0 {
-            self.situations.hit(match cycle.length {
+        self.count(REPORT, cycle.refusal, &[session], buffers);
+        if cycle.refusal == ACCEPTED {
+            self.situations.hit(match usize::from(cycle.length) {
                 0 => "report: not on a cycle",
                 2 => "report: cycle of 2",
-                64 => "report: cycle of 64",
+                MAX_SESSIONS => "report: cycle of 64",
                 _ => "report: cycle of 3 to 63",
             });
         }
     }
 
     pub(crate) fn step(&mut self, numbers: [u64; 3], before: &Buffers, answer: Answer) {
-        self.count(1, answer.refusal, &numbers, before);
+        self.count(STEP, answer.refusal, &numbers, before);
         if before.mail.is_empty() {
             self.situations.hit("mail of length 0");
         }
-        if answer.refusal != 0 {
+        if answer.refusal != ACCEPTED {
             return;
         }
-        let [verb, session, item] = numbers.map(|n| n as usize);
-        let number = |place: usize| {
-            usize::from(before.mail[place]) | usize::from(before.mail[place + 1]) << 8
-        };
-        let (capacity, count) = (number(0), number(2));
-        self.sizes(before, capacity, count, verb, answer);
+        let [verb, session, item] = numbers;
+        self.sizes(before, verb, answer);
 
-        let records = Records::new(&before.table);
-        let route = [
-            verb as u8 - 2 * u8::from(verb > 2),
-            session as u8,
-            item as u8,
-        ];
-        let message = || {
-            let routes = &before.mail[4..4 + 3 * count];
-            let place = routes.chunks(3).position(|entry| entry == route).unwrap();
-            let body = &before.mail[4 + 3 * (capacity + place)..][..3];
-            (body[0], body[1], body[2])
+        let (own, from) = (session as u8, item as u8);
+        let body = |direction| {
+            let route = [direction, own, from];
+            let place = (0..before.count()).find(|&place| before.route(place) == route);
+            before.body(place.unwrap())
         };
+        let (session, item) = (session as usize, item as usize);
         match verb {
-            1 | 2 => self.own_step(verb, records.session(session)),
-            3 => self.at_item(session as u8, records.item(item), message(), answer),
-            _ => self.at_session(session as u8, item, records.session(session), message()),
+            REQUEST | RELEASE => self.own_step(verb, before.session(session)),
+            DELIVER_TO_ITEM => self.at_item(own, before.item(item), body(TO_ITEM), answer),
+            _ => self.at_session(own, from, before.session(session), body(TO_SESSION)),
         }
     }
 
-    fn sizes(
-        &mut self,
-        before: &Buffers,
-        capacity: usize,
-        count: usize,
-        verb: usize,
-        answer: Answer,
-    ) {
+    fn sizes(&mut self, before: &Buffers, verb: u64, answer: Answer) {
+        let (capacity, count) = (before.capacity(), before.count());
         let situations = &mut self.situations;
-        let largest = before.table.len() == table_length(MOST, MOST)
-            && before.mail.len() == mail_length(MOST_CAPACITY);
+        let largest = before.table.len() == Config::LARGEST.table_length()
+            && before.mail.len() == Config::LARGEST.mail_length();
         if largest {
             situations.hit("64 sessions, 64 items, capacity 4096");
             if count == capacity {
                 situations.hit("64 sessions, 64 items, capacity 4096, mail full");
             }
         }
-        if before.table[..2] == [1, 1] {
+        if before.table[..TABLE_HEADER] == [1, 1] {
             situations.hit("one session and one item");
         }
         match capacity {
@@ -290,7 +273,7 @@ impl Coverage {
         if count == capacity {
             situations.hit("accepted step on a full mail");
         }
-        let taken = usize::from(verb > 2);
+        let taken = usize::from(verb >= DELIVER_TO_ITEM);
         if count < capacity && count - taken + usize::from(answer.sent) == capacity {
             situations.hit("accepted step that fills the mail");
         }
@@ -302,28 +285,30 @@ impl Coverage {
         }
     }
 
-    fn own_step(&mut self, verb: usize, record: &[u8]) {
-        let stored = record[10..].iter().any(|&junior| junior != 0);
-        self.sessions.hit(match (verb, record[0]) {
-            (1, _) if stored => "own request: stored probes",
-            (1, _) => "own request: no stored probe",
-            (_, 1) => "own release: growing",
+    fn own_step(&mut self, verb: u64, record: &[u8]) {
+        let stored = record[JUNIORS].iter().any(|&junior| junior != 0);
+        self.sessions.hit(match (verb, record[STAGE]) {
+            (REQUEST, _) if stored => "own request: stored probes",
+            (REQUEST, _) => "own request: no stored probe",
+            (_, GROWING) => "own release: growing",
             _ => "own release: shrinking",
         });
     }
 
-    fn at_item(&mut self, from: u8, record: &[u8], message: (u8, u8, u8), answer: Answer) {
-        let holder = record[0];
-        let queue = &record[2..2 + usize::from(record[1])];
+    fn at_item(&mut self, from: u8, record: &[u8], body: &[u8], answer: Answer) {
+        let holder = record[HOLDER];
+        let queue = queue(record);
         let waits = queue.contains(&from);
         let senior_to = |holder: u8, queue: &[u8]| queue.iter().any(|&waiting| waiting < holder);
         let rules = &mut self.items;
-        match message.0 {
-            1 if from == holder => rules.hit("request: from the holder, dropped"),
-            1 if waits => rules.hit("request: from the queue, dropped"),
-            1 if holder == 0 && queue.is_empty() => rules.hit("request: no holder, granted"),
-            1 if holder == 0 => rules.hit("request: no holder but a queue, granted"),
-            1 => {
+        match body[KIND] {
+            kind::REQUEST if from == holder => rules.hit("request: from the holder, dropped"),
+            kind::REQUEST if waits => rules.hit("request: from the queue, dropped"),
+            kind::REQUEST if holder == 0 && queue.is_empty() => {
+                rules.hit("request: no holder, granted")
+            }
+            kind::REQUEST if holder == 0 => rules.hit("request: no holder but a queue, granted"),
+            kind::REQUEST => {
                 rules.hit(if from < holder {
                     "request: joins, senior to the holder"
                 } else {
@@ -335,8 +320,8 @@ impl Coverage {
                     "request: joins and closes none"
                 });
             }
-            2 if from != holder => rules.hit("release: not from the holder, dropped"),
-            2 => rules.hit(match queue {
+            kind::RELEASE if from != holder => rules.hit("release: not from the holder, dropped"),
+            kind::RELEASE => rules.hit(match queue {
                 [] => "release: empty queue, no holder",
                 [_] => "release: next holder, nobody left waiting",
                 [next, left @ ..] if senior_to(*next, left) => {
@@ -344,13 +329,13 @@ impl Coverage {
                 }
                 _ => "release: next holder, resends alone",
             }),
-            3 if !waits => rules.hit("probe: not from the queue, dropped"),
-            3 if holder == 0 => rules.hit("probe: no holder, dropped"),
-            3 if holder < message.1 => rules.hit("probe: holder senior, dropped"),
-            3 if holder > message.1 => rules.hit("probe: holder junior, passed on"),
-            3 => rules.hit("probe: holder is the initiator, declared"),
-            4 if holder == 0 => rules.hit("clean: no holder, dropped"),
-            4 => {
+            kind::PROBE if !waits => rules.hit("probe: not from the queue, dropped"),
+            kind::PROBE if holder == 0 => rules.hit("probe: no holder, dropped"),
+            kind::PROBE if holder < body[BODY_A] => rules.hit("probe: holder senior, dropped"),
+            kind::PROBE if holder > body[BODY_A] => rules.hit("probe: holder junior, passed on"),
+            kind::PROBE => rules.hit("probe: holder is the initiator, declared"),
+            kind::CLEAN if holder == 0 => rules.hit("clean: no holder, dropped"),
+            kind::CLEAN => {
                 rules.hit(if waits {
                     "clean: from the queue"
                 } else {
@@ -362,34 +347,36 @@ impl Coverage {
                     "clean: without probes"
                 });
             }
-            5 if holder == 0 => rules.hit("rebroadcast: no holder, dropped"),
-            5 if queue.is_empty() => rules.hit("rebroadcast: empty queue"),
-            5 if senior_to(holder, queue) => rules.hit("rebroadcast: probes and resends"),
-            5 => rules.hit("rebroadcast: resends alone"),
+            kind::REBROADCAST if holder == 0 => rules.hit("rebroadcast: no holder, dropped"),
+            kind::REBROADCAST if queue.is_empty() => rules.hit("rebroadcast: empty queue"),
+            kind::REBROADCAST if senior_to(holder, queue) => {
+                rules.hit("rebroadcast: probes and resends")
+            }
+            kind::REBROADCAST => rules.hit("rebroadcast: resends alone"),
             _ if waits => rules.hit("withdraw: from the queue"),
             _ => rules.hit("withdraw: not from the queue"),
         }
     }
 
-    fn at_session(&mut self, own: u8, from: usize, record: &[u8], message: (u8, u8, u8)) {
-        let (kind, a, b) = message;
-        let stage = record[0];
+    fn at_session(&mut self, own: u8, from: u8, record: &[u8], body: &[u8]) {
+        let (kind, a, b) = (body[KIND], body[BODY_A], body[BODY_B]);
+        let stage = record[STAGE];
         let row = KINDS
             .iter()
             .position(|&(number, _)| number == kind)
             .unwrap();
         self.pairs[row][usize::from(stage) - 1] += 1;
 
-        let awaited = usize::from(record[1]) == from;
-        let held = u64::from_le_bytes(record[2..10].try_into().unwrap());
+        let awaited = record[AWAITED] == from;
+        let held = held(record);
         let sender = 1u64 << (from - 1);
-        let stored = record[10..].iter().any(|&junior| junior != 0);
+        let stored = record[JUNIORS].iter().any(|&junior| junior != 0);
         let rules = &mut self.sessions;
         match (kind, stage) {
-            (7, 2) if awaited => rules.hit("grant: from the awaited item"),
-            (7, 2) => rules.hit("grant: from another item, dropped"),
-            (3, 1 | 2) => {
-                let before = record[9 + usize::from(a)];
+            (kind::GRANT, WAITING) if awaited => rules.hit("grant: from the awaited item"),
+            (kind::GRANT, WAITING) => rules.hit("grant: from another item, dropped"),
+            (kind::PROBE, GROWING | WAITING) => {
+                let before = record[JUNIORS][usize::from(a) - 1];
                 rules.hit(if before == 0 {
                     "probe: none stored"
                 } else if b.max(own) > before {
@@ -404,10 +391,14 @@ impl Coverage {
                     rules.hit("probe: the session itself is the initiator");
                 }
             }
-            (8, 2) if awaited && stored => rules.hit("resend: from the awaited item, probes"),
-            (8, 2) if awaited => rules.hit("resend: from the awaited item, none stored"),
-            (8, 2) => rules.hit("resend: from another item, dropped"),
-            (4, 1 | 2) => {
+            (kind::RESEND, WAITING) if awaited && stored => {
+                rules.hit("resend: from the awaited item, probes")
+            }
+            (kind::RESEND, WAITING) if awaited => {
+                rules.hit("resend: from the awaited item, none stored")
+            }
+            (kind::RESEND, WAITING) => rules.hit("resend: from another item, dropped"),
+            (kind::CLEAN, GROWING | WAITING) => {
                 rules.hit(if held & !sender == 0 {
                     "clean: nothing to rebroadcast"
                 } else if held & sender == 0 {
@@ -419,10 +410,10 @@ impl Coverage {
                     rules.hit("clean: names the session itself before its abort");
                 }
             }
-            (4, 4) if a == own => rules.hit("clean: back at its victim"),
-            (4, 4) => rules.hit("clean: of another victim at a victim, dropped"),
-            (10, 5) if held != 0 => rules.hit("withdrawn: holds items"),
-            (10, 5) => rules.hit("withdrawn: holds none"),
+            (kind::CLEAN, CLEANING) if a == own => rules.hit("clean: back at its victim"),
+            (kind::CLEAN, CLEANING) => rules.hit("clean: of another victim at a victim, dropped"),
+            (kind::WITHDRAWN, WITHDRAWING) if held != 0 => rules.hit("withdrawn: holds items"),
+            (kind::WITHDRAWN, WITHDRAWING) => rules.hit("withdrawn: holds none"),
             _ => {}
         }
     }
@@ -432,10 +423,10 @@ impl Coverage {
         let mut missing = Vec::new();
         for (row, (call, refusals)) in CALLS.iter().enumerate() {
             for (refusal, &count) in self.refusals[row].iter().enumerate().skip(1) {
-                if refusals.contains(&refusal) && count < REFUSALS_AT_LEAST {
+                if gives(refusals, refusal) && count < REFUSALS_AT_LEAST {
                     missing.push(format!("{call} refused with {refusal}: {count} times"));
                 }
-                if !refusals.contains(&refusal) && count > 0 {
+                if !gives(refusals, refusal) && count > 0 {
                     missing.push(format!("{call} is never refused with {refusal}, but was"));
                 }
             }
@@ -475,14 +466,14 @@ impl Display for Coverage {
             "Calls by refusal (0: accepted; -: not given by that call)"
         )?;
         write!(out, "  {:8}", "")?;
-        for refusal in 0..10 {
+        for refusal in 0..ANSWERS {
             write!(out, "{refusal:>9}")?;
         }
         writeln!(out)?;
         for (row, (call, refusals)) in CALLS.iter().enumerate() {
             write!(out, "  {call:8}")?;
             for (refusal, count) in self.refusals[row].iter().enumerate() {
-                if refusal == 0 || refusals.contains(&refusal) {
+                if refusal == usize::from(ACCEPTED) || gives(refusals, refusal) {
                     write!(out, "{count:>9}")?;
                 } else {
                     write!(out, "{:>9}", "-")?;

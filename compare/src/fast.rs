@@ -2,46 +2,23 @@
 //! is checked by loops without early exit that the compiler can vectorise, and
 //! the buffers are changed in place. Tested equal to the model.
 
-use model::layout::{
-    mail_length, read_u16, table_length, within, ITEM_SIZE, MAIL_HEADER, MOST, MOST_CAPACITY,
-    SESSION_SIZE, TABLE_HEADER,
+use crate::numbers::{
+    kind::*, CLEANING, GROWING, ROLLED_BACK, SHRINKING, TO_ITEM, TO_SESSION, WAITING, WITHDRAWING,
 };
-use model::{Answer, Cycle, Refusal};
+use model::layout::{
+    body_at, item_at, items_end, mail_length, read_u16, route_at, routes_end, session_at,
+    table_length, within, write_u16, AWAITED, BODY_SIZE, HELD, HOLDER, ITEM_SIZE, JUNIORS,
+    MAIL_CAPACITY, MAIL_COUNT, MAIL_HEADER, MAX_CAPACITY, MAX_ITEMS, MAX_SESSIONS, QUEUE,
+    QUEUE_LENGTH, ROUTE_SIZE, SESSION_SIZE, STAGE, TABLE_HEADER, TABLE_ITEMS, TABLE_SESSIONS,
+};
+use model::{Answer, Config, Cycle, Refusal, Verb, ACCEPTED};
 
 type SessionBytes = [u8; SESSION_SIZE];
 type ItemBytes = [u8; ITEM_SIZE];
 
-/// Places in a session record: stage, awaited item, held items, juniors.
-const STAGE: usize = 0;
-const AWAITED: usize = 1;
-const HELD: usize = 2;
-const JUNIORS: usize = 10;
-
-/// Places in an item record: holder, length of the queue, queue.
-const HOLDER: usize = 0;
-const LENGTH: usize = 1;
-const QUEUE: usize = 2;
-
-const GROWING: u8 = 1;
-const WAITING: u8 = 2;
-const SHRINKING: u8 = 3;
-const CLEANING: u8 = 4;
-const WITHDRAWING: u8 = 5;
-const ROLLED_BACK: u8 = 6;
-
-const REQUEST: u8 = 1;
-const RELEASE: u8 = 2;
-const PROBE: u8 = 3;
-const CLEAN: u8 = 4;
-const REBROADCAST: u8 = 5;
-const WITHDRAW: u8 = 6;
-const GRANT: u8 = 7;
-const RESEND: u8 = 8;
-const ABORT: u8 = 9;
-const WITHDRAWN: u8 = 10;
-
-const TO_ITEM: u8 = 1;
-const TO_SESSION: u8 = 2;
+/// Route and body have one size, which the block check below relies on.
+const ENTRY: usize = ROUTE_SIZE;
+const _: () = assert!(ROUTE_SIZE == BODY_SIZE);
 
 /// The numbers that the buffers carry, once their lengths match.
 #[derive(Clone, Copy)]
@@ -54,8 +31,8 @@ fn size(table: &[u8]) -> Option<Size> {
     if table.len() < TABLE_HEADER {
         return None;
     }
-    let sessions = within(table[0].into(), MOST)?;
-    let items = within(table[1].into(), MOST)?;
+    let sessions = within(table[TABLE_SESSIONS].into(), MAX_SESSIONS)?;
+    let items = within(table[TABLE_ITEMS].into(), MAX_ITEMS)?;
     (table.len() == table_length(sessions, items)).then_some(Size { sessions, items })
 }
 
@@ -63,20 +40,24 @@ fn capacity(mail: &[u8]) -> Option<usize> {
     if mail.len() < MAIL_HEADER {
         return None;
     }
-    let capacity = within(read_u16(mail).into(), MOST_CAPACITY)?;
+    let capacity = within(read_u16(&mail[MAIL_CAPACITY]).into(), MAX_CAPACITY)?;
     (mail.len() == mail_length(capacity)).then_some(capacity)
 }
 
-/// `number` 64 times, then 0 64 times: from place 64 - n on, the bounds of n
-/// numbers and the zeros behind them.
-fn bounds(number: usize) -> [u8; 2 * MOST] {
-    let mut bounds = [0; 2 * MOST];
-    bounds[..MOST].fill(number as u8);
+/// `number` as often as there can be sessions, then as many zeros: read from n
+/// places before the middle, the bounds of n numbers and the zeros behind them.
+type Bounds = [u8; 2 * MAX_SESSIONS];
+
+fn bounds(number: usize) -> Bounds {
+    let mut bounds = [0; 2 * MAX_SESSIONS];
+    bounds[..MAX_SESSIONS].fill(number as u8);
     bounds
 }
 
-fn bounds_of(bounds: &[u8; 2 * MOST], n: usize) -> &[u8; MOST] {
-    bounds[MOST - n..][..MOST].try_into().unwrap()
+fn bounds_of(bounds: &Bounds, n: usize) -> &[u8; MAX_SESSIONS] {
+    bounds[MAX_SESSIONS - n..][..MAX_SESSIONS]
+        .try_into()
+        .unwrap()
 }
 
 /// Bits of the stages 2, 4, 5, which await an item.
@@ -84,12 +65,13 @@ const AWAITING: u32 = 1 << WAITING | 1 << CLEANING | 1 << WITHDRAWING;
 
 fn table_well_formed(table: &[u8], size: Size) -> bool {
     let bounds = bounds(size.sessions);
-    let (sessions, items) = table[TABLE_HEADER..].split_at(SESSION_SIZE * size.sessions);
-    let spare_items = !0u64 ^ (!0 >> (MOST - size.items));
+    let records = &table[TABLE_HEADER..items_end(size.sessions, size.items)];
+    let (sessions, items) = records.split_at(SESSION_SIZE * size.sessions);
+    let spare_items = !0u64 ^ (!0 >> (MAX_ITEMS - size.items));
     let last_session = size.sessions as u8;
 
     let juniors_at_most = bounds_of(&bounds, size.sessions);
-    let mut over = [0u8; MOST];
+    let mut over = [0u8; MAX_SESSIONS];
     let mut wrong = false;
     for record in sessions.chunks_exact(SESSION_SIZE) {
         let record: &SessionBytes = record.try_into().unwrap();
@@ -99,18 +81,18 @@ fn table_well_formed(table: &[u8], size: Size) -> bool {
         wrong |= record[AWAITED] < awaits;
         wrong |= record[AWAITED] > awaits * size.items as u8;
         wrong |= held(record) & spare_items != 0;
-        for k in 0..MOST {
-            over[k] |= record[JUNIORS + k].saturating_sub(juniors_at_most[k]);
+        for k in 0..MAX_SESSIONS {
+            over[k] |= record[JUNIORS.start + k].saturating_sub(juniors_at_most[k]);
         }
     }
     for record in items.chunks_exact(ITEM_SIZE) {
         let record: &ItemBytes = record.try_into().unwrap();
-        let length = usize::from(record[LENGTH]).min(MOST);
+        let length = usize::from(record[QUEUE_LENGTH]).min(MAX_SESSIONS);
         wrong |= record[HOLDER] > last_session;
-        wrong |= record[LENGTH] > last_session;
+        wrong |= record[QUEUE_LENGTH] > last_session;
         let waiting_at_most = bounds_of(&bounds, length);
-        for k in 0..MOST {
-            let waiting = record[QUEUE + k];
+        for k in 0..MAX_SESSIONS {
+            let waiting = record[QUEUE.start + k];
             let missing = if waiting == 0 { waiting_at_most[k] } else { 0 };
             over[k] |= waiting.saturating_sub(waiting_at_most[k]) | missing;
         }
@@ -118,7 +100,7 @@ fn table_well_formed(table: &[u8], size: Size) -> bool {
         // holder's. Bit 0 is session 64, which is no matter: numbers out of
         // bounds have been seen above.
         let mut members = 0u64;
-        for &waiting in &record[QUEUE..QUEUE + length] {
+        for &waiting in &record[QUEUE][..length] {
             members |= 1 << (waiting & 63);
         }
         wrong |= members.count_ones() as usize != length;
@@ -129,7 +111,7 @@ fn table_well_formed(table: &[u8], size: Size) -> bool {
 
 /// Entries that are checked at once, and their bytes in each array.
 const BLOCK: usize = 16;
-const CELLS: usize = 3 * BLOCK;
+const CELLS: usize = ENTRY * BLOCK;
 
 /// The bytes of a block that are an entry's first, second and third.
 const FIRST: [u8; CELLS] = cells(0);
@@ -141,7 +123,7 @@ const fn cells(place: usize) -> [u8; CELLS] {
     let mut k = place;
     while k < CELLS {
         cells[k] = 255;
-        k += 3;
+        k += ENTRY;
     }
     cells
 }
@@ -182,20 +164,20 @@ fn wrong_byte(route: u8, body: u8, kind: u8, place: [u8; 3], most: u8, sessions:
 }
 
 fn mail_well_formed(mail: &[u8], capacity: usize, size: Size) -> bool {
-    let count = usize::from(read_u16(&mail[2..]));
+    let count = usize::from(read_u16(&mail[MAIL_COUNT]));
     if count > capacity {
         return false;
     }
     let routes = MAIL_HEADER;
-    let bodies = MAIL_HEADER + 3 * capacity;
-    let used = 3 * count;
+    let bodies = routes_end(capacity);
+    let used = ENTRY * count;
     if any_set(&mail[routes + used..bodies]) | any_set(&mail[bodies + used..]) {
         return false;
     }
 
     let sessions = size.sessions as u8;
     let mut most = [0u8; CELLS];
-    for entry in most.chunks_exact_mut(3) {
+    for entry in most.chunks_exact_mut(ENTRY) {
         entry.copy_from_slice(&[1, sessions - 1, size.items as u8 - 1]);
     }
     let mut wrong = [0u8; CELLS];
@@ -211,7 +193,7 @@ fn mail_well_formed(mail: &[u8], capacity: usize, size: Size) -> bool {
     if rest > 0 {
         let mut route = [1; CELLS];
         let mut body = [0; CELLS + 2];
-        for entry in body[2..].chunks_exact_mut(3) {
+        for entry in body[2..].chunks_exact_mut(ENTRY) {
             entry[0] = REQUEST;
         }
         route[..rest].copy_from_slice(&mail[routes + whole..][..rest]);
@@ -239,11 +221,11 @@ fn check_block(
 }
 
 fn held(record: &SessionBytes) -> u64 {
-    u64::from_le_bytes(record[HELD..JUNIORS].try_into().unwrap())
+    u64::from_le_bytes(record[HELD].try_into().unwrap())
 }
 
 fn set_held(record: &mut SessionBytes, held: u64) {
-    record[HELD..JUNIORS].copy_from_slice(&held.to_le_bytes());
+    record[HELD].copy_from_slice(&held.to_le_bytes());
 }
 
 fn bit(item: u8) -> u64 {
@@ -271,7 +253,7 @@ impl Sends {
     }
 
     fn stored_probes(&mut self, to: u8, record: &SessionBytes) {
-        for (initiator, &junior) in (1..).zip(&record[JUNIORS..]) {
+        for (initiator, &junior) in (1..).zip(&record[JUNIORS]) {
             if junior != 0 {
                 self.push(to, PROBE, initiator, junior);
             }
@@ -301,34 +283,22 @@ impl Sends {
     }
 }
 
-fn session_place(session: usize) -> usize {
-    TABLE_HEADER + SESSION_SIZE * (session - 1)
-}
-
-fn item_place(size: Size, item: usize) -> usize {
-    TABLE_HEADER + SESSION_SIZE * size.sessions + ITEM_SIZE * (item - 1)
-}
-
 fn session_record(table: &[u8], session: usize) -> &SessionBytes {
-    table[session_place(session)..][..SESSION_SIZE]
-        .try_into()
-        .unwrap()
+    table[session_at(session)].try_into().unwrap()
 }
 
 fn item_record(table: &[u8], size: Size, item: usize) -> &ItemBytes {
-    table[item_place(size, item)..][..ITEM_SIZE]
-        .try_into()
-        .unwrap()
+    table[item_at(size.sessions, item)].try_into().unwrap()
 }
 
 /// The length of the cycle on which a session lies, or 0.
 fn cycle_length(table: &[u8], size: Size, session: u8) -> u8 {
     // Whom each session waits for; the lowest-numbered item is written last.
-    let mut waits_for = [0u8; MOST + 1];
+    let mut waits_for = [0u8; MAX_SESSIONS + 1];
     for item in (1..=size.items).rev() {
         let record = item_record(table, size, item);
         if record[HOLDER] != 0 {
-            for &waiting in &record[QUEUE..QUEUE + usize::from(record[LENGTH])] {
+            for &waiting in &record[QUEUE][..usize::from(record[QUEUE_LENGTH])] {
                 waits_for[usize::from(waiting)] = record[HOLDER];
             }
         }
@@ -346,27 +316,27 @@ fn cycle_length(table: &[u8], size: Size, session: u8) -> u8 {
     0
 }
 
-pub fn start(sessions: u64, items: u64, capacity: u64, table: &mut [u8], mail: &mut [u8]) -> u8 {
+pub fn start(config: Config, table: &mut [u8], mail: &mut [u8]) -> u8 {
     let numbers = (
-        within(sessions, MOST),
-        within(items, MOST),
-        within(capacity, MOST_CAPACITY),
+        within(config.sessions, MAX_SESSIONS),
+        within(config.items, MAX_ITEMS),
+        within(config.capacity, MAX_CAPACITY),
     );
     let (Some(sessions), Some(items), Some(capacity)) = numbers else {
-        return Refusal::Size as u8;
+        return Refusal::BadSize as u8;
     };
-    if table.len() != table_length(sessions, items) || mail.len() != mail_length(capacity) {
-        return Refusal::Size as u8;
+    if table.len() != config.table_length() || mail.len() != config.mail_length() {
+        return Refusal::BadSize as u8;
     }
     table.fill(0);
     mail.fill(0);
-    table[0] = sessions as u8;
-    table[1] = items as u8;
+    table[TABLE_SESSIONS] = sessions as u8;
+    table[TABLE_ITEMS] = items as u8;
     for session in 1..=sessions {
-        table[session_place(session) + STAGE] = GROWING;
+        table[session_at(session)][STAGE] = GROWING;
     }
-    mail[..2].copy_from_slice(&(capacity as u16).to_le_bytes());
-    0
+    write_u16(&mut mail[MAIL_CAPACITY], capacity);
+    ACCEPTED
 }
 
 pub fn report(session: u64, table: &[u8]) -> Cycle {
@@ -375,16 +345,16 @@ pub fn report(session: u64, table: &[u8]) -> Cycle {
         length: 0,
     };
     let Some(size) = size(table) else {
-        return refused(Refusal::Size);
+        return refused(Refusal::BadSize);
     };
     if !table_well_formed(table, size) {
-        return refused(Refusal::Table);
+        return refused(Refusal::BadTable);
     }
     let Some(session) = within(session, size.sessions) else {
-        return refused(Refusal::Number);
+        return refused(Refusal::BadNumber);
     };
     Cycle {
-        refusal: 0,
+        refusal: ACCEPTED,
         length: cycle_length(table, size, session as u8),
     }
 }
@@ -403,34 +373,32 @@ fn try_step(
     table: &mut [u8],
     mail: &mut [u8],
 ) -> Result<Answer, Refusal> {
-    if !(1..=4).contains(&verb) {
-        return Err(Refusal::Verb);
-    }
-    let size = size(table).ok_or(Refusal::Size)?;
-    let capacity = capacity(mail).ok_or(Refusal::Size)?;
+    let verb = Verb::decode(verb).ok_or(Refusal::BadVerb)?;
+    let size = size(table).ok_or(Refusal::BadSize)?;
+    let capacity = capacity(mail).ok_or(Refusal::BadSize)?;
     if !table_well_formed(table, size) {
-        return Err(Refusal::Table);
+        return Err(Refusal::BadTable);
     }
     if !mail_well_formed(mail, capacity, size) {
-        return Err(Refusal::Mail);
+        return Err(Refusal::BadMail);
     }
-    let session = within(session, size.sessions).ok_or(Refusal::Number)?;
-    let item = within(item, size.items).ok_or(Refusal::Number)?;
+    let session = within(session, size.sessions).ok_or(Refusal::BadNumber)?;
+    let item = within(item, size.items).ok_or(Refusal::BadNumber)?;
     let (t, x) = (session as u8, item as u8);
-    let count = usize::from(read_u16(&mail[2..]));
+    let count = usize::from(read_u16(&mail[MAIL_COUNT]));
 
     let mut sends = Sends::new();
     let mut answer = Answer::default();
     match verb {
-        1 | 2 => {
+        Verb::Request | Verb::Release => {
             let mut record = *session_record(table, session);
             let holds = held(&record) & bit(x) != 0;
-            if verb == 1 {
+            if verb == Verb::Request {
                 if record[STAGE] != GROWING {
-                    return Err(Refusal::Stage);
+                    return Err(Refusal::WrongStage);
                 }
                 if holds {
-                    return Err(Refusal::Mask);
+                    return Err(Refusal::WrongItem);
                 }
                 sends.push(x, REQUEST, 0, 0);
                 sends.stored_probes(x, &record);
@@ -438,47 +406,47 @@ fn try_step(
                 record[AWAITED] = x;
             } else {
                 if record[STAGE] != GROWING && record[STAGE] != SHRINKING {
-                    return Err(Refusal::Stage);
+                    return Err(Refusal::WrongStage);
                 }
                 if !holds {
-                    return Err(Refusal::Mask);
+                    return Err(Refusal::WrongItem);
                 }
                 sends.push(x, RELEASE, 0, 0);
                 let left = held(&record) & !bit(x);
                 set_held(&mut record, left);
                 record[STAGE] = SHRINKING;
-                record[JUNIORS..].fill(0);
+                record[JUNIORS].fill(0);
             }
             if count + sends.count > capacity {
-                return Err(Refusal::Full);
+                return Err(Refusal::MailFull);
             }
-            table[session_place(session)..][..SESSION_SIZE].copy_from_slice(&record);
+            table[session_at(session)].copy_from_slice(&record);
             append(mail, capacity, count, TO_ITEM, t, x, &sends);
         }
-        3 => {
+        Verb::DeliverToItem => {
             let place = find(mail, count, [TO_ITEM, t, x]).ok_or(Refusal::NoMessage)?;
-            let body = body_at(mail, capacity, place);
+            let body = body(mail, capacity, place);
             let mut record = *item_record(table, size, item);
             let joined = at_item(&mut record, t, body, &mut sends, &mut answer);
             if count - 1 + sends.count > capacity {
-                return Err(Refusal::Full);
+                return Err(Refusal::MailFull);
             }
-            table[item_place(size, item)..][..ITEM_SIZE].copy_from_slice(&record);
+            table[item_at(size.sessions, item)].copy_from_slice(&record);
             if joined && cycle_length(table, size, t) != 0 {
                 answer.closed = 1;
             }
             remove(mail, capacity, count, place);
             append(mail, capacity, count - 1, TO_SESSION, t, x, &sends);
         }
-        _ => {
+        Verb::DeliverToSession => {
             let place = find(mail, count, [TO_SESSION, t, x]).ok_or(Refusal::NoMessage)?;
-            let body = body_at(mail, capacity, place);
+            let body = body(mail, capacity, place);
             let mut record = *session_record(table, session);
             at_session(&mut record, t, x, body, &mut sends);
             if count - 1 + sends.count > capacity {
-                return Err(Refusal::Full);
+                return Err(Refusal::MailFull);
             }
-            table[session_place(session)..][..SESSION_SIZE].copy_from_slice(&record);
+            table[session_at(session)].copy_from_slice(&record);
             remove(mail, capacity, count, place);
             append(mail, capacity, count - 1, TO_ITEM, t, x, &sends);
         }
@@ -496,8 +464,8 @@ fn at_item(
     answer: &mut Answer,
 ) -> bool {
     let holder = record[HOLDER];
-    let length = usize::from(record[LENGTH]);
-    let queue = &record[QUEUE..QUEUE + length];
+    let length = usize::from(record[QUEUE_LENGTH]);
+    let queue = &record[QUEUE][..length];
     match kind {
         REQUEST => {
             if from == holder || queue.contains(&from) {
@@ -508,8 +476,8 @@ fn at_item(
                 sends.push(from, GRANT, 0, 0);
                 return false;
             }
-            record[QUEUE + length] = from;
-            record[LENGTH] += 1;
+            record[QUEUE][length] = from;
+            record[QUEUE_LENGTH] += 1;
             if from < holder {
                 sends.push(holder, PROBE, from, holder);
             }
@@ -520,13 +488,14 @@ fn at_item(
                 record[HOLDER] = 0;
                 return false;
             }
-            let next = record[QUEUE];
-            record.copy_within(QUEUE + 1..QUEUE + length, QUEUE);
-            record[QUEUE + length - 1] = 0;
+            let queue = &mut record[QUEUE];
+            let next = queue[0];
+            queue.copy_within(1..length, 0);
+            queue[length - 1] = 0;
             record[HOLDER] = next;
-            record[LENGTH] -= 1;
+            record[QUEUE_LENGTH] -= 1;
             sends.push(next, GRANT, 0, 0);
-            sends.probes_and_resends(next, &record[QUEUE..QUEUE + length - 1], 0);
+            sends.probes_and_resends(next, &record[QUEUE][..length - 1], 0);
         }
         PROBE if holder >= a && queue.contains(&from) => {
             if holder == a {
@@ -544,9 +513,10 @@ fn at_item(
         REBROADCAST if holder != 0 => sends.probes_and_resends(holder, queue, 0),
         WITHDRAW => {
             if let Some(place) = queue.iter().position(|&waiting| waiting == from) {
-                record.copy_within(QUEUE + place + 1..QUEUE + length, QUEUE + place);
-                record[QUEUE + length - 1] = 0;
-                record[LENGTH] -= 1;
+                let queue = &mut record[QUEUE];
+                queue.copy_within(place + 1..length, place);
+                queue[length - 1] = 0;
+                record[QUEUE_LENGTH] -= 1;
             }
             sends.push(from, WITHDRAWN, 0, 0);
         }
@@ -573,7 +543,7 @@ fn at_session(
         }
         (PROBE, stage @ (GROWING | WAITING)) => {
             let junior = b.max(own);
-            let stored = &mut record[JUNIORS + usize::from(a) - 1];
+            let stored = &mut record[JUNIORS][usize::from(a) - 1];
             if junior > *stored {
                 *stored = junior;
                 if stage == WAITING {
@@ -584,7 +554,7 @@ fn at_session(
         (RESEND, WAITING) if from == awaited => sends.stored_probes(awaited, record),
         (ABORT, WAITING) => {
             sends.push(awaited, CLEAN, a, b);
-            record[JUNIORS..].fill(0);
+            record[JUNIORS].fill(0);
             record[STAGE] = CLEANING;
         }
         (CLEAN, stage @ (GROWING | WAITING)) => {
@@ -592,7 +562,7 @@ fn at_session(
             if stage == WAITING {
                 sends.push(awaited, CLEAN, a, b);
             }
-            record[JUNIORS..].fill(0);
+            record[JUNIORS].fill(0);
         }
         (CLEAN, CLEANING) if a == own => {
             sends.push(awaited, WITHDRAW, 0, 0);
@@ -609,24 +579,22 @@ fn at_session(
 }
 
 /// The place of the earliest message on a route.
-fn find(mail: &[u8], count: usize, route: [u8; 3]) -> Option<usize> {
-    mail[MAIL_HEADER..MAIL_HEADER + 3 * count]
-        .chunks_exact(3)
+fn find(mail: &[u8], count: usize, route: [u8; ROUTE_SIZE]) -> Option<usize> {
+    mail[MAIL_HEADER..route_at(count).start]
+        .chunks_exact(ROUTE_SIZE)
         .position(|entry| entry == route)
 }
 
-fn body_at(mail: &[u8], capacity: usize, place: usize) -> [u8; 3] {
-    mail[MAIL_HEADER + 3 * (capacity + place)..][..3]
-        .try_into()
-        .unwrap()
+fn body(mail: &[u8], capacity: usize, place: usize) -> [u8; BODY_SIZE] {
+    mail[body_at(capacity, place)].try_into().unwrap()
 }
 
 /// Takes the message at a place out; those behind it close up.
 fn remove(mail: &mut [u8], capacity: usize, count: usize, place: usize) {
-    let (routes, bodies) = mail[MAIL_HEADER..].split_at_mut(3 * capacity);
+    let (routes, bodies) = mail[MAIL_HEADER..].split_at_mut(ENTRY * capacity);
     for entries in [routes, bodies] {
-        entries.copy_within(3 * (place + 1)..3 * count, 3 * place);
-        entries[3 * (count - 1)..3 * count].fill(0);
+        entries.copy_within(ENTRY * (place + 1)..ENTRY * count, ENTRY * place);
+        entries[ENTRY * (count - 1)..ENTRY * count].fill(0);
     }
 }
 
@@ -641,11 +609,11 @@ fn append(
     sends: &Sends,
 ) {
     let total = count + sends.count;
-    mail[2..4].copy_from_slice(&(total as u16).to_le_bytes());
-    let (routes, bodies) = mail[MAIL_HEADER..].split_at_mut(3 * capacity);
-    let places = routes[3 * count..3 * total]
-        .chunks_exact_mut(3)
-        .zip(bodies[3 * count..3 * total].chunks_exact_mut(3));
+    write_u16(&mut mail[MAIL_COUNT], total);
+    let (routes, bodies) = mail[MAIL_HEADER..].split_at_mut(ENTRY * capacity);
+    let places = routes[ENTRY * count..ENTRY * total]
+        .chunks_exact_mut(ENTRY)
+        .zip(bodies[ENTRY * count..ENTRY * total].chunks_exact_mut(ENTRY));
     for ((route, body), &[to, kind, a, b]) in places.zip(&sends.messages) {
         let (session, item) = if direction == TO_ITEM {
             (t, to)

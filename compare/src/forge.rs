@@ -2,72 +2,34 @@
 //! and messages, and ones with the form broken.
 
 use crate::comparison::Buffers;
-use model::layout::{mail_length, table_length, ITEM_SIZE, SESSION_SIZE};
-use model::scenario::Random;
-
-#[derive(Clone, Copy, PartialEq, Eq, Debug)]
-pub struct Shape {
-    pub sessions: u64,
-    pub items: u64,
-    pub capacity: u64,
-}
-
-pub const LARGEST: Shape = Shape {
-    sessions: 64,
-    items: 64,
-    capacity: 4096,
+use crate::numbers::{
+    kind, CLEANING, GROWING, ROLLED_BACK, SHRINKING, TO_ITEM, TO_SESSION, WAITING, WITHDRAWING,
 };
+use model::layout::{
+    body_at, mail_length, route_at, routes_end, AWAITED, BODY_A, BODY_B, BODY_SIZE, DIRECTION,
+    HELD, HOLDER, JUNIORS, KIND, MAX_ITEMS, MAX_SESSIONS, QUEUE, QUEUE_LENGTH, ROUTE_ITEM,
+    ROUTE_SESSION, ROUTE_SIZE, STAGE,
+};
+use model::scenario::Random;
+use model::{Config, Refusal};
 
-impl Shape {
-    /// Mostly small, so that messages and records often fit each other.
-    pub fn draw(random: &mut Random) -> Shape {
-        let number = |random: &mut Random| match random.between(1, 20) {
-            1 => random.between(9, 64),
-            2..=5 => random.between(4, 8),
-            _ => random.between(1, 3),
-        };
-        Shape {
-            sessions: number(random),
-            items: number(random),
-            capacity: match random.between(1, 10) {
-                1 => 1,
-                2 => 2,
-                3 => random.between(17, 100),
-                _ => random.between(3, 16),
-            },
-        }
-    }
-
-    pub fn table_length(self) -> usize {
-        table_length(self.sessions as usize, self.items as usize)
-    }
-
-    pub fn mail_length(self) -> usize {
-        mail_length(self.capacity as usize)
-    }
-
-    fn session_place(self, session: u64) -> usize {
-        2 + SESSION_SIZE * (session as usize - 1)
-    }
-
-    fn item_place(self, item: u64) -> usize {
-        2 + SESSION_SIZE * self.sessions as usize + ITEM_SIZE * (item as usize - 1)
-    }
-
-    fn route_place(self, place: u64) -> usize {
-        4 + 3 * place as usize
-    }
-
-    fn body_place(self, place: u64) -> usize {
-        4 + 3 * (self.capacity + place) as usize
-    }
-
-    pub fn any_session(self, random: &mut Random) -> u64 {
-        random.between(1, self.sessions)
-    }
-
-    pub fn any_item(self, random: &mut Random) -> u64 {
-        random.between(1, self.items)
+/// What a start is given: mostly small numbers, so that messages and records
+/// often fit each other.
+pub fn config(random: &mut Random) -> Config {
+    let number = |random: &mut Random, max| match random.between(1, 20) {
+        1 => random.between(9, max),
+        2..=5 => random.between(4, 8),
+        _ => random.between(1, 3),
+    };
+    Config {
+        sessions: number(random, Config::LARGEST.sessions),
+        items: number(random, Config::LARGEST.items),
+        capacity: match random.between(1, 10) {
+            1 => 1,
+            2 => 2,
+            3 => random.between(17, 100),
+            _ => random.between(3, 16),
+        },
     }
 }
 
@@ -90,49 +52,49 @@ impl Filling {
         }
     }
 
-    /// A number up to `most`.
-    pub fn of(self, random: &mut Random, most: u64) -> u64 {
+    /// A number up to `max`.
+    pub fn of(self, random: &mut Random, max: u64) -> u64 {
         match self {
             Filling::None => 0,
-            Filling::Few => random.between(0, most.min(3)),
-            Filling::Any => random.between(0, most),
-            Filling::All => most,
+            Filling::Few => random.between(0, max.min(3)),
+            Filling::Any => random.between(0, max),
+            Filling::All => max,
         }
     }
 }
 
-/// Any well-formed buffers of a shape, with so many messages.
-pub fn well_formed(random: &mut Random, shape: Shape, messages: u64) -> Buffers {
-    Buffers {
-        table: table(random, shape),
-        mail: mail(random, shape, messages),
+/// Any well-formed buffers, with so many messages.
+pub fn well_formed(random: &mut Random, config: Config, messages: u64) -> Buffers {
+    let mut buffers = Buffers::filled(config, 0);
+    buffers.set_numbers(config);
+    for session in 1..=config.sessions as usize {
+        session_record(random, config, buffers.session_mut(session));
     }
+    for item in 1..=config.items as usize {
+        item_record(random, config, buffers.item_mut(item));
+    }
+    buffers.set_count(messages as usize);
+    for place in 0..messages as usize {
+        let (route, body) = message(random, config);
+        buffers.set_message(place, route, body);
+    }
+    buffers
 }
 
-fn table(random: &mut Random, shape: Shape) -> Vec<u8> {
-    let mut table = vec![0; shape.table_length()];
-    table[0] = shape.sessions as u8;
-    table[1] = shape.items as u8;
-    for session in 1..=shape.sessions {
-        let place = shape.session_place(session);
-        session_record(random, shape, &mut table[place..][..SESSION_SIZE]);
-    }
-    for item in 1..=shape.items {
-        let place = shape.item_place(item);
-        item_record(random, shape, &mut table[place..][..ITEM_SIZE]);
-    }
-    table
-}
+/// The stages that await an item, and the others.
+const AWAITING: [u8; 3] = [WAITING, CLEANING, WITHDRAWING];
+const AT_REST: [u8; 3] = [GROWING, SHRINKING, ROLLED_BACK];
 
-fn session_record(random: &mut Random, shape: Shape, record: &mut [u8]) {
-    let stage = match random.between(1, 9) {
-        7 | 8 => 2,
-        9 => 1,
+fn session_record(random: &mut Random, config: Config, record: &mut [u8]) {
+    // Growing and waiting more often than the rest.
+    let stage = match random.between(1, 9) as u8 {
+        7 | 8 => WAITING,
+        9 => GROWING,
         stage => stage,
     };
-    record[0] = stage as u8;
-    if matches!(stage, 2 | 4 | 5) {
-        record[1] = shape.any_item(random) as u8;
+    record[STAGE] = stage;
+    if AWAITING.contains(&stage) {
+        record[AWAITED] = config.any_item(random) as u8;
     }
     let held = match Filling::draw(random) {
         Filling::None => 0,
@@ -140,10 +102,10 @@ fn session_record(random: &mut Random, shape: Shape, record: &mut [u8]) {
         Filling::Any => random.bits(),
         Filling::All => !0,
     };
-    let known = !0 >> (64 - shape.items);
-    record[2..10].copy_from_slice(&(held & known).to_le_bytes());
+    let known = !0 >> (MAX_ITEMS as u64 - config.items);
+    record[HELD].copy_from_slice(&(held & known).to_le_bytes());
     let filling = Filling::draw(random);
-    for junior in &mut record[10..10 + shape.sessions as usize] {
+    for junior in &mut record[JUNIORS][..config.sessions as usize] {
         let stored = match filling {
             Filling::None => false,
             Filling::Few => random.one_in(8),
@@ -151,17 +113,17 @@ fn session_record(random: &mut Random, shape: Shape, record: &mut [u8]) {
             Filling::All => true,
         };
         if stored {
-            *junior = shape.any_session(random) as u8;
+            *junior = config.any_session(random) as u8;
         }
     }
 }
 
-fn item_record(random: &mut Random, shape: Shape, record: &mut [u8]) {
+fn item_record(random: &mut Random, config: Config, record: &mut [u8]) {
     let holder = match random.between(1, 5) {
         1 => 0,
-        _ => shape.any_session(random),
+        _ => config.any_session(random),
     };
-    let mut others: Vec<u8> = (1..=shape.sessions)
+    let mut others: Vec<u8> = (1..=config.sessions)
         .filter(|&session| session != holder)
         .map(|session| session as u8)
         .collect();
@@ -170,506 +132,411 @@ fn item_record(random: &mut Random, shape: Shape, record: &mut [u8]) {
         let other = random.between(k as u64, others.len() as u64 - 1) as usize;
         others.swap(k, other);
     }
-    record[0] = holder as u8;
-    record[1] = length as u8;
-    record[2..2 + length].copy_from_slice(&others[..length]);
+    record[HOLDER] = holder as u8;
+    record[QUEUE_LENGTH] = length as u8;
+    record[QUEUE][..length].copy_from_slice(&others[..length]);
 }
 
-fn mail(random: &mut Random, shape: Shape, messages: u64) -> Vec<u8> {
-    let mut mail = vec![0; shape.mail_length()];
-    mail[..2].copy_from_slice(&(shape.capacity as u16).to_le_bytes());
-    mail[2..4].copy_from_slice(&(messages as u16).to_le_bytes());
-    for place in 0..messages {
-        let (route, body) = message(random, shape);
-        mail[shape.route_place(place)..][..3].copy_from_slice(&route);
-        mail[shape.body_place(place)..][..3].copy_from_slice(&body);
-    }
-    mail
-}
+const KINDS_TO_ITEM: [u8; 6] = [
+    kind::REQUEST,
+    kind::RELEASE,
+    kind::PROBE,
+    kind::CLEAN,
+    kind::REBROADCAST,
+    kind::WITHDRAW,
+];
+const KINDS_TO_SESSION: [u8; 6] = [
+    kind::PROBE,
+    kind::CLEAN,
+    kind::GRANT,
+    kind::RESEND,
+    kind::ABORT,
+    kind::WITHDRAWN,
+];
 
-const TO_ITEM: &[u8] = &[1, 2, 3, 4, 5, 6];
-const TO_SESSION: &[u8] = &[3, 4, 7, 8, 9, 10];
-
+/// Whether a and b are sessions in messages of this kind.
 fn has_sessions(kind: u8) -> bool {
-    matches!(kind, 3 | 4 | 9)
+    matches!(kind, kind::PROBE | kind::CLEAN | kind::ABORT)
 }
 
-fn message(random: &mut Random, shape: Shape) -> ([u8; 3], [u8; 3]) {
-    let direction = random.between(1, 2);
-    let session = shape.any_session(random) as u8;
-    let item = shape.any_item(random) as u8;
-    let kinds = if direction == 1 { TO_ITEM } else { TO_SESSION };
-    let kind = kinds[random.between(0, 5) as usize];
+fn message(random: &mut Random, config: Config) -> ([u8; ROUTE_SIZE], [u8; BODY_SIZE]) {
+    let direction = if random.one_in(2) {
+        TO_ITEM
+    } else {
+        TO_SESSION
+    };
+    let session = config.any_session(random) as u8;
+    let item = config.any_item(random) as u8;
+    let kinds = if direction == TO_ITEM {
+        KINDS_TO_ITEM
+    } else {
+        KINDS_TO_SESSION
+    };
+    let kind = kinds[random.between(0, kinds.len() as u64 - 1) as usize];
     let mut body = [kind, 0, 0];
     if has_sessions(kind) {
-        body[1] = shape.any_session(random) as u8;
-        body[2] = shape.any_session(random) as u8;
+        body[BODY_A] = config.any_session(random) as u8;
+        body[BODY_B] = config.any_session(random) as u8;
     }
-    if kind == 9 || kind == 4 && random.one_in(3) {
-        body[1] = session;
+    if kind == kind::ABORT || kind == kind::CLEAN && random.one_in(3) {
+        body[BODY_A] = session;
     }
-    ([direction as u8, session, item], body)
+    ([direction, session, item], body)
 }
 
 /// A way to break the form of well-formed buffers: what must then be answered
 /// to a step whose verb and lengths are right.
 pub struct Break {
     pub name: &'static str,
-    pub refusal: u8,
+    pub refusal: Refusal,
     /// False if these buffers cannot be broken in this way.
-    apply: fn(&mut Random, Shape, &mut Buffers) -> bool,
+    apply: fn(&mut Target) -> bool,
 }
 
 impl Break {
-    pub fn apply(&self, random: &mut Random, shape: Shape, buffers: &mut Buffers) -> bool {
-        (self.apply)(random, shape, buffers)
-    }
-}
-
-/// A number above `most`, often by 1, that a byte can hold.
-fn above(random: &mut Random, most: u64) -> u8 {
-    match random.between(1, 3) {
-        1 => (most + 1) as u8,
-        2 => 255,
-        _ => random.between(most + 1, 255) as u8,
-    }
-}
-
-/// A byte other than 0.
-fn some(random: &mut Random) -> u8 {
-    match random.between(1, 3) {
-        1 => 1,
-        2 => 0x80,
-        _ => random.between(1, 255) as u8,
-    }
-}
-
-/// Any session's record.
-fn a_session<'a>(random: &mut Random, shape: Shape, buffers: &'a mut Buffers) -> &'a mut [u8] {
-    let session = shape.any_session(random);
-    &mut buffers.table[shape.session_place(session)..][..SESSION_SIZE]
-}
-
-/// Any item's record.
-fn an_item<'a>(random: &mut Random, shape: Shape, buffers: &'a mut Buffers) -> &'a mut [u8] {
-    let item = shape.any_item(random);
-    &mut buffers.table[shape.item_place(item)..][..ITEM_SIZE]
-}
-
-/// The queue of any item, if it has `least` sessions.
-fn a_queue<'a>(
-    random: &mut Random,
-    shape: Shape,
-    buffers: &'a mut Buffers,
-    least: usize,
-) -> Option<&'a mut [u8]> {
-    let record = an_item(random, shape, buffers);
-    let length = usize::from(record[1]);
-    (length >= least).then(|| &mut record[2..2 + length])
-}
-
-fn messages(buffers: &Buffers) -> u64 {
-    u64::from(buffers.mail[2]) | u64::from(buffers.mail[3]) << 8
-}
-
-/// The places of a message that fits, in routes and in bodies.
-fn a_message(
-    random: &mut Random,
-    shape: Shape,
-    buffers: &Buffers,
-    fits: impl Fn(&[u8], &[u8]) -> bool,
-) -> Option<(usize, usize)> {
-    let count = messages(buffers);
-    if count == 0 {
-        return None;
-    }
-    let first = random.between(0, count - 1);
-    (0..count)
-        .map(|k| (first + k) % count)
-        .map(|place| (shape.route_place(place), shape.body_place(place)))
-        .find(|&(route, body)| {
-            fits(
-                &buffers.mail[route..route + 3],
-                &buffers.mail[body..body + 3],
-            )
+    pub fn apply(&self, random: &mut Random, config: Config, buffers: &mut Buffers) -> bool {
+        (self.apply)(&mut Target {
+            random,
+            config,
+            buffers,
         })
+    }
 }
 
-/// Sets a byte of a message that fits, `byte` counted from its route (0 to 2)
-/// or on to its body (3 to 5).
-fn set_in_message(
-    random: &mut Random,
-    shape: Shape,
-    buffers: &mut Buffers,
-    byte: usize,
-    value: u8,
-    fits: impl Fn(&[u8], &[u8]) -> bool,
-) -> bool {
-    let Some((route, body)) = a_message(random, shape, buffers, fits) else {
-        return false;
-    };
-    let place = if byte < 3 {
-        route + byte
-    } else {
-        body + byte - 3
-    };
-    buffers.mail[place] = value;
-    true
+const fn table(name: &'static str, apply: fn(&mut Target) -> bool) -> Break {
+    Break {
+        name,
+        refusal: Refusal::BadTable,
+        apply,
+    }
 }
 
-fn any(_: &[u8], _: &[u8]) -> bool {
-    true
+const fn mail(name: &'static str, apply: fn(&mut Target) -> bool) -> Break {
+    Break {
+        name,
+        refusal: Refusal::BadMail,
+        apply,
+    }
 }
 
-const TABLE: u8 = 3;
-const MAIL: u8 = 4;
+/// A byte of a message, by its place in the route or in the body.
+#[derive(Clone, Copy)]
+enum Byte {
+    Route(usize),
+    Body(usize),
+}
+
+/// Well-formed buffers that are about to be broken. What sets a byte answers
+/// whether it could.
+struct Target<'a> {
+    random: &'a mut Random,
+    config: Config,
+    buffers: &'a mut Buffers,
+}
+
+impl Target<'_> {
+    fn any_session(&mut self) -> u8 {
+        self.config.any_session(self.random) as u8
+    }
+
+    fn any_item(&mut self) -> u8 {
+        self.config.any_item(self.random) as u8
+    }
+
+    fn one_of<const N: usize>(&mut self, bytes: [u8; N]) -> u8 {
+        bytes[self.random.between(0, N as u64 - 1) as usize]
+    }
+
+    /// A number above `max`, often by 1, that a byte can hold.
+    fn above(&mut self, max: u64) -> u8 {
+        match self.random.between(1, 3) {
+            1 => (max + 1) as u8,
+            2 => u8::MAX,
+            _ => self.random.between(max + 1, u8::MAX.into()) as u8,
+        }
+    }
+
+    fn above_sessions(&mut self) -> u8 {
+        self.above(self.config.sessions)
+    }
+
+    fn above_items(&mut self) -> u8 {
+        self.above(self.config.items)
+    }
+
+    /// A byte other than 0.
+    fn some(&mut self) -> u8 {
+        match self.random.between(1, 3) {
+            1 => 1,
+            2 => 0x80,
+            _ => self.random.between(1, u8::MAX.into()) as u8,
+        }
+    }
+
+    /// Any session's record.
+    fn session(&mut self) -> &mut [u8] {
+        let session = self.any_session();
+        self.buffers.session_mut(session.into())
+    }
+
+    /// Any item's record.
+    fn item(&mut self) -> &mut [u8] {
+        let item = self.any_item();
+        self.buffers.item_mut(item.into())
+    }
+
+    fn set_session(&mut self, field: usize, byte: u8) -> bool {
+        self.session()[field] = byte;
+        true
+    }
+
+    fn set_item(&mut self, field: usize, byte: u8) -> bool {
+        self.item()[field] = byte;
+        true
+    }
+
+    /// A session in one of these stages that awaits this item.
+    fn set_awaited(&mut self, stages: [u8; 3], item: u8) -> bool {
+        let stage = self.one_of(stages);
+        let record = self.session();
+        record[STAGE] = stage;
+        record[AWAITED] = item;
+        true
+    }
+
+    fn set_junior(&mut self, initiator: u64, junior: u8) -> bool {
+        self.set_session(JUNIORS.start + initiator as usize - 1, junior)
+    }
+
+    /// A session in some place of some queue: the given one, or the holder.
+    fn set_waiting(&mut self, given: Option<u8>) -> bool {
+        let draw = self.random.bits() as usize;
+        let record = self.item();
+        let length = usize::from(record[QUEUE_LENGTH]);
+        if length == 0 || given.is_none() && record[HOLDER] == 0 {
+            return false;
+        }
+        record[QUEUE][draw % length] = given.unwrap_or(record[HOLDER]);
+        true
+    }
+
+    /// Sets a byte of a message that fits.
+    fn set_message(&mut self, byte: Byte, value: u8, fits: impl Fn(&[u8], &[u8]) -> bool) -> bool {
+        let (capacity, count) = (self.buffers.capacity(), self.buffers.count());
+        let Some(last) = count.checked_sub(1) else {
+            return false;
+        };
+        let first = self.random.between(0, last as u64) as usize;
+        let found = (first..count)
+            .chain(0..first)
+            .find(|&place| fits(self.buffers.route(place), self.buffers.body(place)));
+        let Some(place) = found else {
+            return false;
+        };
+        let at = match byte {
+            Byte::Route(field) => route_at(place).start + field,
+            Byte::Body(field) => body_at(capacity, place).start + field,
+        };
+        self.buffers.mail[at] = value;
+        true
+    }
+
+    /// Sets a byte of any message.
+    fn set_any_message(&mut self, byte: Byte, value: u8) -> bool {
+        self.set_message(byte, value, |_, _| true)
+    }
+
+    /// a or b of a message.
+    fn a_or_b(&mut self) -> Byte {
+        Byte::Body(self.one_of([BODY_A as u8, BODY_B as u8]).into())
+    }
+
+    /// Sets a byte behind the used entries of one array, which go from `begin`
+    /// to `end`.
+    fn set_unused(&mut self, begin: usize, end: usize) -> bool {
+        if begin == end {
+            return false;
+        }
+        let place = match self.random.between(1, 4) {
+            1 => begin,
+            2 => end - 1,
+            _ => self.random.between(begin as u64, end as u64 - 1) as usize,
+        };
+        self.buffers.mail[place] = self.some();
+        true
+    }
+}
 
 pub const BREAKS: &[Break] = &[
-    Break {
-        name: "stage 0",
-        refusal: TABLE,
-        apply: |r, shape, b| {
-            a_session(r, shape, b)[0] = 0;
-            true
-        },
-    },
-    Break {
-        name: "stage above 6",
-        refusal: TABLE,
-        apply: |r, shape, b| {
-            let stage = above(r, 6);
-            a_session(r, shape, b)[0] = stage;
-            true
-        },
-    },
-    Break {
-        name: "awaited item 0 in stage 2, 4 or 5",
-        refusal: TABLE,
-        apply: |r, shape, b| {
-            let stage = [2, 4, 5][r.between(0, 2) as usize];
-            a_session(r, shape, b)[..2].copy_from_slice(&[stage, 0]);
-            true
-        },
-    },
-    Break {
-        name: "awaited item above M",
-        refusal: TABLE,
-        apply: |r, shape, b| {
-            let stage = [2, 4, 5][r.between(0, 2) as usize];
-            let item = above(r, shape.items);
-            a_session(r, shape, b)[..2].copy_from_slice(&[stage, item]);
-            true
-        },
-    },
-    Break {
-        name: "awaited item in stage 1, 3 or 6",
-        refusal: TABLE,
-        apply: |r, shape, b| {
-            let stage = [1, 3, 6][r.between(0, 2) as usize];
-            let item = shape.any_item(r) as u8;
-            a_session(r, shape, b)[..2].copy_from_slice(&[stage, item]);
-            true
-        },
-    },
-    Break {
-        name: "held item above M",
-        refusal: TABLE,
-        apply: |r, shape, b| {
-            if shape.items == 64 {
-                return false;
-            }
-            let bit = match r.between(1, 3) {
-                1 => shape.items,
-                2 => 63,
-                _ => r.between(shape.items, 63),
-            };
-            a_session(r, shape, b)[2 + bit as usize / 8] |= 1 << (bit % 8);
-            true
-        },
-    },
-    Break {
-        name: "junior above S",
-        refusal: TABLE,
-        apply: |r, shape, b| {
-            let (initiator, junior) = (shape.any_session(r), above(r, shape.sessions));
-            a_session(r, shape, b)[9 + initiator as usize] = junior;
-            true
-        },
-    },
-    Break {
-        name: "junior for an initiator above S",
-        refusal: TABLE,
-        apply: |r, shape, b| {
-            if shape.sessions == 64 {
-                return false;
-            }
-            let initiator = r.between(shape.sessions + 1, 64);
-            let junior = shape.any_session(r) as u8;
-            a_session(r, shape, b)[9 + initiator as usize] = junior;
-            true
-        },
-    },
-    Break {
-        name: "holder above S",
-        refusal: TABLE,
-        apply: |r, shape, b| {
-            let holder = above(r, shape.sessions);
-            an_item(r, shape, b)[0] = holder;
-            true
-        },
-    },
-    Break {
-        name: "queue longer than its sessions",
-        refusal: TABLE,
-        apply: |r, shape, b| {
-            let more = r.between(1, 3) as u8;
-            let record = an_item(r, shape, b);
-            record[1] += more;
-            true
-        },
-    },
-    Break {
-        name: "queue of more than 64",
-        refusal: TABLE,
-        apply: |r, shape, b| {
-            let length = above(r, 64);
-            an_item(r, shape, b)[1] = length;
-            true
-        },
-    },
-    Break {
-        name: "queue shorter than its sessions",
-        refusal: TABLE,
-        apply: |r, shape, b| {
-            let record = an_item(r, shape, b);
-            let some = record[1] > 0;
-            record[1] = record[1].saturating_sub(1);
-            some
-        },
-    },
-    Break {
-        name: "session 0 in a queue",
-        refusal: TABLE,
-        apply: |r, shape, b| {
-            let draw = r.bits() as usize;
-            let Some(queue) = a_queue(r, shape, b, 1) else {
-                return false;
-            };
-            queue[draw % queue.len()] = 0;
-            true
-        },
-    },
-    Break {
-        name: "session above S in a queue",
-        refusal: TABLE,
-        apply: |r, shape, b| {
-            let (draw, session) = (r.bits() as usize, above(r, shape.sessions));
-            let Some(queue) = a_queue(r, shape, b, 1) else {
-                return false;
-            };
-            queue[draw % queue.len()] = session;
-            true
-        },
-    },
-    Break {
-        name: "a session twice in a queue",
-        refusal: TABLE,
-        apply: |r, shape, b| {
-            let (first, apart) = (r.bits() as usize, r.bits() as usize);
-            let Some(queue) = a_queue(r, shape, b, 2) else {
-                return false;
-            };
-            let length = queue.len();
-            let first = first % length;
-            queue[(first + 1 + apart % (length - 1)) % length] = queue[first];
-            true
-        },
-    },
-    Break {
-        name: "the holder in its own queue",
-        refusal: TABLE,
-        apply: |r, shape, b| {
-            let draw = r.bits() as usize;
-            let record = an_item(r, shape, b);
-            let length = usize::from(record[1]);
-            if record[0] == 0 || length == 0 {
-                return false;
-            }
-            record[2 + draw % length] = record[0];
-            true
-        },
-    },
-    Break {
-        name: "a byte behind a queue",
-        refusal: TABLE,
-        apply: |r, shape, b| {
-            let (draw, byte) = (r.bits() as usize, some(r));
-            let record = an_item(r, shape, b);
-            let length = usize::from(record[1]);
-            if length == 64 {
-                return false;
-            }
-            record[2 + length + draw % (64 - length)] = byte;
-            true
-        },
-    },
-    Break {
-        name: "count above C",
-        refusal: MAIL,
-        apply: |r, shape, b| {
-            let count = match r.between(1, 3) {
-                1 => shape.capacity + 1,
-                2 => 65535,
-                _ => r.between(shape.capacity + 1, 65535),
-            };
-            b.mail[2..4].copy_from_slice(&(count as u16).to_le_bytes());
-            true
-        },
-    },
-    Break {
-        name: "count above the messages",
-        refusal: MAIL,
-        apply: |_, shape, b| {
-            let count = messages(b) + 1;
-            b.mail[2..4].copy_from_slice(&(count as u16).to_le_bytes());
-            count <= shape.capacity
-        },
-    },
-    Break {
-        name: "count below the messages",
-        refusal: MAIL,
-        apply: |_, _, b| {
-            let Some(count) = messages(b).checked_sub(1) else {
-                return false;
-            };
-            b.mail[2..4].copy_from_slice(&(count as u16).to_le_bytes());
-            true
-        },
-    },
-    Break {
-        name: "direction 0",
-        refusal: MAIL,
-        apply: |r, shape, b| set_in_message(r, shape, b, 0, 0, any),
-    },
-    Break {
-        name: "direction above 2",
-        refusal: MAIL,
-        apply: |r, shape, b| {
-            let direction = above(r, 2);
-            set_in_message(r, shape, b, 0, direction, any)
-        },
-    },
-    Break {
-        name: "message of session 0",
-        refusal: MAIL,
-        apply: |r, shape, b| set_in_message(r, shape, b, 1, 0, any),
-    },
-    Break {
-        name: "message of a session above S",
-        refusal: MAIL,
-        apply: |r, shape, b| {
-            let session = above(r, shape.sessions);
-            set_in_message(r, shape, b, 1, session, any)
-        },
-    },
-    Break {
-        name: "message of item 0",
-        refusal: MAIL,
-        apply: |r, shape, b| set_in_message(r, shape, b, 2, 0, any),
-    },
-    Break {
-        name: "message of an item above M",
-        refusal: MAIL,
-        apply: |r, shape, b| {
-            let item = above(r, shape.items);
-            set_in_message(r, shape, b, 2, item, any)
-        },
-    },
-    Break {
-        name: "kind 0",
-        refusal: MAIL,
-        apply: |r, shape, b| set_in_message(r, shape, b, 3, 0, any),
-    },
-    Break {
-        name: "kind above 10",
-        refusal: MAIL,
-        apply: |r, shape, b| {
-            let kind = above(r, 10);
-            set_in_message(r, shape, b, 3, kind, any)
-        },
-    },
-    Break {
-        name: "kind 1, 2, 5 or 6 to a session",
-        refusal: MAIL,
-        apply: |r, shape, b| {
-            let only_to_item = |_: &[u8], body: &[u8]| matches!(body[0], 1 | 2 | 5 | 6);
-            set_in_message(r, shape, b, 0, 2, only_to_item)
-        },
-    },
-    Break {
-        name: "kind 7 to 10 to an item",
-        refusal: MAIL,
-        apply: |r, shape, b| {
-            let only_to_session = |_: &[u8], body: &[u8]| body[0] >= 7;
-            set_in_message(r, shape, b, 0, 1, only_to_session)
-        },
-    },
-    Break {
-        name: "a or b of 0 in a probe, clean or abort",
-        refusal: MAIL,
-        apply: |r, shape, b| {
-            let byte = r.between(4, 5) as usize;
-            set_in_message(r, shape, b, byte, 0, |_, body| has_sessions(body[0]))
-        },
-    },
-    Break {
-        name: "a or b above S in a probe, clean or abort",
-        refusal: MAIL,
-        apply: |r, shape, b| {
-            let (byte, session) = (r.between(4, 5) as usize, above(r, shape.sessions));
-            set_in_message(r, shape, b, byte, session, |_, body| has_sessions(body[0]))
-        },
-    },
-    Break {
-        name: "a or b in another kind",
-        refusal: MAIL,
-        apply: |r, shape, b| {
-            let (byte, session) = (r.between(4, 5) as usize, shape.any_session(r) as u8);
-            set_in_message(r, shape, b, byte, session, |_, body| !has_sessions(body[0]))
-        },
-    },
-    Break {
-        name: "abort to another than its victim",
-        refusal: MAIL,
-        apply: |r, shape, b| {
-            let victim = shape.any_session(r) as u8;
-            let other = |route: &[u8], body: &[u8]| body[0] == 9 && route[1] != victim;
-            set_in_message(r, shape, b, 4, victim, other)
-        },
-    },
-    Break {
-        name: "a byte in an unused route",
-        refusal: MAIL,
-        apply: |r, shape, b| unused_byte(r, b, shape, shape.route_place(0)),
-    },
-    Break {
-        name: "a byte in an unused body",
-        refusal: MAIL,
-        apply: |r, shape, b| unused_byte(r, b, shape, shape.body_place(0)),
-    },
+    table("stage 0", |t| t.set_session(STAGE, 0)),
+    table("stage above 6", |t| {
+        let stage = t.above(ROLLED_BACK.into());
+        t.set_session(STAGE, stage)
+    }),
+    table("awaited item 0 in stage 2, 4 or 5", |t| {
+        t.set_awaited(AWAITING, 0)
+    }),
+    table("awaited item above M", |t| {
+        let item = t.above_items();
+        t.set_awaited(AWAITING, item)
+    }),
+    table("awaited item in stage 1, 3 or 6", |t| {
+        let item = t.any_item();
+        t.set_awaited(AT_REST, item)
+    }),
+    table("held item above M", |t| {
+        let (items, last) = (t.config.items, MAX_ITEMS as u64 - 1);
+        if items > last {
+            return false;
+        }
+        let bit = match t.random.between(1, 3) {
+            1 => items,
+            2 => last,
+            _ => t.random.between(items, last),
+        };
+        t.session()[HELD][bit as usize / 8] |= 1 << (bit % 8);
+        true
+    }),
+    table("junior above S", |t| {
+        let (initiator, junior) = (t.any_session(), t.above_sessions());
+        t.set_junior(initiator.into(), junior)
+    }),
+    table("junior for an initiator above S", |t| {
+        let (sessions, last) = (t.config.sessions, MAX_SESSIONS as u64);
+        if sessions == last {
+            return false;
+        }
+        let (initiator, junior) = (t.random.between(sessions + 1, last), t.any_session());
+        t.set_junior(initiator, junior)
+    }),
+    table("holder above S", |t| {
+        let holder = t.above_sessions();
+        t.set_item(HOLDER, holder)
+    }),
+    table("queue longer than its sessions", |t| {
+        let more = t.random.between(1, 3) as u8;
+        t.item()[QUEUE_LENGTH] += more;
+        true
+    }),
+    table("queue of more than 64", |t| {
+        let length = t.above(MAX_SESSIONS as u64);
+        t.set_item(QUEUE_LENGTH, length)
+    }),
+    table("queue shorter than its sessions", |t| {
+        let record = t.item();
+        let some = record[QUEUE_LENGTH] > 0;
+        record[QUEUE_LENGTH] = record[QUEUE_LENGTH].saturating_sub(1);
+        some
+    }),
+    table("session 0 in a queue", |t| t.set_waiting(Some(0))),
+    table("session above S in a queue", |t| {
+        let session = t.above_sessions();
+        t.set_waiting(Some(session))
+    }),
+    table("a session twice in a queue", |t| {
+        let (first, apart) = (t.random.bits() as usize, t.random.bits() as usize);
+        let record = t.item();
+        let length = usize::from(record[QUEUE_LENGTH]);
+        if length < 2 {
+            return false;
+        }
+        let first = first % length;
+        let second = (first + 1 + apart % (length - 1)) % length;
+        record[QUEUE][second] = record[QUEUE][first];
+        true
+    }),
+    table("the holder in its own queue", |t| t.set_waiting(None)),
+    table("a byte behind a queue", |t| {
+        let (draw, byte) = (t.random.bits() as usize, t.some());
+        let record = t.item();
+        let length = usize::from(record[QUEUE_LENGTH]);
+        let unused = &mut record[QUEUE][length..];
+        if unused.is_empty() {
+            return false;
+        }
+        unused[draw % unused.len()] = byte;
+        true
+    }),
+    mail("count above C", |t| {
+        let (above, last) = (t.config.capacity + 1, u16::MAX.into());
+        let count = match t.random.between(1, 3) {
+            1 => above,
+            2 => last,
+            _ => t.random.between(above, last),
+        };
+        t.buffers.set_count(count as usize);
+        true
+    }),
+    mail("count above the messages", |t| {
+        let count = t.buffers.count() + 1;
+        t.buffers.set_count(count);
+        count <= t.buffers.capacity()
+    }),
+    mail("count below the messages", |t| {
+        let count = t.buffers.count();
+        t.buffers.set_count(count.saturating_sub(1));
+        count > 0
+    }),
+    mail("direction 0", |t| {
+        t.set_any_message(Byte::Route(DIRECTION), 0)
+    }),
+    mail("direction above 2", |t| {
+        let direction = t.above(TO_SESSION.into());
+        t.set_any_message(Byte::Route(DIRECTION), direction)
+    }),
+    mail("message of session 0", |t| {
+        t.set_any_message(Byte::Route(ROUTE_SESSION), 0)
+    }),
+    mail("message of a session above S", |t| {
+        let session = t.above_sessions();
+        t.set_any_message(Byte::Route(ROUTE_SESSION), session)
+    }),
+    mail("message of item 0", |t| {
+        t.set_any_message(Byte::Route(ROUTE_ITEM), 0)
+    }),
+    mail("message of an item above M", |t| {
+        let item = t.above_items();
+        t.set_any_message(Byte::Route(ROUTE_ITEM), item)
+    }),
+    mail("kind 0", |t| t.set_any_message(Byte::Body(KIND), 0)),
+    mail("kind above 10", |t| {
+        let kind = t.above(kind::WITHDRAWN.into());
+        t.set_any_message(Byte::Body(KIND), kind)
+    }),
+    mail("kind 1, 2, 5 or 6 to a session", |t| {
+        t.set_message(Byte::Route(DIRECTION), TO_SESSION, |_, body| {
+            !KINDS_TO_SESSION.contains(&body[KIND])
+        })
+    }),
+    mail("kind 7 to 10 to an item", |t| {
+        t.set_message(Byte::Route(DIRECTION), TO_ITEM, |_, body| {
+            !KINDS_TO_ITEM.contains(&body[KIND])
+        })
+    }),
+    mail("a or b of 0 in a probe, clean or abort", |t| {
+        let byte = t.a_or_b();
+        t.set_message(byte, 0, |_, body| has_sessions(body[KIND]))
+    }),
+    mail("a or b above S in a probe, clean or abort", |t| {
+        let (byte, session) = (t.a_or_b(), t.above_sessions());
+        t.set_message(byte, session, |_, body| has_sessions(body[KIND]))
+    }),
+    mail("a or b in another kind", |t| {
+        let (byte, session) = (t.a_or_b(), t.any_session());
+        t.set_message(byte, session, |_, body| !has_sessions(body[KIND]))
+    }),
+    mail("abort to another than its victim", |t| {
+        let victim = t.any_session();
+        t.set_message(Byte::Body(BODY_A), victim, |route, body| {
+            body[KIND] == kind::ABORT && route[ROUTE_SESSION] != victim
+        })
+    }),
+    mail("a byte in an unused route", |t| {
+        let (capacity, count) = (t.buffers.capacity(), t.buffers.count());
+        t.set_unused(route_at(count).start, routes_end(capacity))
+    }),
+    mail("a byte in an unused body", |t| {
+        let (capacity, count) = (t.buffers.capacity(), t.buffers.count());
+        t.set_unused(body_at(capacity, count).start, mail_length(capacity))
+    }),
 ];
-
-/// Sets a byte behind the used entries of the array that begins at a place.
-fn unused_byte(random: &mut Random, buffers: &mut Buffers, shape: Shape, begin: usize) -> bool {
-    let count = messages(buffers);
-    if count == shape.capacity {
-        return false;
-    }
-    let byte = match random.between(1, 4) {
-        1 => 3 * count,
-        2 => 3 * shape.capacity - 1,
-        _ => random.between(3 * count, 3 * shape.capacity - 1),
-    };
-    buffers.mail[begin + byte as usize] = some(random);
-    true
-}

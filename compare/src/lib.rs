@@ -8,3 +8,4 @@ pub mod coverage;
 pub mod fast;
 pub mod forge;
 pub mod library;
+pub mod numbers;

@@ -1,7 +1,7 @@
 //! The C calls of the library, safe on slices. The declarations are those of
 //! include/lockmgr.h.
 
-use model::{Answer, Cycle};
+use model::{Answer, Config, Cycle};
 use std::ptr;
 
 #[repr(C)]
@@ -52,13 +52,13 @@ fn pointer(bytes: &mut [u8]) -> *mut u8 {
     }
 }
 
-pub fn start(sessions: u64, items: u64, capacity: u64, table: &mut [u8], mail: &mut [u8]) -> u8 {
+pub fn start(config: Config, table: &mut [u8], mail: &mut [u8]) -> u8 {
     // SAFETY: each pointer is good for its length, and two `&mut` never overlap.
     unsafe {
         lockmgr_start(
-            sessions,
-            items,
-            capacity,
+            config.sessions,
+            config.items,
+            config.capacity,
             pointer(table),
             table.len(),
             pointer(mail),

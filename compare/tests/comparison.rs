@@ -4,7 +4,9 @@
 use compare::calls::{Calls, Fast, Misread, Model};
 use compare::cases::{every_place, round};
 use compare::comparison::Comparison;
-use model::{Answer, Cycle, Misreading};
+use compare::numbers::DELIVER_TO_ITEM;
+use model::layout::MAX_SESSIONS;
+use model::{Answer, Config, Cycle, Misreading, Refusal, ACCEPTED};
 
 #[test]
 fn fast_answers_like_the_model() {
@@ -50,9 +52,9 @@ enum Wrong {
 }
 
 impl Calls for Wrong {
-    fn start(&self, s: u64, m: u64, c: u64, table: &mut [u8], mail: &mut [u8]) -> u8 {
+    fn start(&self, config: Config, table: &mut [u8], mail: &mut [u8]) -> u8 {
         let last = mail.last().copied();
-        let refusal = model::start(s, m, c, table, mail);
+        let refusal = model::start(config, table, mail);
         if let (Wrong::ShortStart, Some(last)) = (self, last) {
             *mail.last_mut().unwrap() = last;
         }
@@ -75,12 +77,16 @@ impl Calls for Wrong {
             .flatten()
             .map(std::mem::take);
         let answer = model::step(v, session, item, table, mail);
-        if let (Some(last), true) = (ignored, answer.refusal != 0) {
+        if let (Some(last), true) = (ignored, answer.refusal != ACCEPTED) {
             *mail.last_mut().unwrap() = last;
         }
         match self {
-            Wrong::TraceInTable if answer.refusal == 9 => *table.last_mut().unwrap() = 1,
-            Wrong::TraceInMail if v > 2 && answer.sent == 0 && answer.refusal == 0 => {
+            Wrong::TraceInTable if answer.refusal == Refusal::MailFull as u8 => {
+                *table.last_mut().unwrap() = 1
+            }
+            Wrong::TraceInMail
+                if v >= DELIVER_TO_ITEM && answer.sent == 0 && answer.refusal == ACCEPTED =>
+            {
                 *mail.last_mut().unwrap() = 1;
             }
             _ => {}
@@ -90,7 +96,7 @@ impl Calls for Wrong {
 
     fn report(&self, session: u64, table: &[u8]) -> Cycle {
         let mut cycle = model::report(session, table);
-        if *self == Wrong::ShortWalk && cycle.length == 64 {
+        if *self == Wrong::ShortWalk && usize::from(cycle.length) == MAX_SESSIONS {
             cycle.length = 0;
         }
         cycle

@@ -1,7 +1,8 @@
 //! The three calls on numbers and byte buffers.
 
+use crate::config::Config;
 use crate::item::ToSessions;
-use crate::layout::{mail_length, table_length, within, MOST, MOST_CAPACITY};
+use crate::layout::{within, MAX_CAPACITY, MAX_ITEMS, MAX_SESSIONS};
 use crate::mailbox::{Direction, Mailbox, Message, Route};
 use crate::misreading::Misreading;
 use crate::session::{Stage, ToItems};
@@ -30,23 +31,37 @@ pub struct Cycle {
 #[repr(u8)]
 pub enum Refusal {
     /// "verb not 1 to 4 (step)"
-    Verb = 1,
+    BadVerb = 1,
     /// "S, M or C beyond its bounds, or a length not matching"
-    Size = 2,
+    BadSize = 2,
     /// "table not in form"
-    Table = 3,
+    BadTable = 3,
     /// "mail not in form"
-    Mail = 4,
+    BadMail = 4,
     /// "session or item number 0 or above S, M"
-    Number = 5,
+    BadNumber = 5,
     /// "request outside stage 1, release outside 1 and 3"
-    Stage = 6,
+    WrongStage = 6,
     /// "request for an item in T's own mask, release of one not in it"
-    Mask = 7,
+    WrongItem = 7,
     /// "delivery with no entry on that route"
     NoMessage = 8,
     /// "count after the step would pass C"
-    Full = 9,
+    MailFull = 9,
+}
+
+impl Refusal {
+    pub const ALL: [Refusal; 9] = [
+        Refusal::BadVerb,
+        Refusal::BadSize,
+        Refusal::BadTable,
+        Refusal::BadMail,
+        Refusal::BadNumber,
+        Refusal::WrongStage,
+        Refusal::WrongItem,
+        Refusal::NoMessage,
+        Refusal::MailFull,
+    ];
 }
 
 /// The refusal of an accepted call.
@@ -70,36 +85,30 @@ impl Verb {
         Verb::DeliverToSession,
     ];
 
-    fn decode(number: u64) -> Option<Verb> {
+    pub fn decode(number: u64) -> Option<Verb> {
         Verb::ALL.into_iter().find(|verb| *verb as u64 == number)
     }
 }
 
-fn number(given: u64, most: usize) -> Result<u8, Refusal> {
-    let given = within(given, most).ok_or(Refusal::Number)?;
+fn number(given: u64, max: usize) -> Result<u8, Refusal> {
+    let given = within(given, max).ok_or(Refusal::BadNumber)?;
     Ok(given as u8)
 }
 
-pub fn start(sessions: u64, items: u64, capacity: u64, table: &mut [u8], mail: &mut [u8]) -> u8 {
-    match try_start(sessions, items, capacity, table, mail) {
+pub fn start(config: Config, table: &mut [u8], mail: &mut [u8]) -> u8 {
+    match try_start(config, table, mail) {
         Ok(()) => ACCEPTED,
         Err(refusal) => refusal as u8,
     }
 }
 
-fn try_start(
-    sessions: u64,
-    items: u64,
-    capacity: u64,
-    table: &mut [u8],
-    mail: &mut [u8],
-) -> Result<(), Refusal> {
-    let sessions = within(sessions, MOST).ok_or(Refusal::Size)?;
-    let items = within(items, MOST).ok_or(Refusal::Size)?;
-    let capacity = within(capacity, MOST_CAPACITY).ok_or(Refusal::Size)?;
+fn try_start(config: Config, table: &mut [u8], mail: &mut [u8]) -> Result<(), Refusal> {
+    let sessions = within(config.sessions, MAX_SESSIONS).ok_or(Refusal::BadSize)?;
+    let items = within(config.items, MAX_ITEMS).ok_or(Refusal::BadSize)?;
+    let capacity = within(config.capacity, MAX_CAPACITY).ok_or(Refusal::BadSize)?;
     // "(start: against its arguments)"
-    if table.len() != table_length(sessions, items) || mail.len() != mail_length(capacity) {
-        return Err(Refusal::Size);
+    if table.len() != config.table_length() || mail.len() != config.mail_length() {
+        return Err(Refusal::BadSize);
     }
     Table::fresh(sessions, items).encode(table);
     Mailbox::empty(capacity).encode(mail);
@@ -136,11 +145,11 @@ fn try_step(
     table: &mut [u8],
     mail: &mut [u8],
 ) -> Result<Answer, Refusal> {
-    let verb = Verb::decode(verb).ok_or(Refusal::Verb)?;
-    let (sessions, items) = Table::size(table).ok_or(Refusal::Size)?;
-    Mailbox::capacity(mail).ok_or(Refusal::Size)?;
-    let mut records = Table::decode(table).ok_or(Refusal::Table)?;
-    let mut mailbox = Mailbox::decode(mail, sessions, items).ok_or(Refusal::Mail)?;
+    let verb = Verb::decode(verb).ok_or(Refusal::BadVerb)?;
+    let (sessions, items) = Table::size(table).ok_or(Refusal::BadSize)?;
+    Mailbox::capacity(mail).ok_or(Refusal::BadSize)?;
+    let mut records = Table::decode(table).ok_or(Refusal::BadTable)?;
+    let mut mailbox = Mailbox::decode(mail, sessions, items).ok_or(Refusal::BadMail)?;
     let session = number(session, sessions)?;
     let item = number(item, items)?;
 
@@ -149,10 +158,10 @@ fn try_step(
         Verb::Request => {
             let before = records.session(session).clone();
             if before.stage != Stage::Growing {
-                return Err(Refusal::Stage);
+                return Err(Refusal::WrongStage);
             }
             if before.holds(item) {
-                return Err(Refusal::Mask);
+                return Err(Refusal::WrongItem);
             }
             let (after, sends) = before.request(item);
             *records.session_mut(session) = after;
@@ -161,10 +170,10 @@ fn try_step(
         Verb::Release => {
             let before = records.session(session).clone();
             if !matches!(before.stage, Stage::Growing | Stage::Shrinking) {
-                return Err(Refusal::Stage);
+                return Err(Refusal::WrongStage);
             }
             if !before.holds(item) {
-                return Err(Refusal::Mask);
+                return Err(Refusal::WrongItem);
             }
             let (after, sends) = before.release(item);
             *records.session_mut(session) = after;
@@ -211,7 +220,7 @@ fn try_step(
     answer.sent = sends.len() as u8;
     mailbox.messages.extend(sends);
     if mailbox.messages.len() > mailbox.capacity {
-        return Err(Refusal::Full);
+        return Err(Refusal::MailFull);
     }
     records.encode(table);
     mailbox.encode(mail);
@@ -260,8 +269,8 @@ pub fn report(session: u64, table: &[u8]) -> Cycle {
 }
 
 fn try_report(session: u64, table: &[u8]) -> Result<u8, Refusal> {
-    let (sessions, _) = Table::size(table).ok_or(Refusal::Size)?;
-    let records = Table::decode(table).ok_or(Refusal::Table)?;
+    let (sessions, _) = Table::size(table).ok_or(Refusal::BadSize)?;
+    let records = Table::decode(table).ok_or(Refusal::BadTable)?;
     let session = number(session, sessions)?;
     Ok(cycle_members(&records, session).len() as u8)
 }

@@ -112,7 +112,7 @@ fn check_refused(
     if before != after {
         return Err(format!("a step refused with {refusal} changed a buffer"));
     }
-    if refusal == Refusal::Table as u8 || refusal == Refusal::Mail as u8 {
+    if refusal == Refusal::BadTable as u8 || refusal == Refusal::BadMail as u8 {
         return Err(format!("refused with {refusal} after an accepted start"));
     }
     Ok(())

@@ -1,6 +1,6 @@
 //! The item record and what an item does.
 
-use crate::layout::{within, ITEM_SIZE, MOST};
+use crate::layout::{within, HOLDER, MAX_SESSIONS, QUEUE, QUEUE_LENGTH};
 use crate::mailbox::Body;
 use crate::misreading::Misreading;
 use crate::session::senior;
@@ -24,11 +24,6 @@ pub struct Outcome {
     pub declared: Option<(u8, u8)>,
 }
 
-/// Where the fields of the record stand.
-const HOLDER: usize = 0;
-const LENGTH: usize = 1;
-const QUEUE: usize = 2;
-
 impl Item {
     pub fn fresh() -> Item {
         Item {
@@ -42,11 +37,11 @@ impl Item {
     /// line is zero".
     pub fn decode(bytes: &[u8], sessions: usize) -> Option<Item> {
         let holder = bytes[HOLDER];
-        let length = usize::from(bytes[LENGTH]);
-        if usize::from(holder) > sessions || length > MOST {
+        let length = usize::from(bytes[QUEUE_LENGTH]);
+        if usize::from(holder) > sessions || length > MAX_SESSIONS {
             return None;
         }
-        let (queue, unused) = bytes[QUEUE..ITEM_SIZE].split_at(length);
+        let (queue, unused) = bytes[QUEUE].split_at(length);
         let distinct = (1..queue.len()).all(|k| !queue[..k].contains(&queue[k]));
         let known = queue.iter().all(|&s| within(s.into(), sessions).is_some());
         let fits =
@@ -60,8 +55,8 @@ impl Item {
     pub fn encode(&self, bytes: &mut [u8]) {
         bytes.fill(0);
         bytes[HOLDER] = self.holder;
-        bytes[LENGTH] = self.queue.len() as u8;
-        bytes[QUEUE..QUEUE + self.queue.len()].copy_from_slice(&self.queue);
+        bytes[QUEUE_LENGTH] = self.queue.len() as u8;
+        bytes[QUEUE][..self.queue.len()].copy_from_slice(&self.queue);
     }
 
     /// The choice of the next holder: its place in the queue, "the first in

@@ -6,6 +6,7 @@
 //! what follows. Comments in quotation marks are the words of 01.
 
 pub mod calls;
+pub mod config;
 pub mod demand3;
 pub mod item;
 pub mod layout;
@@ -17,6 +18,7 @@ pub mod session;
 pub mod table;
 pub mod waits;
 
-pub use calls::{report, start, step, step_as, Answer, Cycle, Refusal};
+pub use calls::{report, start, step, step_as, Answer, Cycle, Refusal, Verb, ACCEPTED};
+pub use config::Config;
 pub use misreading::Misreading;
 pub use replay::replay;

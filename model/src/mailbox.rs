@@ -2,7 +2,9 @@
 //! each on a route and with a body.
 
 use crate::layout::{
-    mail_length, read_u16, within, BODY_SIZE, MAIL_HEADER, MOST_CAPACITY, ROUTE_SIZE,
+    body_at, mail_length, read_u16, route_at, routes_end, within, write_u16, BODY_A, BODY_B,
+    BODY_SIZE, DIRECTION, KIND, MAIL_CAPACITY, MAIL_COUNT, MAIL_HEADER, MAX_CAPACITY, ROUTE_ITEM,
+    ROUTE_SESSION, ROUTE_SIZE,
 };
 
 /// "Direction 1 runs session to item, 2 item to session."
@@ -36,7 +38,7 @@ pub enum Body {
 }
 
 /// "Kinds: 1 request, 2 release, 3 probe (initiator, junior), ..."
-mod kind {
+pub mod kind {
     pub const REQUEST: u8 = 1;
     pub const RELEASE: u8 = 2;
     pub const PROBE: u8 = 3;
@@ -67,8 +69,8 @@ impl Body {
 
     /// "Kinds 3, 4 and 9 have a and b in 1 to S; the others have zeros."
     fn decode(bytes: &[u8], sessions: usize) -> Option<Body> {
-        let (a, b) = (bytes[1], bytes[2]);
-        let body = match bytes[0] {
+        let (a, b) = (bytes[BODY_A], bytes[BODY_B]);
+        let body = match bytes[KIND] {
             kind::REQUEST => Body::Request,
             kind::RELEASE => Body::Release,
             kind::PROBE => Body::Probe {
@@ -124,13 +126,14 @@ impl Route {
     fn decode(bytes: &[u8], sessions: usize, items: usize) -> Option<Route> {
         let direction = [Direction::ToItem, Direction::ToSession]
             .into_iter()
-            .find(|direction| *direction as u8 == bytes[0])?;
-        within(bytes[1].into(), sessions)?;
-        within(bytes[2].into(), items)?;
+            .find(|direction| *direction as u8 == bytes[DIRECTION])?;
+        let (session, item) = (bytes[ROUTE_SESSION], bytes[ROUTE_ITEM]);
+        within(session.into(), sessions)?;
+        within(item.into(), items)?;
         Some(Route {
             direction,
-            session: bytes[1],
-            item: bytes[2],
+            session,
+            item,
         })
     }
 }
@@ -141,12 +144,9 @@ pub struct Message {
     pub body: Body,
 }
 
-/// "C (2), count (2)": where the count stands.
-const COUNT: usize = 2;
-
 /// The number of messages in the mail; "Mail is empty when its count is 0."
 pub fn count(mail: &[u8]) -> usize {
-    read_u16(&mail[COUNT..]).into()
+    read_u16(&mail[MAIL_COUNT]).into()
 }
 
 #[derive(Clone, PartialEq, Eq, Debug)]
@@ -170,7 +170,7 @@ impl Mailbox {
         if mail.len() < MAIL_HEADER {
             return None;
         }
-        let capacity = within(read_u16(mail).into(), MOST_CAPACITY)?;
+        let capacity = within(read_u16(&mail[MAIL_CAPACITY]).into(), MAX_CAPACITY)?;
         (mail.len() == mail_length(capacity)).then_some(capacity)
     }
 
@@ -182,36 +182,31 @@ impl Mailbox {
         if count > capacity {
             return None;
         }
-        let (routes, bodies) = mail[MAIL_HEADER..].split_at(ROUTE_SIZE * capacity);
-        let (routes, unused_routes) = routes.split_at(ROUTE_SIZE * count);
-        let (bodies, unused_bodies) = bodies.split_at(BODY_SIZE * count);
         // "unused ones are zero"
+        let unused_routes = &mail[route_at(count).start..routes_end(capacity)];
+        let unused_bodies = &mail[body_at(capacity, count).start..mail_length(capacity)];
         if unused_routes.iter().chain(unused_bodies).any(|&b| b != 0) {
             return None;
         }
-        let messages = routes
-            .chunks(ROUTE_SIZE)
-            .zip(bodies.chunks(BODY_SIZE))
-            .map(|(route, body)| {
-                let route = Route::decode(route, sessions, items)?;
-                let body = Body::decode(body, sessions)?;
-                body.may_travel(route).then_some(Message { route, body })
-            })
-            .collect::<Option<Vec<Message>>>()?;
-        Some(Mailbox { capacity, messages })
+        let message = |place| {
+            let route = Route::decode(&mail[route_at(place)], sessions, items)?;
+            let body = Body::decode(&mail[body_at(capacity, place)], sessions)?;
+            body.may_travel(route).then_some(Message { route, body })
+        };
+        Some(Mailbox {
+            capacity,
+            messages: (0..count).map(message).collect::<Option<_>>()?,
+        })
     }
 
     /// Writes "C (2), count (2), then two parallel arrays of C entries".
     pub fn encode(&self, mail: &mut [u8]) {
         mail.fill(0);
-        mail[..COUNT].copy_from_slice(&(self.capacity as u16).to_le_bytes());
-        mail[COUNT..MAIL_HEADER].copy_from_slice(&(self.messages.len() as u16).to_le_bytes());
-        let (routes, bodies) = mail[MAIL_HEADER..].split_at_mut(ROUTE_SIZE * self.capacity);
-        for (place, message) in routes.chunks_mut(ROUTE_SIZE).zip(&self.messages) {
-            place.copy_from_slice(&message.route.encode());
-        }
-        for (place, message) in bodies.chunks_mut(BODY_SIZE).zip(&self.messages) {
-            place.copy_from_slice(&message.body.encode());
+        write_u16(&mut mail[MAIL_CAPACITY], self.capacity);
+        write_u16(&mut mail[MAIL_COUNT], self.messages.len());
+        for (place, message) in self.messages.iter().enumerate() {
+            mail[route_at(place)].copy_from_slice(&message.route.encode());
+            mail[body_at(self.capacity, place)].copy_from_slice(&message.body.encode());
         }
     }
 

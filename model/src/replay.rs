@@ -2,16 +2,17 @@
 //! output.
 
 use crate::calls::{start, step, Answer};
-use crate::layout::{mail_length, read_u16, table_length, within, MOST, MOST_CAPACITY};
+use crate::config::Config;
+use crate::layout::{read_u16, within, MAX_CAPACITY, MAX_ITEMS, MAX_SESSIONS};
 use crate::mailbox::count;
 use crate::table::{rolled_back, Table};
 
 /// "S and M (1 byte each), n (2 bytes, 0 to 4,096)".
 const HEADER: usize = 4;
-const MOST_STEPS: usize = 4096;
+pub const MAX_STEPS: usize = 4096;
 
 /// "C is 4,096."
-const CAPACITY: usize = MOST_CAPACITY;
+pub const CAPACITY: usize = MAX_CAPACITY;
 
 /// "the tally of rings closed, declarations made and sessions reaching stage
 /// 6", "one record that the steps update".
@@ -42,24 +43,19 @@ fn run(input: &[u8]) -> Option<String> {
         return None;
     }
     let (header, rest) = input.split_at(HEADER);
-    let sessions = within(header[0].into(), MOST)?;
-    let items = within(header[1].into(), MOST)?;
+    let sessions = within(header[0].into(), MAX_SESSIONS)?;
+    let items = within(header[1].into(), MAX_ITEMS)?;
     let steps = usize::from(read_u16(&header[2..]));
     // "n verbs, then n pairs (session, item)"
-    if steps > MOST_STEPS || rest.len() != steps + 2 * steps {
+    if steps > MAX_STEPS || rest.len() != steps + 2 * steps {
         return None;
     }
     let (verbs, pairs) = rest.split_at(steps);
 
-    let mut table = vec![0; table_length(sessions, items)];
-    let mut mail = vec![0; mail_length(CAPACITY)];
-    start(
-        sessions as u64,
-        items as u64,
-        CAPACITY as u64,
-        &mut table,
-        &mut mail,
-    );
+    let config = Config::new(sessions as u64, items as u64, CAPACITY as u64);
+    let mut table = vec![0; config.table_length()];
+    let mut mail = vec![0; config.mail_length()];
+    start(config, &mut table, &mut mail);
     let mut tally = Tally::default();
     let mut output = String::new();
     for (index, (&verb, pair)) in (1..).zip(verbs.iter().zip(pairs.chunks(2))) {

@@ -2,8 +2,8 @@
 //! with demand 3 checked after every step.
 
 use crate::calls::{start, step_as, Answer, Refusal, Verb, ACCEPTED};
+use crate::config::Config;
 use crate::demand3::Demand3;
-use crate::layout::{mail_length, table_length};
 use crate::mailbox::{count, Body, Direction, Mailbox, Message, Route};
 use crate::misreading::Misreading;
 use crate::session::Stage;
@@ -40,6 +40,16 @@ impl Random {
     }
 }
 
+impl Config {
+    pub fn any_session(self, random: &mut Random) -> u64 {
+        random.between(1, self.sessions)
+    }
+
+    pub fn any_item(self, random: &mut Random) -> u64 {
+        random.between(1, self.items)
+    }
+}
+
 /// Which route is delivered next. No fairness is asked of the mail, so some of
 /// these starve a part of it as long as anything else can move.
 #[derive(Clone, Copy, PartialEq, Eq, Debug)]
@@ -56,14 +66,14 @@ enum Schedule {
 }
 
 impl Schedule {
-    fn draw(random: &mut Random, sessions: u64, items: u64) -> Schedule {
+    fn draw(random: &mut Random, config: Config) -> Schedule {
         match random.between(1, 8) {
             1 => Schedule::OldestMessage,
             2 => Schedule::NewestMessage,
             3 => Schedule::ProbesFirst,
             4 => Schedule::ProbesLast,
-            5 => Schedule::SlowSession(random.between(1, sessions) as u8),
-            6 => Schedule::SlowItem(random.between(1, items) as u8),
+            5 => Schedule::SlowSession(config.any_session(random) as u8),
+            6 => Schedule::SlowItem(config.any_item(random) as u8),
             _ => Schedule::AnyRoute,
         }
     }
@@ -140,8 +150,7 @@ pub const DRAIN_BOUND: u64 = 5_000;
 /// One lock manager with its two buffers and the check of its list of steps.
 struct Desk {
     misreading: Misreading,
-    sessions: u64,
-    items: u64,
+    config: Config,
     wide: bool,
     table: Vec<u8>,
     mail: Vec<u8>,
@@ -161,15 +170,15 @@ pub fn run(seed: u64, misreading: Misreading) -> Result<Counts, String> {
     } else {
         random.between(1, NARROW)
     };
-    let mut table = vec![0; table_length(sessions as usize, items as usize)];
-    let mut mail = vec![0; mail_length(capacity as usize)];
-    if start(sessions, items, capacity, &mut table, &mut mail) != ACCEPTED {
+    let config = Config::new(sessions, items, capacity);
+    let mut table = vec![0; config.table_length()];
+    let mut mail = vec![0; config.mail_length()];
+    if start(config, &mut table, &mut mail) != ACCEPTED {
         return Err("start is refused".to_string());
     }
     let mut desk = Desk {
         misreading,
-        sessions,
-        items,
+        config,
         wide,
         table,
         mail,
@@ -192,7 +201,7 @@ impl Desk {
         let release_one_in = self.random.between(3, 40);
         let drain_one_in = self.random.between(1, 6);
         for _ in 0..bursts {
-            let schedule = Schedule::draw(&mut self.random, self.sessions, self.items);
+            let schedule = Schedule::draw(&mut self.random, self.config);
             for _ in 0..self.random.between(5, 60) {
                 if self.random.one_in(50) {
                     self.any_step()?;
@@ -224,7 +233,7 @@ impl Desk {
         );
         self.counts.steps += 1;
         self.counts.refused += u64::from(answer.refusal != ACCEPTED);
-        self.counts.full += u64::from(answer.refusal == Refusal::Full as u8);
+        self.counts.full += u64::from(answer.refusal == Refusal::MailFull as u8);
         self.counts.demand3.after_step(
             answer,
             (&before.0, &before.1),
@@ -240,8 +249,12 @@ impl Desk {
 
     /// The earliest message of each route, in order of sending.
     fn heads(&self) -> Result<Vec<Message>, String> {
-        let mailbox = Mailbox::decode(&self.mail, self.sessions as usize, self.items as usize)
-            .ok_or("the mail is not well-formed")?;
+        let mailbox = Mailbox::decode(
+            &self.mail,
+            self.config.sessions as usize,
+            self.config.items as usize,
+        )
+        .ok_or("the mail is not well-formed")?;
         let mut heads: Vec<Message> = Vec::new();
         for message in mailbox.messages {
             if heads.iter().all(|head| head.route != message.route) {
@@ -254,8 +267,8 @@ impl Desk {
     /// Any verb, session and item, most of it refused.
     fn any_step(&mut self) -> Result<(), String> {
         let verb = self.random.between(0, 5);
-        let session = self.random.between(0, self.sessions + 1);
-        let item = self.random.between(0, self.items + 1);
+        let session = self.random.between(0, self.config.sessions + 1);
+        let item = self.random.between(0, self.config.items + 1);
         self.step(verb, session, item).map(|_| ())
     }
 
@@ -272,9 +285,9 @@ impl Desk {
     fn own_step(&mut self, verb: Verb, stages: &[Stage], held: bool) -> Result<(), String> {
         let records = self.records()?;
         let mut choices = Vec::new();
-        for session in 1..=self.sessions {
+        for session in 1..=self.config.sessions {
             let record = records.session(session as u8);
-            for item in 1..=self.items {
+            for item in 1..=self.config.items {
                 if stages.contains(&record.stage) && record.holds(item as u8) == held {
                     choices.push((session, item));
                 }
@@ -305,7 +318,7 @@ impl Desk {
 
     /// Deliveries alone, in the order of some schedule, until the mail is empty.
     fn drain(&mut self) -> Result<(), String> {
-        let schedule = Schedule::draw(&mut self.random, self.sessions, self.items);
+        let schedule = Schedule::draw(&mut self.random, self.config);
         let mut deliveries = 0;
         while count(&self.mail) != 0 {
             if deliveries == DRAIN_BOUND {

@@ -1,6 +1,6 @@
 //! The session record, its stages, seniority, and what a session does.
 
-use crate::layout::{within, MOST, SESSION_SIZE};
+use crate::layout::{within, AWAITED, HELD, JUNIORS, MAX_ITEMS, MAX_SESSIONS, STAGE};
 use crate::mailbox::Body;
 use crate::misreading::Misreading;
 
@@ -59,19 +59,13 @@ pub struct Session {
     /// "held items as a mask where bit k−1 is item k".
     pub held: u64,
     /// "for each initiator 1 to 64 the junior of the stored probe, or 0".
-    pub juniors: [u8; MOST],
+    pub juniors: [u8; MAX_SESSIONS],
 }
 
 /// Messages to items, in order of sending.
 pub type ToItems = Vec<(u8, Body)>;
 
-/// Where the fields of the record stand.
-const STAGE: usize = 0;
-const AWAITED: usize = 1;
-const HELD: usize = 2;
-const JUNIORS: usize = 10;
-
-const NO_PROBES: [u8; MOST] = [0; MOST];
+const NO_PROBES: [u8; MAX_SESSIONS] = [0; MAX_SESSIONS];
 
 fn bit(item: u8) -> u64 {
     1 << (item - 1)
@@ -97,10 +91,10 @@ impl Session {
         } else {
             awaited == 0
         };
-        let held = u64::from_le_bytes(bytes[HELD..JUNIORS].try_into().ok()?);
+        let held = u64::from_le_bytes(bytes[HELD].try_into().ok()?);
         // "held bits lie in 1 to M"
         let held_fits = held.checked_shr(items as u32).unwrap_or(0) == 0;
-        let juniors: [u8; MOST] = bytes[JUNIORS..SESSION_SIZE].try_into().ok()?;
+        let juniors: [u8; MAX_SESSIONS] = bytes[JUNIORS].try_into().ok()?;
         // "juniors are 0 to S, and 0 for initiators above S"
         let (known, unknown) = juniors.split_at(sessions);
         let juniors_fit =
@@ -116,8 +110,8 @@ impl Session {
     pub fn encode(&self, bytes: &mut [u8]) {
         bytes[STAGE] = self.stage as u8;
         bytes[AWAITED] = self.awaited;
-        bytes[HELD..JUNIORS].copy_from_slice(&self.held.to_le_bytes());
-        bytes[JUNIORS..SESSION_SIZE].copy_from_slice(&self.juniors);
+        bytes[HELD].copy_from_slice(&self.held.to_le_bytes());
+        bytes[JUNIORS].copy_from_slice(&self.juniors);
     }
 
     pub fn holds(&self, item: u8) -> bool {
@@ -126,7 +120,7 @@ impl Session {
 
     /// The held items, rising.
     fn held_items(&self) -> impl Iterator<Item = u8> + '_ {
-        (1..=MOST as u8).filter(|&item| self.holds(item))
+        (1..=MAX_ITEMS as u8).filter(|&item| self.holds(item))
     }
 
     /// All stored probes "by rising initiator", to one item.

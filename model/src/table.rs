@@ -1,7 +1,10 @@
 //! The table: "S, M, then the session records, then the item records".
 
 use crate::item::Item;
-use crate::layout::{table_length, within, ITEM_SIZE, MOST, SESSION_SIZE, TABLE_HEADER};
+use crate::layout::{
+    item_at, session_at, table_length, within, MAX_ITEMS, MAX_SESSIONS, TABLE_HEADER, TABLE_ITEMS,
+    TABLE_SESSIONS,
+};
 use crate::session::{Session, Stage};
 
 #[derive(Clone, PartialEq, Eq, Debug)]
@@ -24,8 +27,8 @@ impl Table {
         if table.len() < TABLE_HEADER {
             return None;
         }
-        let sessions = within(table[0].into(), MOST)?;
-        let items = within(table[1].into(), MOST)?;
+        let sessions = within(table[TABLE_SESSIONS].into(), MAX_SESSIONS)?;
+        let items = within(table[TABLE_ITEMS].into(), MAX_ITEMS)?;
         (table.len() == table_length(sessions, items)).then_some((sessions, items))
     }
 
@@ -33,29 +36,23 @@ impl Table {
     /// been judged before.
     pub fn decode(table: &[u8]) -> Option<Table> {
         let (sessions, items) = Table::size(table)?;
-        let (session_bytes, item_bytes) = table[TABLE_HEADER..].split_at(SESSION_SIZE * sessions);
+        let session = |k| Session::decode(&table[session_at(k)], sessions, items);
+        let item = |k| Item::decode(&table[item_at(sessions, k)], sessions);
         Some(Table {
-            sessions: session_bytes
-                .chunks(SESSION_SIZE)
-                .map(|bytes| Session::decode(bytes, sessions, items))
-                .collect::<Option<Vec<Session>>>()?,
-            items: item_bytes
-                .chunks(ITEM_SIZE)
-                .map(|bytes| Item::decode(bytes, sessions))
-                .collect::<Option<Vec<Item>>>()?,
+            sessions: (1..=sessions).map(session).collect::<Option<_>>()?,
+            items: (1..=items).map(item).collect::<Option<_>>()?,
         })
     }
 
     pub fn encode(&self, table: &mut [u8]) {
-        table[0] = self.sessions.len() as u8;
-        table[1] = self.items.len() as u8;
-        let (session_bytes, item_bytes) =
-            table[TABLE_HEADER..].split_at_mut(SESSION_SIZE * self.sessions.len());
-        for (place, session) in session_bytes.chunks_mut(SESSION_SIZE).zip(&self.sessions) {
-            session.encode(place);
+        let sessions = self.sessions.len();
+        table[TABLE_SESSIONS] = sessions as u8;
+        table[TABLE_ITEMS] = self.items.len() as u8;
+        for (k, session) in (1..).zip(&self.sessions) {
+            session.encode(&mut table[session_at(k)]);
         }
-        for (place, item) in item_bytes.chunks_mut(ITEM_SIZE).zip(&self.items) {
-            item.encode(place);
+        for (k, item) in (1..).zip(&self.items) {
+            item.encode(&mut table[item_at(sessions, k)]);
         }
     }
 

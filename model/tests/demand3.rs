@@ -8,7 +8,7 @@ use model::layout::{mail_length, table_length};
 use model::mailbox::Mailbox;
 use model::scenario::{run, Counts, DRAIN_BOUND};
 use model::table::Table;
-use model::Misreading;
+use model::{Misreading, Refusal};
 
 /// Accepted steps, in all runs.
 const STEPS: u64 = 2_000_000;
@@ -95,14 +95,20 @@ fn the_check_can_fail() {
     // A right declaration passes; what fails then is the empty mail.
     assert!(reason(declaration(2, 1), &cycle, &cycle).contains("1 standing cycles"));
 
-    let refused = |refusal, sent| Answer {
-        refusal,
+    let refused = |refusal: Refusal, sent| Answer {
+        refusal: refusal as u8,
         sent,
         ..Answer::default()
     };
-    assert_eq!(check(refused(9, 0), &cycle, &cycle), Ok(()));
-    assert!(reason(refused(9, 1), &cycle, &cycle).contains("a refused step answers"));
-    assert!(reason(refused(9, 0), &cycle, &fresh).contains("changed a buffer"));
-    assert!(reason(refused(3, 0), &fresh, &fresh).contains("after an accepted start"));
-    assert!(reason(refused(4, 0), &fresh, &fresh).contains("after an accepted start"));
+    assert_eq!(check(refused(Refusal::MailFull, 0), &cycle, &cycle), Ok(()));
+    assert!(
+        reason(refused(Refusal::MailFull, 1), &cycle, &cycle).contains("a refused step answers")
+    );
+    assert!(reason(refused(Refusal::MailFull, 0), &cycle, &fresh).contains("changed a buffer"));
+    assert!(
+        reason(refused(Refusal::BadTable, 0), &fresh, &fresh).contains("after an accepted start")
+    );
+    assert!(
+        reason(refused(Refusal::BadMail, 0), &fresh, &fresh).contains("after an accepted start")
+    );
 }

@@ -1,11 +1,22 @@
 //! The printed example of 01, its small cases, and every refusal.
 
 use model::item::Item;
-use model::layout::{mail_length, table_length};
-use model::mailbox::{Body, Direction, Mailbox, Message, Route};
+use model::layout::{
+    body_at, item_at, mail_length, route_at, session_at, table_length, write_u16, AWAITED,
+    BODY_SIZE, HELD, HOLDER, ITEM_SIZE, JUNIORS, MAIL_CAPACITY, MAIL_COUNT, MAIL_HEADER,
+    MAX_CAPACITY, MAX_ITEMS, MAX_SESSIONS, QUEUE, QUEUE_LENGTH, ROUTE_SIZE, SESSION_SIZE, STAGE,
+    TABLE_HEADER, TABLE_ITEMS, TABLE_SESSIONS,
+};
+use model::mailbox::{kind, Body, Direction, Mailbox, Message, Route};
+use model::replay::MAX_STEPS;
 use model::session::Stage;
 use model::table::Table;
-use model::{replay, report, start, step, Answer, Cycle};
+use model::{replay, report, start, step, Answer, Config, Cycle, Refusal, Verb, ACCEPTED};
+
+const REQUEST: u64 = Verb::Request as u64;
+const RELEASE: u64 = Verb::Release as u64;
+const TO_ITEM: u64 = Verb::DeliverToItem as u64;
+const TO_SESSION: u64 = Verb::DeliverToSession as u64;
 
 const PRINTED: &str = "\
 1 1 1 1 0 1 0 0 0
@@ -81,11 +92,11 @@ fn replay_of_bad_input() {
     for (sessions, items) in [(0, 2), (2, 0), (65, 2), (2, 65), (255, 255)] {
         assert_eq!(replayed(&input(sessions, items, &[])), "bad\n");
     }
-    let most = vec![(9, 0, 255); 4096];
-    let output = replayed(&input(64, 64, &most));
+    let longest = vec![(9, 0, 255); MAX_STEPS];
+    let output = replayed(&input(64, 64, &longest));
     assert!(output.starts_with("1 9 0 255 1 0 0 0 0\n2 9 0 255 1 0 0 0 0\n"));
     assert!(output.ends_with("\n4096 9 0 255 1 0 0 0 0\nend 0 0 0 0\n"));
-    let too_many = vec![(1, 1, 1); 4097];
+    let too_many = vec![(1, 1, 1); MAX_STEPS + 1];
     assert_eq!(replayed(&input(2, 2, &too_many)), "bad\n");
 }
 
@@ -98,12 +109,13 @@ struct Desk {
 
 impl Desk {
     fn new(sessions: u64, items: u64, capacity: u64) -> Desk {
+        let config = Config::new(sessions, items, capacity);
         let mut desk = Desk {
-            table: vec![0xA5; table_length(sessions as usize, items as usize)],
-            mail: vec![0xA5; mail_length(capacity as usize)],
+            table: vec![0xA5; config.table_length()],
+            mail: vec![0xA5; config.mail_length()],
         };
-        let refusal = start(sessions, items, capacity, &mut desk.table, &mut desk.mail);
-        assert_eq!(refusal, 0);
+        let refusal = start(config, &mut desk.table, &mut desk.mail);
+        assert_eq!(refusal, ACCEPTED);
         desk
     }
 
@@ -121,10 +133,10 @@ impl Desk {
     }
 
     /// A step that must be refused, with both buffers untouched.
-    fn refuses(&mut self, verb: u64, session: u64, item: u64, refusal: u8) {
+    fn refuses(&mut self, verb: u64, session: u64, item: u64, refusal: Refusal) {
         let before = self.clone();
         let expected = Answer {
-            refusal,
+            refusal: refusal as u8,
             ..Answer::default()
         };
         assert_eq!(self.step(verb, session, item), expected);
@@ -144,16 +156,37 @@ impl Desk {
 #[test]
 fn start_writes_all_bytes() {
     let desk = Desk::new(3, 2, 5);
-    let mut table = vec![0; 2 + 74 * 3 + 66 * 2];
-    table[..2].copy_from_slice(&[3, 2]);
-    for session in 0..3 {
-        table[2 + 74 * session] = 1;
+    let mut table = vec![0; table_length(3, 2)];
+    table[TABLE_SESSIONS] = 3;
+    table[TABLE_ITEMS] = 2;
+    for session in 1..=3 {
+        table[session_at(session)][STAGE] = Stage::Growing as u8;
     }
     assert_eq!(desk.table, table);
-    let mut mail = vec![0; 4 + 6 * 5];
-    mail[0] = 5;
+    let mut mail = vec![0; mail_length(5)];
+    mail[MAIL_CAPACITY][0] = 5;
     assert_eq!(desk.mail, mail);
-    assert_eq!(Desk::new(1, 1, 4096).mail[..4], [0, 16, 0, 0]);
+    let largest = Desk::new(1, 1, MAX_CAPACITY as u64);
+    assert_eq!(largest.mail[..MAIL_HEADER], [0, 16, 0, 0]);
+}
+
+/// The figures of 01, to which the names of the layout must come.
+#[test]
+fn layout_in_figures() {
+    assert_eq!([MAX_SESSIONS, MAX_ITEMS, MAX_CAPACITY], [64, 64, 4096]);
+    assert_eq!([TABLE_SESSIONS, TABLE_ITEMS, TABLE_HEADER], [0, 1, 2]);
+    assert_eq!([STAGE, AWAITED, SESSION_SIZE], [0, 1, 74]);
+    assert_eq!([HELD, JUNIORS], [2..10, 10..74]);
+    assert_eq!([HOLDER, QUEUE_LENGTH, ITEM_SIZE], [0, 1, 66]);
+    assert_eq!(QUEUE, 2..66);
+    assert_eq!([MAIL_CAPACITY, MAIL_COUNT], [0..2, 2..4]);
+    assert_eq!([MAIL_HEADER, ROUTE_SIZE, BODY_SIZE], [4, 3, 3]);
+    assert_eq!(table_length(3, 5), 2 + 74 * 3 + 66 * 5);
+    assert_eq!(session_at(3), 2 + 74 * 2..2 + 74 * 3);
+    assert_eq!(item_at(3, 5), 2 + 74 * 3 + 66 * 4..table_length(3, 5));
+    assert_eq!(mail_length(7), 4 + 6 * 7);
+    assert_eq!(route_at(2), 4 + 3 * 2..4 + 3 * 3);
+    assert_eq!(body_at(7, 6), 4 + 3 * 13..mail_length(7));
 }
 
 #[test]
@@ -164,12 +197,12 @@ fn start_refuses_with_2_only() {
             mail: vec![0xA5; mail],
         };
         let before = desk.clone();
-        let refusal = start(s, m, c, &mut desk.table, &mut desk.mail);
-        assert!(refusal == 0 || refusal == 2);
-        assert_eq!(desk == before, refusal == 2);
-        refusal == 0
+        let refusal = start(Config::new(s, m, c), &mut desk.table, &mut desk.mail);
+        assert!(refusal == ACCEPTED || refusal == Refusal::BadSize as u8);
+        assert_eq!(desk == before, refusal != ACCEPTED);
+        refusal == ACCEPTED
     };
-    let (table, mail) = (2 + 74 * 2 + 66 * 3, 4 + 6 * 7);
+    let (table, mail) = (table_length(2, 3), mail_length(7));
     assert!(fits(2, 3, 7, table, mail));
     assert!(!fits(3, 2, 7, table, mail));
     assert!(!fits(2, 3, 7, table - 1, mail));
@@ -177,12 +210,18 @@ fn start_refuses_with_2_only() {
     assert!(!fits(2, 3, 7, table, mail - 1));
     assert!(!fits(2, 3, 7, table, mail + 1));
     assert!(!fits(2, 3, 7, 0, 0));
-    assert!(!fits(2, 3, 0, table, 4));
-    assert!(!fits(2, 3, 4097, table, 4 + 6 * 4097));
-    assert!(!fits(0, 3, 7, 2 + 66 * 3, mail));
-    assert!(!fits(65, 3, 7, 2 + 74 * 65 + 66 * 3, mail));
-    assert!(!fits(2, 0, 7, 2 + 74 * 2, mail));
-    assert!(!fits(2, 65, 7, 2 + 74 * 2 + 66 * 65, mail));
+    for (sessions, items, capacity) in [
+        (2, 3, 0),
+        (2, 3, MAX_CAPACITY + 1),
+        (0, 3, 7),
+        (MAX_SESSIONS + 1, 3, 7),
+        (2, 0, 7),
+        (2, MAX_ITEMS + 1, 7),
+    ] {
+        let (table, mail) = (table_length(sessions, items), mail_length(capacity));
+        let [s, m, c] = [sessions, items, capacity].map(|number| number as u64);
+        assert!(!fits(s, m, c, table, mail));
+    }
     // Nothing is cut off before it is judged.
     let high = 1 << 32;
     assert!(!fits(high + 2, 3, 7, table, mail));
@@ -194,23 +233,23 @@ fn start_refuses_with_2_only() {
 #[test]
 fn small_mail() {
     let mut one = Desk::new(2, 2, 1);
-    one.sends(1, 1, 1, 1);
-    one.refuses(1, 2, 2, 9);
+    one.sends(REQUEST, 1, 1, 1);
+    one.refuses(REQUEST, 2, 2, Refusal::MailFull);
 
     let mut two = Desk::new(2, 2, 2);
-    two.sends(1, 1, 1, 1);
+    two.sends(REQUEST, 1, 1, 1);
     let mut with_probe = two.forged(|table| table.sessions[1].juniors[0] = 2);
-    with_probe.refuses(1, 2, 2, 9);
-    two.sends(1, 2, 2, 1);
+    with_probe.refuses(REQUEST, 2, 2, Refusal::MailFull);
+    two.sends(REQUEST, 2, 2, 1);
 }
 
 #[test]
 fn full_mail_takes_a_delivery_that_sends_at_most_one() {
     // The request sends one, the grant none.
     let mut desk = Desk::new(2, 2, 1);
-    desk.sends(1, 1, 1, 1);
-    desk.sends(3, 1, 1, 1);
-    desk.sends(4, 1, 1, 0);
+    desk.sends(REQUEST, 1, 1, 1);
+    desk.sends(TO_ITEM, 1, 1, 1);
+    desk.sends(TO_SESSION, 1, 1, 0);
 
     // A release sends grant, probe and resend: three in place of one.
     let release = |capacity| {
@@ -221,41 +260,41 @@ fn full_mail_takes_a_delivery_that_sends_at_most_one() {
                 queue: vec![2, 1],
             };
         });
-        desk.sends(2, 3, 1, 1);
+        desk.sends(RELEASE, 3, 1, 1);
         desk
     };
-    release(2).refuses(3, 3, 1, 9);
-    release(3).sends(3, 3, 1, 3);
+    release(2).refuses(TO_ITEM, 3, 1, Refusal::MailFull);
+    release(3).sends(TO_ITEM, 3, 1, 3);
 }
 
 #[test]
 fn largest_numbers() {
     let mut desk = Desk::new(64, 64, 4096);
-    desk.sends(1, 64, 64, 1);
-    desk.sends(3, 64, 64, 1);
-    desk.sends(4, 64, 64, 0);
+    desk.sends(REQUEST, 64, 64, 1);
+    desk.sends(TO_ITEM, 64, 64, 1);
+    desk.sends(TO_SESSION, 64, 64, 0);
     let table = Table::decode(&desk.table).unwrap();
     assert_eq!(table.sessions[63].held, 1 << 63);
     assert_eq!(table.items[63].holder, 64);
-    desk.refuses(1, 1, 65, 5);
-    desk.refuses(1, 65, 1, 5);
-    desk.sends(2, 64, 64, 1);
+    desk.refuses(REQUEST, 1, 65, Refusal::BadNumber);
+    desk.refuses(REQUEST, 65, 1, Refusal::BadNumber);
+    desk.sends(RELEASE, 64, 64, 1);
 }
 
 #[test]
 fn refusal_1_verb() {
     let mut desk = Desk::new(2, 2, 1);
     for verb in [0, 5, 255, 256 + 1, (1 << 32) + 1, u64::MAX] {
-        desk.refuses(verb, 1, 1, 1);
-        desk.refuses(verb, 0, 0, 1);
+        desk.refuses(verb, 1, 1, Refusal::BadVerb);
+        desk.refuses(verb, 0, 0, Refusal::BadVerb);
     }
     // First of all, even on empty buffers.
     let mut nothing = Desk {
         table: Vec::new(),
         mail: Vec::new(),
     };
-    nothing.refuses(0, 1, 1, 1);
-    nothing.refuses(1, 1, 1, 2);
+    nothing.refuses(0, 1, 1, Refusal::BadVerb);
+    nothing.refuses(REQUEST, 1, 1, Refusal::BadSize);
 }
 
 #[test]
@@ -267,90 +306,93 @@ fn refusal_2_sizes() {
         desk
     };
     let changes: [&dyn Fn(&mut Desk); 13] = [
-        &|d| d.table[0] = 0,
-        &|d| d.table[0] = 3,
-        &|d| d.table[0] = 65,
-        &|d| d.table[1] = 0,
-        &|d| d.table[1] = 65,
-        &|d| d.table.truncate(1),
+        &|d| d.table[TABLE_SESSIONS] = 0,
+        &|d| d.table[TABLE_SESSIONS] = 3,
+        &|d| d.table[TABLE_SESSIONS] = MAX_SESSIONS as u8 + 1,
+        &|d| d.table[TABLE_ITEMS] = 0,
+        &|d| d.table[TABLE_ITEMS] = MAX_ITEMS as u8 + 1,
+        &|d| d.table.truncate(TABLE_HEADER - 1),
         &|d| d.table.push(0),
-        &|d| d.mail[0] = 0,
-        &|d| d.mail[0] = 4,
-        &|d| d.mail[1] = 1,
-        &|d| d.mail.truncate(3),
+        &|d| d.mail[MAIL_CAPACITY][0] = 0,
+        &|d| d.mail[MAIL_CAPACITY][0] = 4,
+        &|d| d.mail[MAIL_CAPACITY][1] = 1,
+        &|d| d.mail.truncate(MAIL_HEADER - 1),
         &|d| d.mail.push(0),
         // A mail of the wrong length comes before a malformed table.
         &|d| {
-            d.table[2] = 0;
+            d.table[session_at(1)][STAGE] = 0;
             d.mail.push(0);
         },
     ];
     for change in changes {
-        with(change).refuses(1, 1, 1, 2);
-        with(change).refuses(3, 0, 0, 2);
+        with(change).refuses(REQUEST, 1, 1, Refusal::BadSize);
+        with(change).refuses(TO_ITEM, 0, 0, Refusal::BadSize);
     }
     let mut huge = good.clone();
-    huge.mail = vec![0; mail_length(4097)];
-    huge.mail[..2].copy_from_slice(&4097u16.to_le_bytes());
-    huge.refuses(1, 1, 1, 2);
+    huge.mail = vec![0; mail_length(MAX_CAPACITY + 1)];
+    write_u16(&mut huge.mail[MAIL_CAPACITY], MAX_CAPACITY + 1);
+    huge.refuses(REQUEST, 1, 1, Refusal::BadSize);
 }
 
 #[test]
 fn refusal_3_table() {
     let good = Desk::new(3, 3, 3);
-    let (session, item) = (2 + 74, 2 + 74 * 3 + 66);
+    let (session, item) = (session_at(2).start, item_at(3, 2).start);
+    let (stage, awaited) = (session + STAGE, session + AWAITED);
+    let (held, juniors) = (session + HELD.start, session + JUNIORS.start);
+    let (holder, length) = (item + HOLDER, item + QUEUE_LENGTH);
+    let queue = item + QUEUE.start;
     let bad: [&[(usize, u8)]; 17] = [
-        &[(session, 0)],                                // no stage
-        &[(session, 7)],                                // no stage
-        &[(session, 2)],                                // waiting for nothing
-        &[(session, 4), (session + 1, 4)],              // beyond M
-        &[(session, 5)],                                // withdrawing from nothing
-        &[(session + 1, 1)],                            // growing, yet awaits
-        &[(session, 6), (session + 1, 1)],              // rolled back, yet awaits
-        &[(session + 2, 8)],                            // holds item 4
-        &[(session + 9, 128)],                          // holds item 64
-        &[(session + 10, 4)],                           // junior beyond S
-        &[(session + 10 + 3, 1)],                       // initiator beyond S
-        &[(item, 4)],                                   // holder beyond S
-        &[(item + 1, 1)],                               // session 0 in the queue
-        &[(item + 1, 1), (item + 2, 4)],                // beyond S in the queue
-        &[(item + 1, 2), (item + 2, 1), (item + 3, 1)], // twice in the queue
-        &[(item, 1), (item + 1, 1), (item + 2, 1)],     // holder in the queue
-        &[(item + 2, 1)],                               // behind the queue
+        &[(stage, 0)],                              // no stage
+        &[(stage, 7)],                              // no stage
+        &[(stage, 2)],                              // waiting for nothing
+        &[(stage, 4), (awaited, 4)],                // beyond M
+        &[(stage, 5)],                              // withdrawing from nothing
+        &[(awaited, 1)],                            // growing, yet awaits
+        &[(stage, 6), (awaited, 1)],                // rolled back, yet awaits
+        &[(held, 8)],                               // holds item 4
+        &[(held + 7, 128)],                         // holds item 64
+        &[(juniors, 4)],                            // junior beyond S
+        &[(juniors + 3, 1)],                        // initiator beyond S
+        &[(holder, 4)],                             // holder beyond S
+        &[(length, 1)],                             // session 0 in the queue
+        &[(length, 1), (queue, 4)],                 // beyond S in the queue
+        &[(length, 2), (queue, 1), (queue + 1, 1)], // twice in the queue
+        &[(holder, 1), (length, 1), (queue, 1)],    // holder in the queue
+        &[(queue, 1)],                              // behind the queue
     ];
     for bytes in bad {
         let mut desk = good.clone();
         for &(place, byte) in bytes {
             desk.table[place] = byte;
         }
-        desk.refuses(1, 1, 1, 3);
+        desk.refuses(REQUEST, 1, 1, Refusal::BadTable);
         // Before malformed mail and a number out of range.
-        desk.mail[2] = 9;
-        desk.refuses(4, 0, 99, 3);
+        desk.mail[MAIL_COUNT][0] = 9;
+        desk.refuses(TO_SESSION, 0, 99, Refusal::BadTable);
         assert_eq!(
             report(0, &desk.table),
             Cycle {
-                refusal: 3,
+                refusal: Refusal::BadTable as u8,
                 length: 0
             }
         );
     }
-    for length in [65, 255] {
+    for sessions in [MAX_SESSIONS as u8 + 1, 255] {
         let mut desk = good.clone();
-        desk.table[item + 1] = length;
-        desk.refuses(1, 1, 1, 3);
+        desk.table[length] = sessions;
+        desk.refuses(REQUEST, 1, 1, Refusal::BadTable);
     }
 }
 
 #[test]
 fn refusal_4_mail() {
-    // Three places: routes at 4, 7, 10 and bodies at 13, 16, 19.
     let good = Desk::new(3, 2, 3);
-    let message = |route: [u8; 3], body: [u8; 3]| {
+    let message = |route: [u8; ROUTE_SIZE], body: [u8; BODY_SIZE]| {
         let mut desk = good.clone();
-        desk.mail[2] = 1;
-        desk.mail[4..7].copy_from_slice(&route);
-        desk.mail[13..16].copy_from_slice(&body);
+        desk.mail[MAIL_COUNT][0] = 1;
+        desk.mail[route_at(0)].copy_from_slice(&route);
+        desk.mail[body_at(3, 0)].copy_from_slice(&body);
         desk
     };
     for kind in 0..=11 {
@@ -361,12 +403,16 @@ fn refusal_4_mail() {
                 _ => false,
             };
             let body = match kind {
-                3 | 4 | 9 => [kind, 2, 1],
+                kind::PROBE | kind::CLEAN | kind::ABORT => [kind, 2, 1],
                 _ => [kind, 0, 0],
             };
             let mut desk = message([direction, 2, 1], body);
-            let expected = if carried { 5 } else { 4 };
-            desk.refuses(1, 0, 1, expected);
+            let expected = if carried {
+                Refusal::BadNumber
+            } else {
+                Refusal::BadMail
+            };
+            desk.refuses(REQUEST, 0, 1, expected);
         }
     }
     let bad = [
@@ -384,19 +430,19 @@ fn refusal_4_mail() {
         ([2, 1, 1], [9, 2, 1]), // an abort addresses its victim
     ];
     for (route, body) in bad {
-        message(route, body).refuses(1, 1, 1, 4);
+        message(route, body).refuses(REQUEST, 1, 1, Refusal::BadMail);
         // Before a number out of range.
-        message(route, body).refuses(1, 0, 1, 4);
+        message(route, body).refuses(REQUEST, 0, 1, Refusal::BadMail);
     }
     let mut counted = good.clone();
-    counted.mail[2] = 4;
-    counted.refuses(1, 1, 1, 4);
-    counted.mail[2..4].copy_from_slice(&[0, 1]);
-    counted.refuses(1, 1, 1, 4);
-    for unused in 4..good.mail.len() {
+    counted.mail[MAIL_COUNT][0] = 4;
+    counted.refuses(REQUEST, 1, 1, Refusal::BadMail);
+    counted.mail[MAIL_COUNT].copy_from_slice(&[0, 1]);
+    counted.refuses(REQUEST, 1, 1, Refusal::BadMail);
+    for unused in MAIL_HEADER..good.mail.len() {
         let mut desk = good.clone();
         desk.mail[unused] = 1;
-        desk.refuses(1, 1, 1, 4);
+        desk.refuses(REQUEST, 1, 1, Refusal::BadMail);
     }
 }
 
@@ -405,10 +451,10 @@ fn refusal_5_numbers() {
     let mut desk = Desk::new(2, 3, 1);
     for verb in 1..=4 {
         for (session, item) in [(0, 1), (3, 1), (1, 0), (1, 4), (0, 0), (257, 1), (1, 257)] {
-            desk.refuses(verb, session, item, 5);
+            desk.refuses(verb, session, item, Refusal::BadNumber);
         }
-        desk.refuses(verb, (1 << 32) + 1, 1, 5);
-        desk.refuses(verb, 1, u64::MAX, 5);
+        desk.refuses(verb, (1 << 32) + 1, 1, Refusal::BadNumber);
+        desk.refuses(verb, 1, u64::MAX, Refusal::BadNumber);
     }
 }
 
@@ -433,39 +479,44 @@ fn refusals_6_and_7_stage_and_mask() {
         Stage::RolledBack,
     ] {
         for held in 0..=3 {
-            at(stage, held).refuses(1, 1, 1, 6);
-            at(stage, held).refuses(2, 1, 1, 6);
+            at(stage, held).refuses(REQUEST, 1, 1, Refusal::WrongStage);
+            at(stage, held).refuses(RELEASE, 1, 1, Refusal::WrongStage);
         }
     }
-    at(Stage::Shrinking, 0).refuses(1, 1, 1, 6);
-    at(Stage::Shrinking, 1).refuses(1, 1, 1, 6); // 6 before 7
-    at(Stage::Shrinking, 1).sends(2, 1, 1, 1);
-    at(Stage::Shrinking, 2).refuses(2, 1, 1, 7);
-    at(Stage::Growing, 1).refuses(1, 1, 1, 7);
-    at(Stage::Growing, 2).refuses(2, 1, 1, 7);
-    at(Stage::Growing, 1).sends(2, 1, 1, 1);
+    at(Stage::Shrinking, 0).refuses(REQUEST, 1, 1, Refusal::WrongStage);
+    at(Stage::Shrinking, 1).refuses(REQUEST, 1, 1, Refusal::WrongStage); // 6 before 7
+    at(Stage::Shrinking, 1).sends(RELEASE, 1, 1, 1);
+    at(Stage::Shrinking, 2).refuses(RELEASE, 1, 1, Refusal::WrongItem);
+    at(Stage::Growing, 1).refuses(REQUEST, 1, 1, Refusal::WrongItem);
+    at(Stage::Growing, 2).refuses(RELEASE, 1, 1, Refusal::WrongItem);
+    at(Stage::Growing, 1).sends(RELEASE, 1, 1, 1);
 
     // 6 and 7 before 9.
     let mut full = good.forged(|table| table.sessions[0].held = 1);
-    full.sends(1, 2, 2, 1);
-    full.refuses(1, 2, 1, 6);
-    full.refuses(1, 1, 1, 7);
-    full.refuses(2, 1, 2, 7);
-    full.refuses(1, 1, 2, 9);
-    full.refuses(2, 1, 1, 9);
+    full.sends(REQUEST, 2, 2, 1);
+    full.refuses(REQUEST, 2, 1, Refusal::WrongStage);
+    full.refuses(REQUEST, 1, 1, Refusal::WrongItem);
+    full.refuses(RELEASE, 1, 2, Refusal::WrongItem);
+    full.refuses(REQUEST, 1, 2, Refusal::MailFull);
+    full.refuses(RELEASE, 1, 1, Refusal::MailFull);
 }
 
 #[test]
 fn refusal_8_no_message() {
     let mut desk = Desk::new(2, 2, 1);
-    desk.refuses(3, 1, 1, 8);
-    desk.refuses(4, 1, 1, 8);
-    desk.sends(1, 1, 1, 1);
+    desk.refuses(TO_ITEM, 1, 1, Refusal::NoMessage);
+    desk.refuses(TO_SESSION, 1, 1, Refusal::NoMessage);
+    desk.sends(REQUEST, 1, 1, 1);
     // Only that route, and before a full mail.
-    for (verb, session, item) in [(4, 1, 1), (3, 1, 2), (3, 2, 1), (4, 2, 2)] {
-        desk.refuses(verb, session, item, 8);
+    for (verb, session, item) in [
+        (TO_SESSION, 1, 1),
+        (TO_ITEM, 1, 2),
+        (TO_ITEM, 2, 1),
+        (TO_SESSION, 2, 2),
+    ] {
+        desk.refuses(verb, session, item, Refusal::NoMessage);
     }
-    desk.sends(3, 1, 1, 1);
+    desk.sends(TO_ITEM, 1, 1, 1);
 }
 
 #[test]
@@ -485,7 +536,7 @@ fn delivery_takes_the_earliest_of_a_route() {
         message(route(1, 1), Body::Rebroadcast),
     ];
     mailbox.encode(&mut desk.mail);
-    desk.sends(3, 1, 1, 1);
+    desk.sends(TO_ITEM, 1, 1, 1);
     let after = Mailbox::decode(&desk.mail, 2, 2).unwrap();
     let granted = Route {
         direction: Direction::ToSession,
@@ -510,23 +561,29 @@ fn report_reads_the_table_alone() {
             *item = Item { holder, queue };
         }
     });
-    let accepted = |length| Cycle { refusal: 0, length };
-    let refused = |refusal| Cycle { refusal, length: 0 };
+    let accepted = |length| Cycle {
+        refusal: ACCEPTED,
+        length,
+    };
+    let refused = |refusal: Refusal| Cycle {
+        refusal: refusal as u8,
+        length: 0,
+    };
     let lengths = [2, 2, 0, 0];
     for (session, length) in (1..).zip(lengths) {
         assert_eq!(report(session, &desk.table), accepted(length));
     }
     for session in [0, 5, 257, u64::MAX] {
-        assert_eq!(report(session, &desk.table), refused(5));
+        assert_eq!(report(session, &desk.table), refused(Refusal::BadNumber));
     }
     let mut bad = desk.table.clone();
-    bad[2] = 0;
-    assert_eq!(report(1, &bad), refused(3));
-    assert_eq!(report(0, &bad), refused(3));
+    bad[session_at(1)][STAGE] = 0;
+    assert_eq!(report(1, &bad), refused(Refusal::BadTable));
+    assert_eq!(report(0, &bad), refused(Refusal::BadTable));
     bad.push(0);
-    assert_eq!(report(0, &bad), refused(2));
-    assert_eq!(report(1, &[]), refused(2));
-    assert_eq!(report(1, &[1]), refused(2));
+    assert_eq!(report(0, &bad), refused(Refusal::BadSize));
+    assert_eq!(report(1, &[]), refused(Refusal::BadSize));
+    assert_eq!(report(1, &[1]), refused(Refusal::BadSize));
 }
 
 #[test]

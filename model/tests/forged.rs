@@ -2,13 +2,15 @@
 //! letter.
 
 use model::item::Item;
-use model::layout::{mail_length, table_length};
+use model::layout::{
+    body_at, mail_length, route_at, table_length, MAIL_COUNT, MAX_SESSIONS, TABLE_HEADER,
+};
 use model::mailbox::{Body, Direction, Mailbox, Message, Route};
 use model::scenario::Random;
 use model::session::{Session, Stage};
 use model::table::Table;
 use model::waits::{cycle_members, standing_cycles, waits_for};
-use model::{report, start, step, Misreading};
+use model::{report, start, step, Config, Misreading, Refusal, Verb};
 
 fn item(holder: u8, queue: &[u8]) -> Item {
     Item {
@@ -260,7 +262,7 @@ fn session_abort() {
     session_drops_but(&[Stage::Waiting], 5, abort);
     let aborted = |s: &mut Session| {
         s.stage = Stage::Cleaning;
-        s.juniors = [0; 64];
+        s.juniors = [0; MAX_SESSIONS];
     };
     session_does(session(Stage::Waiting, 2), 5, abort, aborted, &[(2, CLEAN)]);
 }
@@ -274,7 +276,7 @@ fn session_clean() {
     let both = [Stage::Growing, Stage::Waiting];
     session_drops_but(&[both[0], both[1], Stage::Cleaning], 5, CLEAN);
     session_drops_but(&both, 5, other);
-    let cleared = |s: &mut Session| s.juniors = [0; 64];
+    let cleared = |s: &mut Session| s.juniors = [0; MAX_SESSIONS];
     for body in [CLEAN, other] {
         let growing = session(Stage::Growing, 0);
         let from_1 = [(3, Body::Rebroadcast), (64, Body::Rebroadcast)];
@@ -348,7 +350,8 @@ fn closed_comes_from_joining_a_queue() {
         mailbox.messages.push(Message { route, body });
         let mut mail = vec![0; mail_length(4)];
         mailbox.encode(&mut mail);
-        (step(3, 2, 1, &mut table, &mut mail), table)
+        let verb = Verb::DeliverToItem as u64;
+        (step(verb, 2, 1, &mut table, &mut mail), table)
     };
     let (answer, table) = build(&[], Body::Request);
     assert_eq!((answer.closed, answer.sent), (1, 0));
@@ -373,22 +376,17 @@ fn decoding_keeps_every_byte() {
         let capacity = random.between(1, 4) as usize;
         let mut table = vec![0; table_length(sessions, items)];
         let mut mail = vec![0; mail_length(capacity)];
-        start(
-            sessions as u64,
-            items as u64,
-            capacity as u64,
-            &mut table,
-            &mut mail,
-        );
+        let config = Config::new(sessions as u64, items as u64, capacity as u64);
+        start(config, &mut table, &mut mail);
         // A few bytes behind the sizes and the capacity.
         for _ in 0..random.between(0, 4) {
-            let place = random.between(2, table.len() as u64 - 1) as usize;
+            let place = random.between(TABLE_HEADER as u64, table.len() as u64 - 1) as usize;
             table[place] = random.between(0, 6) as u8;
         }
         let used = random.between(0, capacity as u64) as usize;
-        mail[2] = used as u8;
+        mail[MAIL_COUNT][0] = used as u8;
         for place in 0..used {
-            let route = [
+            let route: [u64; 3] = [
                 random.between(1, 2),
                 random.between(1, 4),
                 random.between(1, 4),
@@ -397,26 +395,24 @@ fn decoding_keeps_every_byte() {
                 kind @ (3 | 4 | 9) => [kind, random.between(1, 4), random.between(1, 4)],
                 kind => [kind, 0, 0],
             };
-            for k in 0..3 {
-                mail[4 + 3 * place + k] = route[k] as u8;
-                mail[4 + 3 * (capacity + place) + k] = body[k] as u8;
-            }
+            mail[route_at(place)].copy_from_slice(&route.map(|byte| byte as u8));
+            mail[body_at(capacity, place)].copy_from_slice(&body.map(|byte| byte as u8));
         }
         let records = Table::decode(&table);
         let mailbox = Mailbox::decode(&mail, sessions, items);
         // Session 0 is refused with 5 if nothing comes before it.
-        let refusal = step(1, 0, 1, &mut table, &mut mail).refusal;
+        let refusal = step(Verb::Request as u64, 0, 1, &mut table, &mut mail).refusal;
         match (records, mailbox) {
             (None, _) => {
-                assert_eq!(refusal, 3);
+                assert_eq!(refusal, Refusal::BadTable as u8);
                 table_bad += 1;
             }
             (_, None) => {
-                assert_eq!(refusal, 4);
+                assert_eq!(refusal, Refusal::BadMail as u8);
                 mail_bad += 1;
             }
             (Some(records), Some(mailbox)) => {
-                assert_eq!(refusal, 5);
+                assert_eq!(refusal, Refusal::BadNumber as u8);
                 let mut bytes = vec![0xA5; table.len()];
                 bytes[..2].copy_from_slice(&table[..2]);
                 records.encode(&mut bytes);

@@ -4,8 +4,16 @@
 
 use compare::calls::{Calls, Fast, Library, Model};
 use compare::comparison::Buffers;
-use compare::forge::{well_formed, Shape};
+use compare::forge::well_formed;
+use compare::numbers::{
+    kind, DELIVER_TO_ITEM, DELIVER_TO_SESSION, GROWING, RELEASE, REQUEST, TO_ITEM, TO_SESSION,
+    WAITING,
+};
+use model::layout::{
+    route_at, AWAITED, HELD, HOLDER, JUNIORS, QUEUE, QUEUE_LENGTH, ROUTE_ITEM, STAGE,
+};
 use model::scenario::Random;
+use model::Config;
 use std::hint::black_box;
 use std::time::Instant;
 
@@ -14,6 +22,8 @@ const TURNS: usize = 301;
 
 /// Buffers that are measured together, at most this many bytes.
 const TOGETHER: usize = 24 * 1024;
+
+const LARGEST: Config = Config::LARGEST;
 
 /// Targets for library / floor, library / model, library / fast.
 const FLOOR_FEW_MESSAGES: f64 = 3.0;
@@ -48,83 +58,78 @@ enum Table {
 
 /// S = M = n. Session k holds item k. Session 1 is growing; session n waits
 /// for item 1, its request is still in the mail.
-fn table(n: usize, contents: Table) -> Vec<u8> {
-    let mut table = vec![0; 2 + 74 * n + 66 * n];
-    table[0] = n as u8;
-    table[1] = n as u8;
-    let (sessions, items) = table[2..].split_at_mut(74 * n);
-    for (session, record) in (1..).zip(sessions.chunks_mut(74)) {
+fn fill_table(buffers: &mut Buffers, n: usize, contents: Table) {
+    for session in 1..=n {
+        let record = buffers.session_mut(session);
         let waits_for = match contents {
             Table::Light if session == n => 1,
             Table::Light if session > n / 2 => session - n / 2,
             Table::Light => 0,
             Table::Full if session == 1 => 0,
-            Table::Full => session % n + 1,
-            Table::Cycle => session % n + 1,
+            Table::Full | Table::Cycle => session % n + 1,
         };
-        record[0] = if waits_for == 0 { 1 } else { 2 };
-        record[1] = waits_for as u8;
-        record[2..10].copy_from_slice(&(1u64 << (session - 1)).to_le_bytes());
+        record.fill(0);
+        record[STAGE] = if waits_for == 0 { GROWING } else { WAITING };
+        record[AWAITED] = waits_for as u8;
+        record[HELD].copy_from_slice(&(1u64 << (session - 1)).to_le_bytes());
+        let juniors = &mut record[JUNIORS];
         match contents {
-            Table::Full if session != 1 => record[10..10 + n].fill(n as u8 - 1),
-            Table::Light if session > n / 2 => record[10] = (n - 1) as u8,
+            Table::Full if session != 1 => juniors[..n].fill(n as u8 - 1),
+            Table::Light if session > n / 2 => juniors[0] = (n - 1) as u8,
             _ => {}
         }
         if session == n {
-            record[10] = 0;
+            juniors[0] = 0;
         }
     }
-    for (item, record) in (1..).zip(items.chunks_mut(66)) {
+    for item in 1..=n {
         let waiting: Vec<usize> = match contents {
             Table::Light => [item + n / 2].into_iter().filter(|&w| w < n).collect(),
             Table::Full => (1..n).filter(|&w| w != item).collect(),
             Table::Cycle => vec![(item + n - 2) % n + 1],
         };
-        record[0] = item as u8;
-        record[1] = waiting.len() as u8;
-        for (place, waiting) in record[2..].iter_mut().zip(waiting) {
+        let record = buffers.item_mut(item);
+        record.fill(0);
+        record[HOLDER] = item as u8;
+        record[QUEUE_LENGTH] = waiting.len() as u8;
+        for (place, waiting) in record[QUEUE].iter_mut().zip(waiting) {
             *place = waiting as u8;
         }
     }
-    table
 }
 
-/// Mail with so many messages. In its middle stand the request of session n to
-/// item 1 and a probe (1, n) from item 2 to session n, alone on their routes.
-fn mail(shape: Shape, count: u64) -> Vec<u8> {
-    let n = shape.sessions as u8;
-    let mut mail = well_formed(&mut Random::new(7), shape, count).mail;
-    let bodies = 3 * shape.capacity as usize;
-    let (request, probe) = ([1, n, 1], [2, n, 2]);
-    let entries = count as usize;
-    for place in 0..entries {
-        let route = &mut mail[4 + 3 * place..][..3];
+/// Buffers with so many messages. In the middle of the mail stand the request
+/// of session n to item 1 and a probe (1, n) from item 2 to session n, alone on
+/// their routes.
+fn buffers(config: Config, count: u64, contents: Table) -> Buffers {
+    let n = config.sessions as u8;
+    let mut buffers = well_formed(&mut Random::new(7), config, count);
+    fill_table(&mut buffers, n.into(), contents);
+    let (request, probe) = ([TO_ITEM, n, 1], [TO_SESSION, n, 2]);
+    for place in 0..count as usize {
+        let route = &mut buffers.mail[route_at(place)];
         if route == request || route == probe {
-            route[2] = 3;
+            route[ROUTE_ITEM] = 3;
         }
     }
-    if entries >= 2 {
-        let place = 4 + 3 * (entries / 2 - 1);
-        mail[place..place + 3].copy_from_slice(&request);
-        mail[place + 3..place + 6].copy_from_slice(&probe);
-        mail[place + bodies..place + bodies + 6].copy_from_slice(&[1, 0, 0, 3, 1, n]);
+    if count >= 2 {
+        let place = count as usize / 2 - 1;
+        buffers.set_message(place, request, [kind::REQUEST, 0, 0]);
+        buffers.set_message(place + 1, probe, [kind::PROBE, 1, n]);
     }
-    mail
+    buffers
 }
 
-fn rows(shape: Shape, count: u64) -> Vec<Row> {
-    let n = shape.sessions;
-    let full = count == shape.capacity;
+fn rows(config: Config, count: u64) -> Vec<Row> {
+    let n = config.sessions;
+    let full = count == config.capacity;
     let contents = if full { Table::Full } else { Table::Light };
-    let buffers = Buffers {
-        table: table(n as usize, contents),
-        mail: mail(shape, count),
-    };
+    let filled = buffers(config, count, contents);
     let floor_target = if full {
         Some(FLOOR_FULL)
     } else if n == 8 {
         Some(FLOOR_SMALL)
-    } else if n == 64 && count <= 64 {
+    } else if n == LARGEST.sessions && count <= 64 {
         Some(FLOOR_FEW_MESSAGES)
     } else {
         None
@@ -133,21 +138,21 @@ fn rows(shape: Shape, count: u64) -> Vec<Row> {
     let row = |name, call| Row {
         name,
         call,
-        buffers: buffers.clone(),
+        buffers: filled.clone(),
         floor_target: floor_target.filter(|_| matches!(call, Call::Step(..))),
     };
     vec![
-        row("request", Call::Step(1, 1, 3)),
-        row("release", Call::Step(2, 1, 1)),
-        row("deliver to item", Call::Step(3, n, 1)),
-        row("deliver to session", Call::Step(4, n, 2)),
+        row("request", Call::Step(REQUEST, 1, 3)),
+        row("release", Call::Step(RELEASE, 1, 1)),
+        row("deliver to item", Call::Step(DELIVER_TO_ITEM, n, 1)),
+        row("deliver to session", Call::Step(DELIVER_TO_SESSION, n, 2)),
         row("report", Call::Report(1)),
         Row {
             name: "report, cycle of S",
             call: Call::Report(1),
             buffers: Buffers {
-                table: table(n as usize, Table::Cycle),
                 mail: Vec::new(),
+                ..buffers(config, 0, Table::Cycle)
             },
             floor_target: None,
         },
@@ -260,13 +265,10 @@ fn main() {
     println!("With a full mail the table is full too: longest queues, every probe stored.");
 
     let mut missed = 0;
-    for (n, capacity) in [(8, 64), (16, 256), (64, 4096)] {
-        let shape = Shape {
-            sessions: n,
-            items: n,
-            capacity,
-        };
-        let bytes = shape.table_length() + shape.mail_length();
+    let largest = (LARGEST.sessions, LARGEST.capacity);
+    for (n, capacity) in [(8, 64), (16, 256), largest] {
+        let config = Config::new(n, n, capacity);
+        let bytes = config.table_length() + config.mail_length();
         println!("\nS = M = {n}, C = {capacity}: {bytes} bytes");
         println!(
             "{:>6}  {:20}{:>8}{:>10}{:>10}{:>10}{:>10}  {:>7}{:13}{:>7}{:13}{:>7}",
@@ -284,11 +286,11 @@ fn main() {
             "/fast",
         );
         let mut counts = vec![0, capacity / 8, capacity];
-        if n == 64 {
+        if n == LARGEST.sessions {
             counts.insert(1, 64);
         }
         for count in counts {
-            for row in rows(shape, count) {
+            for row in rows(config, count) {
                 let refused = refusal(&Library, row.call, &mut row.buffers.clone());
                 let [library, model, floor, fast] = measure(&row);
                 println!(

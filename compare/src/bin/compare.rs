@@ -15,7 +15,7 @@ const CALLS_AT_LEAST: u64 = 1_000_000;
 
 fn compare(comparison: &mut Comparison) -> Result<(), String> {
     for seed in 1..=ROUNDS {
-        let repeat = format!("(make fuzz SEED={seed} SECONDS=0 repeats it)");
+        let repeat = format!("(make fuzz SEED={seed} FUZZ_SECONDS=0 repeats it)");
         round(comparison, seed).map_err(|reason| format!("round {seed}: {reason}\n{repeat}"))?;
     }
     every_value(comparison).map_err(|reason| format!("every value: {reason}"))?;

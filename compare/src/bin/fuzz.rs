@@ -32,7 +32,7 @@ fn main() -> ExitCode {
         if let Err(reason) = round(&mut comparison, seed) {
             println!("{}", comparison.coverage);
             println!("FAILED: round {seed}: {reason}");
-            println!("(make fuzz SEED={seed} SECONDS=0 repeats it)");
+            println!("(make fuzz SEED={seed} FUZZ_SECONDS=0 repeats it)");
             return ExitCode::FAILURE;
         }
         seed = seed.wrapping_add(1);

@@ -3,18 +3,35 @@
 //! differ or if something was not reached. `replays PROGRAM bench` times the
 //! longest input instead.
 
-use model::layout::{mail_length, table_length, MOST_CAPACITY};
+use model::layout::{MAX_CAPACITY, MAX_ITEMS, MAX_SESSIONS};
 use model::mailbox::{count, Direction, Mailbox};
+use model::replay::{CAPACITY, MAX_STEPS};
 use model::scenario::Random;
 use model::session::Stage;
 use model::table::Table;
+use model::{Config, Refusal, Verb, ACCEPTED};
 use std::env;
 use std::io::Write;
 use std::process::{Command, ExitCode, Stdio};
 use std::time::{Duration, Instant};
 
 const RUNS: u64 = 520;
-const MOST_STEPS: usize = 4096;
+
+/// Verbs as bytes of the input.
+const REQUEST: u8 = Verb::Request as u8;
+const RELEASE: u8 = Verb::Release as u8;
+const TO_ITEM: u8 = Verb::DeliverToItem as u8;
+const TO_SESSION: u8 = Verb::DeliverToSession as u8;
+
+/// The refusals that a replay can meet.
+const CAUSES: [Refusal; 6] = [
+    Refusal::BadVerb,
+    Refusal::BadNumber,
+    Refusal::WrongStage,
+    Refusal::WrongItem,
+    Refusal::NoMessage,
+    Refusal::MailFull,
+];
 
 /// A replay under construction: the model runs along, so that the next step can
 /// be chosen by what stands in the mail.
@@ -32,10 +49,10 @@ struct Recorder {
 
 impl Recorder {
     fn new(sessions: usize, items: usize) -> Recorder {
-        let mut table = vec![0; table_length(sessions, items)];
-        let mut mail = vec![0; mail_length(MOST_CAPACITY)];
-        let (s, m, c) = (sessions as u64, items as u64, MOST_CAPACITY as u64);
-        assert_eq!(model::start(s, m, c, &mut table, &mut mail), 0);
+        let config = Config::new(sessions as u64, items as u64, CAPACITY as u64);
+        let mut table = vec![0; config.table_length()];
+        let mut mail = vec![0; config.mail_length()];
+        assert_eq!(model::start(config, &mut table, &mut mail), ACCEPTED);
         Recorder {
             sessions,
             items,
@@ -50,7 +67,7 @@ impl Recorder {
     }
 
     fn full(&self) -> bool {
-        self.steps.len() == MOST_STEPS
+        self.steps.len() == MAX_STEPS
     }
 
     fn step(&mut self, verb: u8, session: u8, item: u8) -> u8 {
@@ -82,8 +99,8 @@ impl Recorder {
         let last = mailbox.messages.len().checked_sub(1)?;
         let route = mailbox.messages[random.between(0, last as u64) as usize].route;
         let verb = match route.direction {
-            Direction::ToItem => 3,
-            Direction::ToSession => 4,
+            Direction::ToItem => TO_ITEM,
+            Direction::ToSession => TO_SESSION,
         };
         Some([verb, route.session, route.item])
     }
@@ -96,10 +113,13 @@ impl Recorder {
             let any = |random: &mut Random| random.bits() as u8;
             let [verb, session, item] = match random.between(1, 20) {
                 1 => [any(random) % 6, any(random), any(random)],
-                2 => [random.between(1, 4) as u8, session, item],
-                3 => [2, session, item],
-                4..=8 => [1, session, item],
-                _ => self.delivery(random).unwrap_or([1, session, item]),
+                2 => {
+                    let verb = random.between(REQUEST.into(), TO_SESSION.into());
+                    [verb as u8, session, item]
+                }
+                3 => [RELEASE, session, item],
+                4..=8 => [REQUEST, session, item],
+                _ => self.delivery(random).unwrap_or([REQUEST, session, item]),
             };
             self.step(verb, session, item);
         }
@@ -111,19 +131,19 @@ impl Recorder {
     fn crowd(&mut self) {
         let (holder, items) = (self.sessions as u8, self.items as u8);
         for session in (1..=holder).rev() {
-            self.step(1, session, 1);
-            self.step(3, session, 1);
+            self.step(REQUEST, session, 1);
+            self.step(TO_ITEM, session, 1);
         }
-        while self.step(4, holder, 1) == 0 {}
+        while self.step(TO_SESSION, holder, 1) == ACCEPTED {}
         for item in 2..=items {
-            self.step(1, holder, item);
-            self.step(3, holder, item);
-            self.step(4, holder, item);
+            self.step(REQUEST, holder, item);
+            self.step(TO_ITEM, holder, item);
+            self.step(TO_SESSION, holder, item);
         }
-        self.step(2, holder, 1);
-        self.step(3, holder, 1);
+        self.step(RELEASE, holder, 1);
+        self.step(TO_ITEM, holder, 1);
         for item in 2..=items {
-            self.step(2, holder, item);
+            self.step(RELEASE, holder, item);
         }
     }
 
@@ -165,12 +185,12 @@ fn median(mut run: impl FnMut()) -> Duration {
     times[times.len() / 2]
 }
 
-/// A run of 4,096 steps at S = M = 64: the program, started anew each time, and
+/// The longest run at the greatest numbers: the program, started anew each time, and
 /// the model in this process.
 fn bench(program: &str, input: &[u8]) {
     let ours = median(|| drop(output(program, input).expect("the program runs")));
     let model = median(|| drop(model::replay(input)));
-    println!("replay of 4096 steps, 64 sessions, 64 items: {ours:.1?} (model {model:.1?})");
+    println!("replay of {MAX_STEPS} steps, {MAX_SESSIONS} sessions, {MAX_ITEMS} items: {ours:.1?} (model {model:.1?})");
 }
 
 fn main() -> ExitCode {
@@ -183,9 +203,9 @@ fn main() -> ExitCode {
     let mut refused = [0; 256];
     let (mut closed, mut rolled_back, mut most_left, mut longest) = (0, 0, 0, 0);
     for run in 0..RUNS {
-        let size = if run % 40 == 0 { 64 } else { 8 };
+        let size = if run % 40 == 0 { MAX_SESSIONS } else { 8 } as u64;
         let (sessions, items) = match run {
-            0 | 1 => (64, 64),
+            0 | 1 => (MAX_SESSIONS, MAX_ITEMS),
             2 => (1, 1),
             _ => (
                 random.between(1, size) as usize,
@@ -197,7 +217,7 @@ fn main() -> ExitCode {
             recorder.crowd();
         }
         let steps = match run {
-            0 | 1 => MOST_STEPS,
+            0 | 1 => MAX_STEPS,
             2 => 0,
             _ => random.between(0, 400) as usize,
         };
@@ -219,13 +239,15 @@ fn main() -> ExitCode {
         inputs.push([whole.clone(), vec![0; more]].concat());
     }
     inputs.push([inputs[0].clone(), vec![0]].concat());
-    for (place, byte) in [(0, 0), (0, 65), (1, 0), (1, 65), (3, 16), (3, 255)] {
+    let (sessions, items) = (MAX_SESSIONS as u8 + 1, MAX_ITEMS as u8 + 1);
+    for (place, byte) in [(0, 0), (0, sessions), (1, 0), (1, items), (3, 16), (3, 255)] {
         let mut changed = inputs[2].clone();
         changed[place] = byte;
         inputs.push(changed);
     }
-    let mut over = vec![1, 1, 1, 16];
-    over.resize(4 + 3 * 4097, 0);
+    let mut over = vec![1, 1];
+    over.extend((MAX_STEPS as u16 + 1).to_le_bytes());
+    over.resize(over.len() + 3 * (MAX_STEPS + 1), 0);
     inputs.push(over);
 
     if env::args().nth(2).is_some_and(|word| word == "bench") {
@@ -253,15 +275,15 @@ fn main() -> ExitCode {
         "longest run {longest} steps, most entries in the mail {most_left}, {bad} times `bad`"
     );
     println!("cycles closed {closed}, sessions rolled back {rolled_back}");
-    for cause in [1, 5, 6, 7, 8, 9] {
-        println!("refused with {cause}: {}", refused[cause]);
+    for cause in CAUSES {
+        println!("refused with {cause:?}: {}", refused[cause as usize]);
     }
     println!("slowest input {} ms", slowest.as_millis());
-    let causes = [1, 5, 6, 7, 8, 9].iter().all(|&cause| refused[cause] > 0);
+    let causes = CAUSES.iter().all(|&cause| refused[cause as usize] > 0);
     let reached = closed > 100
         && rolled_back > 50
-        && most_left == MOST_CAPACITY
-        && longest == MOST_STEPS
+        && most_left == MAX_CAPACITY
+        && longest == MAX_STEPS
         && bad > 10;
     if causes && reached {
         ExitCode::SUCCESS
