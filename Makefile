@@ -1,24 +1,39 @@
-# make test     every test, then every proof and every must-fail edit
-# make lib      the library for C: build/lib/liblockmgr.a and build/include/lockmgr.h
-# make demo     two sessions into a deadlock and out again, in C
-# make model    the tests of the Rust model alone
-# make compare  library and model on the same calls, byte for byte
-# make replays  the replay program and the model on the same inputs, byte for byte
-# make replay   shows a list of steps: FILE=examples/two_sessions.steps
-# make ctest    the C test, with sanitizers and guard pages
-# make fuzz     the comparison with new seeds: SECONDS=60, SEED=n to repeat one
-# make bench    times of a call beside model, floor and hand-written Rust
+#   make test          every test, then every proof and every must-fail edit
+#   make demo          two sessions into a deadlock and out again, in C
+#   make replay        tells what happens in a list of steps: FILE=examples/two_sessions.steps;
+#                      STEP=10 DOT=waits.dot also writes the waits after step 10 for Graphviz
+#   make lib           the library for C: build/lib/liblockmgr.a, liblockmgr.so and build/include
+#   make install       header, libraries and pkg-config file: PREFIX=/usr/local DESTDIR=
+#   make model         the tests of the Rust model
+#   make compare       library and model on the same calls, byte for byte
+#   make replays       the replay program and the model on the same inputs, byte for byte
+#   make ctest         the C tests, with sanitizers and guard pages
+#   make workers       the example with threads, also with the thread sanitizer: WORKER_SECONDS=3
+#   make install-test  installs into an empty folder and compiles the examples there
+#   make replay-test   lists of steps, good and bad
+#   make fuzz          the comparison with new seeds: FUZZ_SECONDS=60, SEED=n to repeat one
+#   make bench         times of a call beside model, floor and hand-written Rust
+#   make picture       draws docs/cycle.svg anew (needs Graphviz)
+#   make format        lays out all sources anew; make format-check only looks
+#   make clean         removes what was built
+#
+# LIB=path takes another library than the one made from the proved crates.
 
-# The library to test: made from the proved crates unless another is named.
+# The library to test.
 LIB ?= build/lib/liblockmgr.a
 
-SECONDS ?= 60
 FILE ?= examples/two_sessions.steps
+STEP ?=
+DOT ?=
+FUZZ_SECONDS ?= 60
 SEED ?=
+WORKER_SECONDS ?= 3
+PREFIX ?= /usr/local
+DESTDIR ?=
 
 CC := gcc
 CFLAGS ?= -O2 -g
-WARNINGS := -std=gnu11 -Wall -Wextra -Werror
+WARNINGS := -std=c99 -D_DEFAULT_SOURCE -Wall -Wextra -Werror
 SANITIZE := -fsanitize=address,undefined -fno-sanitize-recover=all
 
 # Cargo builds outside target/, which the prover removes.
@@ -30,40 +45,80 @@ CARGO_COMPARE := --manifest-path compare/Cargo.toml --release --offline --quiet
 
 PROVED := crates.txt $(shell find crates -type f -not -path '*/must-fail/*')
 
-.PHONY: test lib demo model compare replays replay ctest fuzz bench clean FORCE
+VERSION := $(shell sed -n 's/^.define LOCKMGR_VERSION "\(.*\)"$$/\1/p' include/lockmgr.h)
+SHARED := build/lib/liblockmgr.so.$(VERSION)
+# Before 1.0 every minor version may change the interface.
+SONAME := liblockmgr.so.$(basename $(VERSION))
+
+C_TESTS := asan helpers room
+
+.PHONY: help test demo replay lib install model compare replays ctest workers install-test \
+	replay-test fuzz bench picture format format-check clean FORCE
+
+# The lines above, up to the first that is no comment.
+help:
+	@sed -n '/^#/!q; s/^# \{0,1\}//p' $(firstword $(MAKEFILE_LIST))
 
 # The prover's verdict is the last line.
-test: model compare replays ctest demo
+test: format-check model compare replays ctest workers install-test replay-test demo
 	@rt ci
 
-lib: build/lib/liblockmgr.a build/include/lockmgr.h
+lib: build/lib/liblockmgr.a $(SHARED) build/include/lockmgr.h
+
+# prove NAME, COMMAND: what the prover says goes to a log.
+define prove
+	@command -v rt > /dev/null || { \
+		echo "No command rt: the Rattle toolchain, which proves and compiles $(1), is missing."; \
+		echo "With a library that is built already, use LIB=path/to/liblockmgr.a."; exit 1; }
+	@mkdir -p build
+	@echo "Proving and compiling $(1). This takes 2 to 5 minutes on two cores; see build/$(1).log."
+	@$(2) > build/$(1).log 2>&1 || { tail -n 20 build/$(1).log; exit 1; }
+endef
 
 # A copy outlives target/.
 build/lib/liblockmgr.a: $(PROVED)
-	rt staticlib lockmgr
+	$(call prove,liblockmgr,rt staticlib lockmgr)
 	@mkdir -p $(@D)
-	cp target/staticlib/liblockmgr.a $@
+	@cp target/staticlib/liblockmgr.a $@
 
 build/bin/replay: $(PROVED)
-	rt check replay
+	$(call prove,replay,rt check replay)
 	@mkdir -p $(@D)
-	cp target/bin/replay $@
+	@cp target/bin/replay $@
+
+# Made anew each time, since LIB may have been another.
+$(SHARED): $(LIB) FORCE
+	@mkdir -p $(@D)
+	@$(CC) -shared -Wl,--whole-archive $(LIB) -Wl,--no-whole-archive -Wl,-soname,$(SONAME) -o $@
 
 build/include/lockmgr.h: include/lockmgr.h
 	@mkdir -p $(@D)
-	cp $< $@
+	@cp $< $@
 
-# Linked anew each time, since LIB may have been another.
-build/bin/two_sessions: examples/two_sessions.c build/include/lockmgr.h $(LIB) FORCE
-	@mkdir -p $(@D)
-	$(CC) $(CFLAGS) $(WARNINGS) -Ibuild/include $< $(LIB) -o $@
+C_NEEDS := build/include/lockmgr.h $(LIB) FORCE
 
-build/bin/asan: tests/asan.c build/include/lockmgr.h $(LIB) FORCE
+build/bin/two_sessions: examples/two_sessions.c $(C_NEEDS)
 	@mkdir -p $(@D)
-	$(CC) $(CFLAGS) $(WARNINGS) $(SANITIZE) -Ibuild/include $< $(LIB) -o $@
+	@$(CC) $(CFLAGS) $(WARNINGS) -Ibuild/include $< $(LIB) -o $@
+
+build/bin/workers: examples/workers.c $(C_NEEDS)
+	@mkdir -p $(@D)
+	@$(CC) $(CFLAGS) $(WARNINGS) -Ibuild/include $< $(LIB) -pthread -o $@
+
+build/bin/workers-tsan: examples/workers.c $(C_NEEDS)
+	@mkdir -p $(@D)
+	@$(CC) $(CFLAGS) $(WARNINGS) -fsanitize=thread -Ibuild/include $< $(LIB) -pthread -o $@
+
+build/bin/trace: tools/trace.c $(C_NEEDS)
+	@mkdir -p $(@D)
+	@$(CC) $(CFLAGS) $(WARNINGS) -Ibuild/include $< $(LIB) -o $@
+
+$(C_TESTS:%=build/bin/%): build/bin/%: tests/%.c tests/check.h $(C_NEEDS)
+	@mkdir -p $(@D)
+	@$(CC) $(CFLAGS) $(WARNINGS) $(SANITIZE) -Ibuild/include $< $(LIB) -o $@
 
 demo: build/bin/two_sessions
-	build/bin/two_sessions
+	@build/bin/two_sessions
 
 model:
 	cargo test $(CARGO_MODEL)
@@ -75,18 +130,69 @@ compare: $(LIB)
 replays: build/bin/replay $(LIB)
 	cargo run $(CARGO_COMPARE) --bin replays -- $(abspath $<)
 
-replay: build/bin/replay
-	@scripts/replay-input $(FILE) | $<
+replay: build/bin/replay build/bin/trace
+	@scripts/replay-input "$(FILE)" > build/replay.in
+	@build/bin/replay < build/replay.in > build/replay.out
+	@build/bin/trace build/replay.in build/replay.out $(if $(DOT),"$(STEP)" "$(DOT)")
 
-ctest: build/bin/asan
-	build/bin/asan
+# Each within a minute: a test that hangs has failed.
+ctest: $(C_TESTS:%=build/bin/%)
+	@set -e; for test in $(C_TESTS); do echo "C test $$test"; timeout 60 build/bin/$$test; done
+
+# The thread sanitizer is tried on an empty program first: not every machine runs it.
+workers: build/bin/workers
+	@timeout 60 build/bin/workers $(WORKER_SECONDS) 1
+	@if echo 'int main(void) { return 0; }' | $(CC) -fsanitize=thread -x c - -o build/bin/empty-tsan 2> /dev/null \
+		&& build/bin/empty-tsan 2> /dev/null; then \
+		$(MAKE) --no-print-directory build/bin/workers-tsan && echo "with the thread sanitizer:" \
+		&& timeout 60 build/bin/workers-tsan $(WORKER_SECONDS) 2; \
+	else echo "no thread sanitizer here"; fi
+
+install: $(LIB) $(SHARED)
+	install -d "$(DESTDIR)$(PREFIX)/include" "$(DESTDIR)$(PREFIX)/lib/pkgconfig"
+	install -m 644 include/lockmgr.h "$(DESTDIR)$(PREFIX)/include"
+	install -m 644 $(LIB) "$(DESTDIR)$(PREFIX)/lib/liblockmgr.a"
+	install -m 755 $(SHARED) "$(DESTDIR)$(PREFIX)/lib"
+	ln -sf $(notdir $(SHARED)) "$(DESTDIR)$(PREFIX)/lib/$(SONAME)"
+	ln -sf $(SONAME) "$(DESTDIR)$(PREFIX)/lib/liblockmgr.so"
+	sed 's|@PREFIX@|$(PREFIX)|; s|@VERSION@|$(VERSION)|' lockmgr.pc.in \
+		> "$(DESTDIR)$(PREFIX)/lib/pkgconfig/lockmgr.pc"
+
+install-test: $(LIB)
+	@timeout 300 tests/install.sh $(LIB)
+
+replay-test: build/bin/replay build/bin/trace
+	@timeout 60 tests/replay.sh
 
 fuzz: $(LIB)
-	cargo run $(CARGO_COMPARE) --bin fuzz -- $(SECONDS) $(SEED)
+	cargo run $(CARGO_COMPARE) --bin fuzz -- $(FUZZ_SECONDS) $(SEED)
 
 bench: $(LIB) build/bin/replay
 	cargo run $(CARGO_COMPARE) --bin bench
 	cargo run $(CARGO_COMPARE) --bin replays -- $(abspath build/bin/replay) bench
+
+# The example's cycle, after the step that closes it.
+picture:
+	@$(MAKE) --no-print-directory replay FILE=examples/two_sessions.steps STEP=10 DOT=build/cycle.dot \
+		> build/replay.txt
+	dot -Tsvg build/cycle.dot -o docs/cycle.svg
+
+C_FILES := $(wildcard include/*.h examples/*.c tests/*.[ch] tools/*.c)
+
+format:
+	rt fmt
+	cargo fmt --manifest-path model/Cargo.toml
+	cargo fmt --manifest-path compare/Cargo.toml
+	clang-format -i $(C_FILES)
+
+# Without clang-format the C files are not looked at.
+format-check:
+	@rt fmt --check
+	@cargo fmt --check --manifest-path model/Cargo.toml
+	@cargo fmt --check --manifest-path compare/Cargo.toml
+	@if command -v clang-format > /dev/null; then \
+		clang-format --dry-run -Werror $(C_FILES); \
+	else echo "no clang-format here: the layout of the C files is not checked"; fi
 
 clean:
 	rm -rf build target

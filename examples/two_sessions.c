@@ -1,16 +1,20 @@
 /*
  * Two sessions lock two items in opposite order, come to wait for each other,
- * and are led out of it again. Every answer is checked; the exit status is 0
- * if all are as expected.
+ * and are led out of it again. Each edits the items that it is granted; the
+ * victim's edit is undone while it withdraws. Every answer is checked; the exit
+ * status is 0 if all are as expected.
  */
 #include "lockmgr.h"
 
 #include <stdio.h>
 
-enum { SESSIONS = 2, ITEMS = 2, CAPACITY = 64 };
+enum { SESSIONS = 2, ITEMS = 2 };
 
 static uint8_t table[LOCKMGR_TABLE_SIZE(SESSIONS, ITEMS)];
-static uint8_t mail[LOCKMGR_MAIL_SIZE(CAPACITY)];
+static uint8_t mail[LOCKMGR_MAIL_SIZE(LOCKMGR_CAPACITY(SESSIONS, ITEMS))];
+
+/* What is locked: for each item the session that edited it last, or 0. */
+static unsigned catalogue[ITEMS + 1];
 
 static int differences;
 
@@ -21,9 +25,11 @@ typedef struct {
     const char *meaning;
 } script_step;
 
-#define REQUEST    LOCKMGR_REQUEST
-#define TO_ITEM    LOCKMGR_DELIVER_TO_ITEM
+#define REQUEST LOCKMGR_REQUEST
+#define TO_ITEM LOCKMGR_DELIVER_TO_ITEM
 #define TO_SESSION LOCKMGR_DELIVER_TO_SESSION
+
+/* clang-format off */
 
 /* The expected answer: refusal, sent, closed, victim, initiator. */
 static const script_step first_locks[] = {
@@ -65,7 +71,8 @@ static const script_step out_of_the_cycle[] = {
      "Item 2 passes the clean on to its holder, session 2, and probes anew for\n"
      "session 1, which still waits here."},
     {TO_SESSION, 2, 2, {0, 1, 0, 0, 0},
-     "The clean is back at the victim, which now withdraws from the wait queue."},
+     "The clean is back at the victim, which now withdraws from the wait queue.\n"
+     "This is the moment to undo what it has changed."},
     {TO_SESSION, 2, 2, {0, 0, 0, 0, 0}, "A victim has no use for the new probe: dropped."},
     {TO_ITEM, 2, 1, {0, 1, 0, 0, 0}, "Session 2 leaves the wait queue of item 1, which confirms it."},
     {TO_SESSION, 2, 1, {0, 1, 0, 0, 0},
@@ -75,60 +82,66 @@ static const script_step out_of_the_cycle[] = {
     {TO_SESSION, 1, 2, {0, 0, 0, 0, 0}, "Session 1 holds both items. The mail is empty."},
 };
 
+/* clang-format on */
+
 #define PLAY(script) play(script, sizeof script / sizeof script[0])
 
-static const char *kind_name(unsigned kind)
+/* The place of the message that a delivery takes: the earliest on its route. */
+static unsigned place_of(unsigned direction, unsigned session, unsigned item)
 {
-    static const char *const names[] = {
-        "?",        "request",  "release", "probe",  "clean", "rebroadcast",
-        "withdraw", "grant",    "resend",  "abort",  "withdrawn",
-    };
-    return names[kind < sizeof names / sizeof names[0] ? kind : 0];
-}
-
-static const char *stage_name(unsigned stage)
-{
-    static const char *const names[] = {
-        "?", "growing", "waiting", "shrinking", "cleaning", "withdrawing", "rolled back",
-    };
-    return names[stage < sizeof names / sizeof names[0] ? stage : 0];
-}
-
-/* The kind of the message that a delivery takes: the earliest on its route. */
-static const char *next_kind(unsigned direction, unsigned session, unsigned item)
-{
-    for (unsigned place = 0; place < lockmgr_mail_count(mail); place++) {
+    unsigned place;
+    for (place = 0; place < lockmgr_mail_count(mail); place++) {
         lockmgr_message m = lockmgr_mail_message(mail, place);
         if (m.direction == direction && m.session == session && m.item == item)
-            return kind_name(m.kind);
+            break;
     }
-    return "message that is not there";
+    return place;
 }
 
-static void print_call(const script_step *step)
+/* A delivery, and what follows for the edits. */
+static lockmgr_answer deliver(unsigned direction, unsigned session, unsigned item)
+{
+    unsigned k, place = place_of(direction, session, item);
+    lockmgr_delivery d = lockmgr_deliver(place, table, sizeof table, mail, sizeof mail);
+    const char *kind = lockmgr_kind_text(d.message.kind);
+    if (direction == LOCKMGR_TO_ITEM)
+        printf("the %s of session %u reaches item %u\n", kind, session, item);
+    else
+        printf("the %s of item %u reaches session %u\n", kind, item, session);
+    if (d.event == LOCKMGR_EVENT_GRANTED) {
+        catalogue[item] = session;
+        printf("      (session %u edits item %u)\n", session, item);
+    }
+    if (d.event == LOCKMGR_EVENT_UNDO) {
+        for (k = 1; k <= ITEMS; k++) {
+            if (catalogue[k] == session) {
+                catalogue[k] = 0;
+                printf("      (the edit of item %u by session %u is undone)\n", k, session);
+            }
+        }
+    }
+    return d.answer;
+}
+
+static lockmgr_answer make(const script_step *step)
 {
     switch (step->verb) {
-    case LOCKMGR_REQUEST:
-        printf("session %u requests item %u\n", step->session, step->item);
-        break;
-    case LOCKMGR_RELEASE:
-        printf("session %u releases item %u\n", step->session, step->item);
-        break;
     case LOCKMGR_DELIVER_TO_ITEM:
-        printf("the %s of session %u reaches item %u\n",
-               next_kind(LOCKMGR_TO_ITEM, step->session, step->item), step->session, step->item);
-        break;
+        return deliver(LOCKMGR_TO_ITEM, step->session, step->item);
+    case LOCKMGR_DELIVER_TO_SESSION:
+        return deliver(LOCKMGR_TO_SESSION, step->session, step->item);
     default:
-        printf("the %s of item %u reaches session %u\n",
-               next_kind(LOCKMGR_TO_SESSION, step->session, step->item), step->item, step->session);
-        break;
+        printf("%s of session %u for item %u\n", lockmgr_verb_text(step->verb), step->session,
+               step->item);
+        return lockmgr_step(step->verb, step->session, step->item, table, sizeof table, mail,
+                            sizeof mail);
     }
 }
 
 static void print_answer(lockmgr_answer answer)
 {
     if (answer.refusal != LOCKMGR_ACCEPTED) {
-        printf("refused with %u", answer.refusal);
+        printf("refused: %s", lockmgr_refusal_text(answer.refusal));
     } else {
         printf("accepted, %u sent", answer.sent);
         if (answer.closed)
@@ -160,18 +173,17 @@ static int same(lockmgr_answer one, lockmgr_answer other)
 static void play(const script_step *script, size_t length)
 {
     static unsigned number;
-    for (size_t k = 0; k < length; k++) {
-        const script_step *step = &script[k];
+    size_t k;
+    for (k = 0; k < length; k++) {
+        lockmgr_answer answer;
         printf("%4u  ", ++number);
-        print_call(step);
-        lockmgr_answer answer = lockmgr_step(step->verb, step->session, step->item,
-                                             table, sizeof table, mail, sizeof mail);
-        print_indented(step->meaning);
+        answer = make(&script[k]);
+        print_indented(script[k].meaning);
         printf("      -> ");
         print_answer(answer);
-        if (!same(answer, step->expected)) {
+        if (!same(answer, script[k].expected)) {
             printf("      EXPECTED: ");
-            print_answer(step->expected);
+            print_answer(script[k].expected);
             differences++;
         }
     }
@@ -188,10 +200,12 @@ static void expect(const char *what, unsigned found_value, unsigned expected)
 /* What the reports say, and where the sessions are. */
 static void look(unsigned cycle_length, unsigned stage_of_1, unsigned stage_of_2)
 {
+    unsigned session;
     printf("\n");
-    for (unsigned session = 1; session <= SESSIONS; session++) {
+    for (session = 1; session <= SESSIONS; session++) {
         lockmgr_cycle cycle = lockmgr_report(session, table, sizeof table);
-        printf("      report on session %u: %s, ", session, stage_name(lockmgr_stage(table, session)));
+        printf("      report on session %u: %s, ", session,
+               lockmgr_stage_text(lockmgr_stage(table, session)));
         if (cycle.length > 0)
             printf("on a cycle of %u sessions\n", cycle.length);
         else
@@ -205,9 +219,9 @@ static void look(unsigned cycle_length, unsigned stage_of_1, unsigned stage_of_2
 
 int main(void)
 {
+    lockmgr_options options = lockmgr_default_options(SESSIONS, ITEMS);
     printf("A lock manager for %d sessions and %d items.\n", SESSIONS, ITEMS);
-    expect("refusal of start",
-           lockmgr_start(SESSIONS, ITEMS, CAPACITY, table, sizeof table, mail, sizeof mail),
+    expect("refusal of start", lockmgr_start_with(&options, table, sizeof table, mail, sizeof mail),
            LOCKMGR_ACCEPTED);
 
     printf("\nEach session locks an item\n\n");
@@ -225,10 +239,12 @@ int main(void)
     PLAY(out_of_the_cycle);
     look(0, LOCKMGR_GROWING, LOCKMGR_ROLLED_BACK);
     expect("messages left:", lockmgr_mail_count(mail), 0);
-    expect("session 1 holds item 1:", (unsigned)lockmgr_holds(table, 1, 1), 1);
-    expect("session 1 holds item 2:", (unsigned)lockmgr_holds(table, 1, 2), 1);
+    expect("session 1 holds item 1:", lockmgr_holds(table, 1, 1) ? 1 : 0, 1);
+    expect("session 1 holds item 2:", lockmgr_holds(table, 1, 2) ? 1 : 0, 1);
     expect("holder of item 1:", lockmgr_holder(table, 1), 1);
     expect("holder of item 2:", lockmgr_holder(table, 2), 1);
+    expect("last editor of item 1:", catalogue[1], 1);
+    expect("last editor of item 2:", catalogue[2], 1);
 
     if (differences) {
         printf("\n%d answers differ from what is expected.\n", differences);

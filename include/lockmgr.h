@@ -9,39 +9,45 @@
  * functions on numbers and two byte buffers. The library allocates nothing,
  * keeps nothing between calls, does no input or output and starts no threads.
  *
+ * Its limits: 1 to 64 sessions, 1 to 64 items, 1 to 4096 messages. Locks are
+ * exclusive. A session that waits cannot give up. A session number serves
+ * once: nothing brings a session back that has released an item or was rolled
+ * back. The library is built for x86-64; this header is C99 and C++11.
+ *
  *
  * LIFE OF A LOCK MANAGER
  *
- *   1. Choose the number of sessions and of items (1 to 64 each) and the
- *      capacity of the mailbox (1 to 4096 messages). Provide two buffers of
- *      the sizes LOCKMGR_TABLE_SIZE and LOCKMGR_MAIL_SIZE: the table, which
+ *   1. Choose the number of sessions and of items, and the capacity of the
+ *      mailbox; LOCKMGR_CAPACITY tells one that is enough. Provide two buffers
+ *      of the sizes LOCKMGR_TABLE_SIZE and LOCKMGR_MAIL_SIZE: the table, which
  *      holds all sessions and items, and the mail, which is the mailbox.
  *   2. lockmgr_start fills both.
  *   3. lockmgr_step does one thing at a time: a session sends a request or a
  *      release, or one message is delivered. Every call names one session and
- *      one item.
+ *      one item. lockmgr_deliver is a step that delivers and says what that
+ *      meant for the session.
  *   4. lockmgr_report tells, at any time, whether a session lies on a cycle.
  *   5. There is no call to end it: drop the buffers, or start again on them.
  *
  * Sessions and items are numbered from 1. Session 1 is the most senior, the
  * session with the highest number the most junior.
  *
- *   uint8_t table[LOCKMGR_TABLE_SIZE(2, 3)];    // 2 sessions, 3 items
- *   uint8_t mail[LOCKMGR_MAIL_SIZE(256)];       // up to 256 messages
+ *   uint8_t table[LOCKMGR_TABLE_SIZE(2, 3)];                  // 2 sessions, 3 items
+ *   uint8_t mail[LOCKMGR_MAIL_SIZE(LOCKMGR_CAPACITY(2, 3))];
+ *   lockmgr_options options = lockmgr_default_options(2, 3);
  *   lockmgr_answer answer;
+ *   lockmgr_delivery delivery;
  *
- *   if (lockmgr_start(2, 3, 256, table, sizeof table, mail, sizeof mail) != 0)
+ *   if (lockmgr_start_with(&options, table, sizeof table, mail, sizeof mail) != 0)
  *       ...
  *   // Session 1 asks for item 3: the request goes into the mail.
  *   answer = lockmgr_step(LOCKMGR_REQUEST, 1, 3,
  *                         table, sizeof table, mail, sizeof mail);
  *   // The request reaches item 3, which is free and answers with a grant.
- *   answer = lockmgr_step(LOCKMGR_DELIVER_TO_ITEM, 1, 3,
- *                         table, sizeof table, mail, sizeof mail);
+ *   delivery = lockmgr_deliver(0, table, sizeof table, mail, sizeof mail);
  *   // The grant reaches session 1, which holds item 3 from now on.
- *   answer = lockmgr_step(LOCKMGR_DELIVER_TO_SESSION, 1, 3,
- *                         table, sizeof table, mail, sizeof mail);
- *   if (answer.refusal == LOCKMGR_ACCEPTED && lockmgr_holds(table, 1, 3))
+ *   delivery = lockmgr_deliver(0, table, sizeof table, mail, sizeof mail);
+ *   if (delivery.event == LOCKMGR_EVENT_GRANTED)
  *       ...
  *
  *
@@ -56,37 +62,15 @@
  *     at the same time in different threads.
  *
  * A null pointer is allowed with length 0, and is refused with
- * LOCKMGR_BAD_SIZE like every other wrong length. Any contents are allowed:
- * every call judges the bytes first and refuses those that are not
- * well-formed. A refused call leaves every byte as it was. The buffers need no
- * alignment and hold no pointers and no padding, so that you may copy them,
- * store them in a file, send them elsewhere and go on there.
+ * LOCKMGR_BAD_SIZE like every other wrong length; with another length it
+ * crashes, as it does in any C library. Any contents are allowed: every call
+ * judges the bytes first and refuses those that are not well-formed. A refused
+ * call leaves every byte as it was. The buffers need no alignment and hold no
+ * pointers and no padding, so that you may copy them, store them in a file,
+ * send them elsewhere and go on there (see VERSIONS).
  *
  * All numbers in calls are 64 bits wide, so that nothing you pass is cut off
  * before it is judged: 257 is not taken for 1.
- *
- *
- * DELIVERING
- *
- * The mailbox has a route for each direction, session and item. A delivery
- * takes the earliest message of one route. Which route comes next is your
- * choice; no order or fairness between routes is needed. Messages are never
- * lost and never overtake each other on a route. This delivers all there is:
- *
- *   while (lockmgr_mail_count(mail) > 0) {
- *       lockmgr_message m = lockmgr_mail_message(mail, 0);   // the oldest
- *       answer = lockmgr_step(lockmgr_deliver_verb(m), m.session, m.item,
- *                             table, sizeof table, mail, sizeof mail);
- *       if (answer.refusal != LOCKMGR_ACCEPTED)
- *           ...                           // LOCKMGR_MAIL_FULL: see below
- *   }
- *
- * A delivery may send messages in turn. If they do not fit, the step is
- * refused with LOCKMGR_MAIL_FULL and nothing has happened: deliver on another
- * route first and try again. A delivery that sends at most one message always
- * fits. A very small mailbox can fill up with messages none of which can be
- * delivered any more, so give it room: the largest, of 4096 messages, takes
- * 24,580 bytes.
  *
  *
  * STAGES OF A SESSION
@@ -103,9 +87,84 @@
  *   LOCKMGR_WITHDRAWING  is a victim that leaves the wait queue it stands in
  *   LOCKMGR_ROLLED_BACK  was a victim, has released everything, and is done
  *
- * A victim goes through the last three stages by deliveries alone. No call
- * brings a session back from LOCKMGR_ROLLED_BACK or LOCKMGR_SHRINKING to
- * LOCKMGR_GROWING.
+ * A victim goes through the last three stages by deliveries alone, and never
+ * turns back. No call brings a session back from LOCKMGR_ROLLED_BACK or
+ * LOCKMGR_SHRINKING to LOCKMGR_GROWING.
+ *
+ * When to undo. What a session has changed in the items that it holds is yours
+ * to undo if it becomes a victim. Undo it while the session is withdrawing,
+ * before you deliver LOCKMGR_MSG_WITHDRAWN to it. That delivery makes it
+ * rolled back and sends its releases; from then on others may be granted its
+ * items. Undoing when you see LOCKMGR_ROLLED_BACK is too late.
+ * lockmgr_deliver answers LOCKMGR_EVENT_UNDO at the right moment: undo then,
+ * before the next delivery.
+ *
+ *
+ * DELIVERING
+ *
+ * The mailbox has a route for each direction, session and item. A delivery
+ * takes the earliest message of one route. Messages are never lost and never
+ * overtake each other on a route. This delivers all there is, oldest first:
+ *
+ *   while (lockmgr_mail_count(mail) > 0) {
+ *       delivery = lockmgr_deliver(0, table, sizeof table, mail, sizeof mail);
+ *       if (delivery.answer.refusal != LOCKMGR_ACCEPTED)
+ *           ...                                     // see the next section
+ *       else if (delivery.event == LOCKMGR_EVENT_GRANTED)
+ *           ...    // delivery.message.session holds delivery.message.item
+ *       else if (delivery.event == LOCKMGR_EVENT_UNDO)
+ *           ...    // undo what delivery.message.session has changed
+ *   }
+ *
+ *
+ * ROOM IN THE MAIL
+ *
+ * A delivery may send more messages than the one it takes. If they do not fit,
+ * it is refused with LOCKMGR_MAIL_FULL and nothing has happened. A delivery
+ * that sends at most one message always fits. But a mailbox can come to hold
+ * only messages that do not fit any more. It is jammed then: every delivery is
+ * refused, for good, and who waits goes on waiting. A single message can do
+ * it: with 64 sessions, one item and a capacity of 124, the release of an item
+ * for which 63 sessions wait would send 125 messages.
+ *
+ * Proved is what holds when the mail is empty: no cycle stands, and as many
+ * sessions have been rolled back as cycles were closed. That the mail gets
+ * empty is not proved, and without a rule it is not so. Keep one of two rules
+ * from the start on:
+ *
+ *   Rule 1. Make a request or a release only while the mail is empty. Then
+ *           deliver, in any order, until it is empty again.
+ *   Rule 2. Make a request or a release at any time. Always deliver the oldest
+ *           message.
+ *
+ * And give the mailbox at least LOCKMGR_CAPACITY(sessions, items) messages,
+ * which is 6 S + M + 1, or 449 for 64 sessions and 64 items. Then no delivery
+ * has ever been refused with LOCKMGR_MAIL_FULL: in all states of small lock
+ * managers, in searches for the worst case, and in long random runs, none of
+ * which needed more than 4 S + M. This is tried, not proved. For deadlocks the
+ * order of deliveries does not matter, for room it does: a mailbox of 993
+ * messages has been jammed by passing over routes that carry rebroadcasts.
+ * Leaving places free before a call is no substitute for a rule.
+ *
+ * If every delivery is refused all the same, move the mail into a larger
+ * buffer with lockmgr_enlarge_mail and go on there, oldest first. Nothing is
+ * lost, and the guarantee still holds: the calls that were accepted would have
+ * led a lock manager of that capacity to the same state. If 4096 messages are
+ * not enough, only a new start is left.
+ *
+ *
+ * VERSIONS
+ *
+ * LOCKMGR_VERSION_MAJOR, _MINOR and _PATCH number the interface. Before 1.0 a
+ * new minor number may lengthen an argument list or an answer: recompile.
+ * Callers that start with lockmgr_options keep compiling.
+ *
+ * LOCKMGR_LAYOUT_VERSION numbers the bytes of table and mail. The buffers do
+ * not carry it. If you store or send them, store that number beside them, and
+ * hand them only to a library with the same one. There is no conversion: let
+ * the sessions end under the old version and start anew under the new one.
+ * Buffers of another layout are no danger, since every call judges them, and
+ * most are refused with LOCKMGR_BAD_SIZE; but do not rely on it.
  */
 #ifndef LOCKMGR_H
 #define LOCKMGR_H
@@ -117,17 +176,113 @@
 extern "C" {
 #endif
 
-/* ---- Bounds and sizes -------------------------------------------------- */
+/* ---- Version ------------------------------------------------------------ */
+
+#define LOCKMGR_VERSION_MAJOR 0
+#define LOCKMGR_VERSION_MINOR 1
+#define LOCKMGR_VERSION_PATCH 0
+#define LOCKMGR_VERSION "0.1.0"
+
+/* One number that grows with the version. */
+#define LOCKMGR_VERSION_NUMBER \
+    (LOCKMGR_VERSION_MAJOR * 10000 + LOCKMGR_VERSION_MINOR * 100 + LOCKMGR_VERSION_PATCH)
+
+/* The version of the byte layout of table and mail. */
+#define LOCKMGR_LAYOUT_VERSION 1
+
+/* ---- Bounds and sizes --------------------------------------------------- */
 
 #define LOCKMGR_MAX_SESSIONS 64   /* sessions: 1 to 64 */
-#define LOCKMGR_MAX_ITEMS    64   /* items: 1 to 64 */
+#define LOCKMGR_MAX_ITEMS 64      /* items: 1 to 64 */
 #define LOCKMGR_MAX_CAPACITY 4096 /* messages in the mailbox: 1 to 4096 */
 
 /* Bytes of a table for so many sessions and items, of a mail for so many
  * messages. Constant expressions if the arguments are constants. */
-#define LOCKMGR_TABLE_SIZE(sessions, items) \
-    ((size_t)2 + (size_t)74 * (size_t)(sessions) + (size_t)66 * (size_t)(items))
-#define LOCKMGR_MAIL_SIZE(capacity) ((size_t)4 + (size_t)6 * (size_t)(capacity))
+#define LOCKMGR_TABLE_SIZE(sessions, items) LOCKMGR_ITEMS_END(sessions, items)
+#define LOCKMGR_MAIL_SIZE(capacity) LOCKMGR_BODY_PLACE(capacity, capacity)
+
+/* A capacity with which no delivery is refused for lack of room, if one of the
+ * two rules above is kept from the start on. Tried, not proved. */
+#define LOCKMGR_CAPACITY(sessions, items) \
+    (6 * LOCKMGR_CAST_(size_t, sessions) + LOCKMGR_CAST_(size_t, items) + 1)
+
+/* ---- Layout of the buffers --------------------------------------------- */
+
+/*
+ * Only code that reads or writes the bytes itself needs these names.
+ *
+ * The table: a header with the number of sessions and of items, then the
+ * session records, then the item records. The mail: a header with the capacity
+ * and the count, then for each message its route, then for each message its
+ * body; messages stand in order of sending, and unused places are zero. All
+ * numbers are little-endian.
+ *
+ * A table is well-formed if the stages are 1 to 6; an item is awaited in the
+ * stages 2, 4 and 5 and only there; no held bit, junior or holder is above the
+ * numbers there are; the sessions of a wait queue are distinct and none is the
+ * holder; and what is unused is zero. A mail is well-formed if its count is
+ * at most its capacity; directions, sessions, items and kinds are in bounds;
+ * a kind travels in its direction; a and b are sessions in probes, cleans and
+ * aborts and else 0; an abort is addressed to its victim; and what is unused
+ * is zero.
+ */
+
+/* Bytes of the table's header, and of each record. */
+#define LOCKMGR_TABLE_SESSIONS 0 /* number of sessions (1 byte) */
+#define LOCKMGR_TABLE_ITEMS 1    /* number of items (1) */
+#define LOCKMGR_TABLE_HEADER 2
+
+#define LOCKMGR_SESSION_STAGE 0   /* stage (1) */
+#define LOCKMGR_SESSION_AWAITED 1 /* awaited item or 0 (1) */
+#define LOCKMGR_SESSION_HELD 2    /* held items, bit k-1 is item k (8) */
+#define LOCKMGR_SESSION_JUNIORS \
+    10 /* junior of the stored probe of initiator 1,
+                                    * 2, ..., or 0 where none is (64) */
+#define LOCKMGR_SESSION_SIZE 74
+
+#define LOCKMGR_ITEM_HOLDER 0       /* holder or 0 (1) */
+#define LOCKMGR_ITEM_QUEUE_LENGTH 1 /* length of the wait queue (1) */
+#define LOCKMGR_ITEM_QUEUE 2        /* waiting sessions, first to last (64) */
+#define LOCKMGR_ITEM_SIZE 66
+
+/* Bytes of the mail's header, of a route and of a body. */
+#define LOCKMGR_MAIL_CAPACITY 0 /* capacity (2) */
+#define LOCKMGR_MAIL_COUNT 2    /* count (2) */
+#define LOCKMGR_MAIL_HEADER 4
+
+#define LOCKMGR_ROUTE_DIRECTION 0 /* enum lockmgr_direction (1) */
+#define LOCKMGR_ROUTE_SESSION 1   /* session (1) */
+#define LOCKMGR_ROUTE_ITEM 2      /* item (1) */
+#define LOCKMGR_ROUTE_SIZE 3
+
+#define LOCKMGR_BODY_KIND 0 /* enum lockmgr_kind (1) */
+#define LOCKMGR_BODY_A 1    /* a (1) */
+#define LOCKMGR_BODY_B 2    /* b (1) */
+#define LOCKMGR_BODY_SIZE 3
+
+/* Where a record begins; sessions and items count from 1. */
+#define LOCKMGR_SESSION_PLACE(session) \
+    (LOCKMGR_TABLE_HEADER + LOCKMGR_SESSION_SIZE * (LOCKMGR_CAST_(size_t, session) - 1))
+#define LOCKMGR_ITEM_PLACE(sessions, item) \
+    (LOCKMGR_SESSION_PLACE(LOCKMGR_CAST_(size_t, sessions) + 1) + \
+     LOCKMGR_ITEM_SIZE * (LOCKMGR_CAST_(size_t, item) - 1))
+
+/* Where the item records end. */
+#define LOCKMGR_ITEMS_END(sessions, items) \
+    LOCKMGR_ITEM_PLACE(sessions, LOCKMGR_CAST_(size_t, items) + 1)
+
+/* Where the route and the body of a message begin; places count from 0. */
+#define LOCKMGR_ROUTE_PLACE(place) \
+    (LOCKMGR_MAIL_HEADER + LOCKMGR_ROUTE_SIZE * LOCKMGR_CAST_(size_t, place))
+#define LOCKMGR_BODY_PLACE(capacity, place) \
+    (LOCKMGR_ROUTE_PLACE(capacity) + LOCKMGR_BODY_SIZE * LOCKMGR_CAST_(size_t, place))
+
+/* A cast that neither C nor C++ warns of. */
+#ifdef __cplusplus
+#define LOCKMGR_CAST_(type, value) (static_cast<type>(value))
+#else
+#define LOCKMGR_CAST_(type, value) ((type)(value))
+#endif
 
 /* ---- Numbers ----------------------------------------------------------- */
 
@@ -195,8 +350,8 @@ enum lockmgr_stages {
 
 /* Directions of a message. */
 enum lockmgr_direction {
-    LOCKMGR_TO_ITEM = 1,
-    LOCKMGR_TO_SESSION = 2
+    LOCKMGR_TO_ITEM = 1,   /* from a session to an item */
+    LOCKMGR_TO_SESSION = 2 /* from an item to a session */
 };
 
 /* Kinds of messages. The comment names a and b where the kind has them; with
@@ -214,7 +369,20 @@ enum lockmgr_kind {
     LOCKMGR_MSG_WITHDRAWN = 10   /* to a session */
 };
 
-/* ---- Answers ----------------------------------------------------------- */
+/* What a delivery meant for the session of its message. */
+enum lockmgr_event {
+    /* Nothing that its user has to know. */
+    LOCKMGR_EVENT_NONE = 0,
+    /* The session holds the item of the message from now on. */
+    LOCKMGR_EVENT_GRANTED = 1,
+    /* The session is a victim and withdraws: undo what it has changed now,
+     * before the next delivery. It still holds its items. */
+    LOCKMGR_EVENT_UNDO = 2,
+    /* The session is rolled back; its releases are on their way. */
+    LOCKMGR_EVENT_ROLLED_BACK = 3
+};
+
+/* ---- Answers ------------------------------------------------------------ */
 
 /* The answer of a step. */
 typedef struct {
@@ -246,9 +414,11 @@ typedef struct {
  *     table_len != LOCKMGR_TABLE_SIZE(sessions, items) or
  *     mail_len != LOCKMGR_MAIL_SIZE(capacity).
  */
+/* clang-format off */
 uint8_t lockmgr_start(uint64_t sessions, uint64_t items, uint64_t capacity,
                       uint8_t *table, size_t table_len,
                       uint8_t *mail, size_t mail_len);
+/* clang-format on */
 
 /*
  * One step of the session with the item; verb is one of enum lockmgr_verb.
@@ -259,9 +429,11 @@ uint8_t lockmgr_start(uint64_t sessions, uint64_t items, uint64_t capacity,
  * One cycle may be declared more than once, by different messages; the
  * victim is rolled back once.
  */
+/* clang-format off */
 lockmgr_answer lockmgr_step(uint64_t verb, uint64_t session, uint64_t item,
                             uint8_t *table, size_t table_len,
                             uint8_t *mail, size_t mail_len);
+/* clang-format on */
 
 /*
  * The length of the cycle on which the session lies, or 0. A session waits for
@@ -276,81 +448,165 @@ lockmgr_answer lockmgr_step(uint64_t verb, uint64_t session, uint64_t item,
  */
 lockmgr_cycle lockmgr_report(uint64_t session, const uint8_t *table, size_t table_len);
 
-/* ---- Reading the buffers ----------------------------------------------- */
+/* ---- Helpers ------------------------------------------------------------ */
 
 /*
- * Small readers, written in this header and no part of the proved library.
- * Use them on buffers that a call has accepted, with numbers in bounds: they
+ * What follows is written in this header, on top of the three calls or beside
+ * them. It is tested but no part of the proved library.
+ */
+
+/* The version number of this header, LOCKMGR_VERSION_NUMBER. The library is
+ * not asked; the name of the shared one ends in its version. */
+static inline unsigned lockmgr_version(void)
+{
+    return LOCKMGR_VERSION_NUMBER;
+}
+
+/*
+ * Numbers as text, in lower case: "bad size" for LOCKMGR_BAD_SIZE, "deliver to
+ * item", "rolled back", "withdrawn", "granted". "unknown" for a number that is
+ * none. The text is constant and needs no freeing.
+ */
+static inline const char *lockmgr_text_(const char *const *texts, size_t count, uint64_t number)
+{
+    return number < count ? texts[number] : "unknown";
+}
+
+static inline const char *lockmgr_refusal_text(uint64_t refusal)
+{
+    static const char *const texts[] = {
+        "accepted",   "bad verb",    "bad size",   "bad table",  "bad mail",
+        "bad number", "wrong stage", "wrong item", "no message", "mail full",
+    };
+    return lockmgr_text_(texts, sizeof texts / sizeof texts[0], refusal);
+}
+
+static inline const char *lockmgr_verb_text(uint64_t verb)
+{
+    static const char *const texts[] = {
+        "unknown", "request", "release", "deliver to item", "deliver to session",
+    };
+    return lockmgr_text_(texts, sizeof texts / sizeof texts[0], verb);
+}
+
+static inline const char *lockmgr_stage_text(uint64_t stage)
+{
+    static const char *const texts[] = {
+        "unknown", "growing", "waiting", "shrinking", "cleaning", "withdrawing", "rolled back",
+    };
+    return lockmgr_text_(texts, sizeof texts / sizeof texts[0], stage);
+}
+
+static inline const char *lockmgr_kind_text(uint64_t kind)
+{
+    static const char *const texts[] = {
+        "unknown",  "request", "release", "probe", "clean",     "rebroadcast",
+        "withdraw", "grant",   "resend",  "abort", "withdrawn",
+    };
+    return lockmgr_text_(texts, sizeof texts / sizeof texts[0], kind);
+}
+
+static inline const char *lockmgr_event_text(uint64_t event)
+{
+    static const char *const texts[] = {"nothing", "granted", "undo", "rolled back"};
+    return lockmgr_text_(texts, sizeof texts / sizeof texts[0], event);
+}
+
+/*
+ * Starting by options. lockmgr_default_options fills in plain values for so
+ * many sessions and items; change the fields that you want otherwise. A later
+ * version may add fields, with values that leave the rest as it was, so do not
+ * fill in the struct yourself.
+ */
+typedef struct {
+    uint64_t sessions;
+    uint64_t items;
+    uint64_t capacity; /* plain: LOCKMGR_CAPACITY(sessions, items) */
+} lockmgr_options;
+
+static inline lockmgr_options lockmgr_default_options(uint64_t sessions, uint64_t items)
+{
+    lockmgr_options options;
+    options.sessions = sessions;
+    options.items = items;
+    options.capacity = LOCKMGR_CAPACITY(sessions, items);
+    return options;
+}
+
+/*
+ * lockmgr_start with the numbers of the options; the same answers. A null
+ * pointer, with any length, is refused with LOCKMGR_BAD_SIZE; so are options
+ * for numbers out of bounds.
+ */
+static inline uint8_t lockmgr_start_with(const lockmgr_options *options, uint8_t *table,
+                                         size_t table_len, uint8_t *mail, size_t mail_len)
+{
+    if (options == NULL || table == NULL || mail == NULL)
+        return LOCKMGR_BAD_SIZE;
+    return lockmgr_start(options->sessions, options->items, options->capacity, table, table_len,
+                         mail, mail_len);
+}
+
+/* ---- Reading the buffers ------------------------------------------------ */
+
+/*
+ * Use these on buffers that a call has accepted, with numbers in bounds: they
  * check nothing.
- *
- * The table: the number of sessions (1 byte), the number of items (1), then
- * the sessions, then the items.
- *   Session, 74 bytes: stage (1), awaited item or 0 (1), held items as a
- *     little-endian mask where bit k-1 is item k (8), and for each initiator 1
- *     to 64 the junior of the probe stored for it, or 0 (64).
- *   Item, 66 bytes: holder or 0 (1), length of the wait queue (1), the waiting
- *     sessions in order, then zeros (64).
- * The mail: capacity (2, little-endian), count (2, little-endian), then for
- *   each message direction, session, item (3), then for each message kind, a,
- *   b (3). Messages stand in order of sending; unused places are zero.
- *
- * A table is well-formed if the stages are 1 to 6; an item is awaited in the
- * stages 2, 4 and 5 and only there; no held bit, junior or holder is above the
- * numbers there are; the sessions of a wait queue are distinct and none is the
- * holder; and what is unused is zero. A mail is well-formed if its count is
- * at most its capacity; directions, sessions, items and kinds are in bounds;
- * a kind travels in its direction; a and b are sessions in probes, cleans and
- * aborts and else 0; an abort is addressed to its victim; and what is unused
- * is zero.
  */
 
 /* The stage of a session: enum lockmgr_stages. */
 static inline unsigned lockmgr_stage(const uint8_t *table, unsigned session)
 {
-    return table[2 + 74 * (size_t)(session - 1)];
+    return table[LOCKMGR_SESSION_PLACE(session) + LOCKMGR_SESSION_STAGE];
 }
 
 /* The item that a session waits for, or 0. */
 static inline unsigned lockmgr_awaited(const uint8_t *table, unsigned session)
 {
-    return table[2 + 74 * (size_t)(session - 1) + 1];
+    return table[LOCKMGR_SESSION_PLACE(session) + LOCKMGR_SESSION_AWAITED];
 }
 
 /* 1 if the session holds the item, that is, has its grant; else 0. */
 static inline int lockmgr_holds(const uint8_t *table, unsigned session, unsigned item)
 {
-    const uint8_t *held = table + 2 + 74 * (size_t)(session - 1) + 2;
+    const uint8_t *held = table + LOCKMGR_SESSION_PLACE(session) + LOCKMGR_SESSION_HELD;
     return held[(item - 1) / 8] >> ((item - 1) % 8) & 1;
+}
+
+/* The record of an item. */
+static inline const uint8_t *lockmgr_item_(const uint8_t *table, unsigned item)
+{
+    return table + LOCKMGR_ITEM_PLACE(table[LOCKMGR_TABLE_SESSIONS], item);
 }
 
 /* The holder of an item as the item sees it, or 0. The item knows its holder
  * from the moment it sends the grant. */
 static inline unsigned lockmgr_holder(const uint8_t *table, unsigned item)
 {
-    return table[2 + 74 * (size_t)table[0] + 66 * (size_t)(item - 1)];
+    return lockmgr_item_(table, item)[LOCKMGR_ITEM_HOLDER];
 }
 
 /* How many sessions stand in the wait queue of an item. */
 static inline unsigned lockmgr_queue_length(const uint8_t *table, unsigned item)
 {
-    return table[2 + 74 * (size_t)table[0] + 66 * (size_t)(item - 1) + 1];
+    return lockmgr_item_(table, item)[LOCKMGR_ITEM_QUEUE_LENGTH];
 }
 
 /* The session at a place of the wait queue, 0 being the first. */
 static inline unsigned lockmgr_queue_session(const uint8_t *table, unsigned item, unsigned place)
 {
-    return table[2 + 74 * (size_t)table[0] + 66 * (size_t)(item - 1) + 2 + place];
+    return lockmgr_item_(table, item)[LOCKMGR_ITEM_QUEUE + place];
 }
 
 /* How many messages the mail can hold, and how many there are. */
 static inline unsigned lockmgr_mail_capacity(const uint8_t *mail)
 {
-    return mail[0] + 256u * mail[1];
+    return mail[LOCKMGR_MAIL_CAPACITY] + 256u * mail[LOCKMGR_MAIL_CAPACITY + 1];
 }
 
 static inline unsigned lockmgr_mail_count(const uint8_t *mail)
 {
-    return mail[2] + 256u * mail[3];
+    return mail[LOCKMGR_MAIL_COUNT] + 256u * mail[LOCKMGR_MAIL_COUNT + 1];
 }
 
 /* A message in the mail. */
@@ -358,7 +614,7 @@ typedef struct {
     uint8_t direction; /* enum lockmgr_direction */
     uint8_t session;
     uint8_t item;
-    uint8_t kind;      /* enum lockmgr_kind */
+    uint8_t kind; /* enum lockmgr_kind */
     uint8_t a;
     uint8_t b;
 } lockmgr_message;
@@ -366,15 +622,15 @@ typedef struct {
 /* The message at a place of the mail, 0 being the oldest. */
 static inline lockmgr_message lockmgr_mail_message(const uint8_t *mail, unsigned place)
 {
-    const uint8_t *route = mail + 4 + 3 * (size_t)place;
-    const uint8_t *body = route + 3 * (size_t)lockmgr_mail_capacity(mail);
+    const uint8_t *route = mail + LOCKMGR_ROUTE_PLACE(place);
+    const uint8_t *body = mail + LOCKMGR_BODY_PLACE(lockmgr_mail_capacity(mail), place);
     lockmgr_message message;
-    message.direction = route[0];
-    message.session = route[1];
-    message.item = route[2];
-    message.kind = body[0];
-    message.a = body[1];
-    message.b = body[2];
+    message.direction = route[LOCKMGR_ROUTE_DIRECTION];
+    message.session = route[LOCKMGR_ROUTE_SESSION];
+    message.item = route[LOCKMGR_ROUTE_ITEM];
+    message.kind = body[LOCKMGR_BODY_KIND];
+    message.a = body[LOCKMGR_BODY_A];
+    message.b = body[LOCKMGR_BODY_B];
     return message;
 }
 
@@ -383,6 +639,113 @@ static inline unsigned lockmgr_deliver_verb(lockmgr_message message)
 {
     return message.direction == LOCKMGR_TO_ITEM ? LOCKMGR_DELIVER_TO_ITEM
                                                 : LOCKMGR_DELIVER_TO_SESSION;
+}
+
+/* ---- Delivering, and more room ------------------------------------------ */
+
+/* 1 if the mail has the length that belongs to its capacity, and no more
+ * messages than that. */
+static inline int lockmgr_mail_readable_(const uint8_t *mail, size_t mail_len)
+{
+    return mail != NULL && mail_len >= LOCKMGR_MAIL_HEADER && lockmgr_mail_capacity(mail) >= 1 &&
+           lockmgr_mail_capacity(mail) <= LOCKMGR_MAX_CAPACITY &&
+           mail_len == LOCKMGR_MAIL_SIZE(lockmgr_mail_capacity(mail)) &&
+           lockmgr_mail_count(mail) <= lockmgr_mail_capacity(mail);
+}
+
+/* The answer of lockmgr_deliver. */
+typedef struct {
+    lockmgr_answer answer;   /* the answer of the step */
+    lockmgr_message message; /* the message that was delivered; all 0 if the
+                              * step was refused */
+    uint8_t event;           /* enum lockmgr_event: what it meant for
+                              * message.session */
+} lockmgr_delivery;
+
+/*
+ * Delivers the message at a place of the mail, 0 being the oldest; or, if
+ * others stand before it on its route, the earliest of them. The answer tells
+ * which message it was and what it meant for its session, so that nobody has
+ * to compare stages.
+ *
+ * Refused like the step that it makes. LOCKMGR_NO_MESSAGE if the mail has no
+ * such place (the mail is empty, say). A null pointer, with any length, is
+ * refused with LOCKMGR_BAD_SIZE.
+ */
+static inline lockmgr_delivery lockmgr_deliver(uint64_t place, uint8_t *table, size_t table_len,
+                                               uint8_t *mail, size_t mail_len)
+{
+    lockmgr_delivery delivery = {{0, 0, 0, 0, 0}, {0, 0, 0, 0, 0, 0}, LOCKMGR_EVENT_NONE};
+    lockmgr_message message, first;
+    unsigned k = 0, before = 0, after;
+    if (table == NULL || mail == NULL) {
+        delivery.answer.refusal = LOCKMGR_BAD_SIZE;
+        return delivery;
+    }
+    if (!lockmgr_mail_readable_(mail, mail_len) || place >= lockmgr_mail_count(mail)) {
+        /* A step of session 0 does nothing, and answers what is wrong with the
+         * buffers if anything is. */
+        delivery.answer =
+            lockmgr_step(LOCKMGR_DELIVER_TO_ITEM, 0, 0, table, table_len, mail, mail_len);
+        if (delivery.answer.refusal == LOCKMGR_BAD_NUMBER)
+            delivery.answer.refusal = LOCKMGR_NO_MESSAGE;
+        return delivery;
+    }
+    message = lockmgr_mail_message(mail, LOCKMGR_CAST_(unsigned, place));
+    do
+        first = lockmgr_mail_message(mail, k++);
+    while (first.direction != message.direction || first.session != message.session ||
+           first.item != message.item);
+    if (first.session > 0 && LOCKMGR_SESSION_PLACE(first.session + 1) <= table_len)
+        before = lockmgr_stage(table, first.session);
+    delivery.answer = lockmgr_step(lockmgr_deliver_verb(first), first.session, first.item, table,
+                                   table_len, mail, mail_len);
+    if (delivery.answer.refusal != LOCKMGR_ACCEPTED)
+        return delivery;
+    delivery.message = first;
+    after = lockmgr_stage(table, first.session);
+    if (before == LOCKMGR_WAITING && after == LOCKMGR_GROWING)
+        delivery.event = LOCKMGR_EVENT_GRANTED;
+    else if (before == LOCKMGR_CLEANING && after == LOCKMGR_WITHDRAWING)
+        delivery.event = LOCKMGR_EVENT_UNDO;
+    else if (before == LOCKMGR_WITHDRAWING && after == LOCKMGR_ROLLED_BACK)
+        delivery.event = LOCKMGR_EVENT_ROLLED_BACK;
+    return delivery;
+}
+
+/*
+ * Copies a mail into a buffer with room for more messages. The table stays as
+ * it is and goes on with the new mail in place of the old one. Every byte of
+ * the new buffer is written; the two must not overlap.
+ *
+ * Answers 0, or LOCKMGR_BAD_SIZE if a pointer is null, the mail has not the
+ * length of its capacity or has more messages than that, the new capacity is
+ * below the old one or above LOCKMGR_MAX_CAPACITY, or
+ *     larger_len != LOCKMGR_MAIL_SIZE(capacity).
+ * Then nothing is written. The messages are not judged; the next step does.
+ */
+static inline uint8_t lockmgr_enlarge_mail(const uint8_t *mail, size_t mail_len, uint64_t capacity,
+                                           uint8_t *larger, size_t larger_len)
+{
+    size_t k, old_capacity, count;
+    if (!lockmgr_mail_readable_(mail, mail_len) || larger == NULL)
+        return LOCKMGR_BAD_SIZE;
+    old_capacity = lockmgr_mail_capacity(mail);
+    count = lockmgr_mail_count(mail);
+    if (capacity < old_capacity || capacity > LOCKMGR_MAX_CAPACITY ||
+        larger_len != LOCKMGR_MAIL_SIZE(capacity))
+        return LOCKMGR_BAD_SIZE;
+    for (k = 0; k < larger_len; k++)
+        larger[k] = 0;
+    larger[LOCKMGR_MAIL_CAPACITY] = LOCKMGR_CAST_(uint8_t, capacity % 256);
+    larger[LOCKMGR_MAIL_CAPACITY + 1] = LOCKMGR_CAST_(uint8_t, capacity / 256);
+    larger[LOCKMGR_MAIL_COUNT] = mail[LOCKMGR_MAIL_COUNT];
+    larger[LOCKMGR_MAIL_COUNT + 1] = mail[LOCKMGR_MAIL_COUNT + 1];
+    for (k = 0; k < LOCKMGR_ROUTE_SIZE * count; k++)
+        larger[LOCKMGR_ROUTE_PLACE(0) + k] = mail[LOCKMGR_ROUTE_PLACE(0) + k];
+    for (k = 0; k < LOCKMGR_BODY_SIZE * count; k++)
+        larger[LOCKMGR_BODY_PLACE(capacity, 0) + k] = mail[LOCKMGR_BODY_PLACE(old_capacity, 0) + k];
+    return LOCKMGR_ACCEPTED;
 }
 
 #ifdef __cplusplus

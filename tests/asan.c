@@ -7,24 +7,13 @@
  */
 #include "lockmgr.h"
 
-#include <stdio.h>
-#include <stdlib.h>
+#include "check.h"
+
 #include <string.h>
 #include <sys/mman.h>
 #include <unistd.h>
 
-static unsigned long calls, accepted, failures;
-
-static void check(int holds, const char *what, int line)
-{
-    if (!holds) {
-        failures++;
-        if (failures <= 20)
-            printf("FAILED, line %d: %s\n", line, what);
-    }
-}
-
-#define CHECK(condition) check(condition, #condition, __LINE__)
+static unsigned long calls, accepted;
 
 /* ---- Buffers ----------------------------------------------------------- */
 
@@ -94,46 +83,88 @@ static int equal(buffer one, buffer other)
            (one.length == 0 || memcmp(one.bytes, other.bytes, one.length) == 0);
 }
 
+/* The two buffers of a lock manager. */
+typedef struct {
+    buffer table, mail;
+} manager;
+
+static manager copied(manager m)
+{
+    manager copy = {resized(m.table, m.table.length), resized(m.mail, m.mail.length)};
+    return copy;
+}
+
+static int same(manager one, manager other)
+{
+    return equal(one.table, other.table) && equal(one.mail, other.mail);
+}
+
+static void drop_both(manager m)
+{
+    drop(m.table);
+    drop(m.mail);
+}
+
+/* The same manager with another buffer in place of one of its own. */
+static manager with_table(manager m, buffer table)
+{
+    m.table = table;
+    return m;
+}
+
+static manager with_mail(manager m, buffer mail)
+{
+    m.mail = mail;
+    return m;
+}
+
 /* ---- Calls, each with a look at what a refusal leaves ------------------- */
 
-static unsigned start(uint64_t sessions, uint64_t items, uint64_t capacity, buffer table, buffer mail)
+/* What start is given. */
+typedef struct {
+    uint64_t sessions, items, capacity;
+} config;
+
+static unsigned start(config c, manager m)
 {
-    buffer table_before = resized(table, table.length);
-    buffer mail_before = resized(mail, mail.length);
-    unsigned refusal = lockmgr_start(sessions, items, capacity,
-                                     table.bytes, table.length, mail.bytes, mail.length);
+    manager before = copied(m);
+    unsigned refusal = lockmgr_start(c.sessions, c.items, c.capacity, m.table.bytes, m.table.length,
+                                     m.mail.bytes, m.mail.length);
     calls++;
     accepted += refusal == LOCKMGR_ACCEPTED;
     CHECK(refusal == LOCKMGR_ACCEPTED || refusal == LOCKMGR_BAD_SIZE);
     if (refusal != LOCKMGR_ACCEPTED)
-        CHECK(equal(table, table_before) && equal(mail, mail_before));
-    drop(table_before);
-    drop(mail_before);
+        CHECK(same(m, before));
+    drop_both(before);
     return refusal;
 }
 
-static lockmgr_answer step(uint64_t verb, uint64_t session, uint64_t item, buffer table, buffer mail)
+static lockmgr_answer step(uint64_t verb, uint64_t session, uint64_t item, manager m)
 {
-    buffer table_before = resized(table, table.length);
-    buffer mail_before = resized(mail, mail.length);
-    lockmgr_answer answer = lockmgr_step(verb, session, item,
-                                         table.bytes, table.length, mail.bytes, mail.length);
+    manager before = copied(m);
+    lockmgr_answer answer = lockmgr_step(verb, session, item, m.table.bytes, m.table.length,
+                                         m.mail.bytes, m.mail.length);
     calls++;
     CHECK(answer.refusal <= LOCKMGR_MAIL_FULL);
     if (answer.refusal != LOCKMGR_ACCEPTED) {
         CHECK(!answer.sent && !answer.closed && !answer.victim && !answer.initiator);
-        CHECK(equal(table, table_before) && equal(mail, mail_before));
+        CHECK(same(m, before));
     } else {
         unsigned taken = verb == LOCKMGR_DELIVER_TO_ITEM || verb == LOCKMGR_DELIVER_TO_SESSION;
         accepted++;
-        CHECK(lockmgr_mail_count(mail.bytes) + taken ==
-              lockmgr_mail_count(mail_before.bytes) + answer.sent);
+        CHECK(lockmgr_mail_count(m.mail.bytes) + taken ==
+              lockmgr_mail_count(before.mail.bytes) + answer.sent);
         CHECK(answer.closed <= 1);
         CHECK((answer.victim == 0) == (answer.initiator == 0));
     }
-    drop(table_before);
-    drop(mail_before);
+    drop_both(before);
     return answer;
+}
+
+/* The refusal of a step. */
+static unsigned refusal_of(uint64_t verb, uint64_t session, uint64_t item, manager m)
+{
+    return step(verb, session, item, m).refusal;
 }
 
 static lockmgr_cycle report(uint64_t session, buffer table)
@@ -151,238 +182,231 @@ static lockmgr_cycle report(uint64_t session, buffer table)
     return cycle;
 }
 
-/* ---- A small random number generator (splitmix64) ----------------------- */
-
-static uint64_t state;
-
-static uint64_t bits(void)
-{
-    uint64_t z = state += UINT64_C(0x9E3779B97F4A7C15);
-    z = (z ^ (z >> 30)) * UINT64_C(0xBF58476D1CE4E5B9);
-    z = (z ^ (z >> 27)) * UINT64_C(0x94D049BB133111EB);
-    return z ^ (z >> 31);
-}
-
-static unsigned between(unsigned low, unsigned high)
-{
-    return low + (unsigned)(bits() % (high - low + 1));
-}
-
 /* ---- Tests -------------------------------------------------------------- */
 
 typedef struct {
-    unsigned sessions, items, capacity, steps;
+    config config;
+    unsigned steps;
 } size;
 
 static const size sizes[] = {
-    {1, 1, 1, 100},    {1, 1, 2, 100},     {2, 2, 2, 200},     {3, 5, 16, 600},
-    {8, 8, 64, 1500},  {16, 15, 256, 800}, {64, 1, 100, 500},  {1, 64, 33, 200},
-    {63, 64, 500, 800}, {64, 64, 4096, 800},
+    {{1, 1, 1}, 100},     {{1, 1, 2}, 100},
+    {{2, 2, 2}, 200},     {{3, 5, 16}, 600},
+    {{8, 8, 64}, 1500},   {{16, 15, 256}, 800},
+    {{64, 1, 100}, 500},  {{1, 64, 33}, 200},
+    {{63, 64, 500}, 800}, {{LOCKMGR_MAX_SESSIONS, LOCKMGR_MAX_ITEMS, LOCKMGR_MAX_CAPACITY}, 800},
 };
 
-/* One step of a run: a message is delivered, or a session asks or releases. */
-static void play(size z, buffer table, buffer mail)
+static unsigned any_session(config c)
 {
-    unsigned count = lockmgr_mail_count(mail.bytes);
+    return between(1, (unsigned)c.sessions);
+}
+
+static unsigned any_item(config c)
+{
+    return between(1, (unsigned)c.items);
+}
+
+/* One step of a run: a message is delivered, or a session asks or releases. */
+static void play(config c, manager m)
+{
+    unsigned count = lockmgr_mail_count(m.mail.bytes);
     if (count > 0 && between(1, 10) <= 6) {
-        lockmgr_message m = lockmgr_mail_message(mail.bytes, between(0, count - 1));
-        lockmgr_answer answer = step(lockmgr_deliver_verb(m), m.session, m.item, table, mail);
-        CHECK(answer.refusal == LOCKMGR_ACCEPTED || answer.refusal == LOCKMGR_MAIL_FULL);
+        lockmgr_message message = lockmgr_mail_message(m.mail.bytes, between(0, count - 1));
+        unsigned refusal =
+            refusal_of(lockmgr_deliver_verb(message), message.session, message.item, m);
+        CHECK(refusal == LOCKMGR_ACCEPTED || refusal == LOCKMGR_MAIL_FULL);
     } else {
         unsigned verb = between(1, 10) == 1 ? LOCKMGR_RELEASE : LOCKMGR_REQUEST;
-        unsigned session = between(1, z.sessions);
-        unsigned item = between(1, z.items);
-        unsigned stage = lockmgr_stage(table.bytes, session);
-        int held = lockmgr_holds(table.bytes, session, item);
-        int fits = verb == LOCKMGR_REQUEST ? stage == LOCKMGR_GROWING && !held
-                                           : (stage == LOCKMGR_GROWING ||
-                                              stage == LOCKMGR_SHRINKING) && held;
-        lockmgr_answer answer = step(verb, session, item, table, mail);
-        CHECK(fits ? answer.refusal == LOCKMGR_ACCEPTED || answer.refusal == LOCKMGR_MAIL_FULL
-                   : answer.refusal == LOCKMGR_WRONG_STAGE || answer.refusal == LOCKMGR_WRONG_ITEM);
+        unsigned session = any_session(c), item = any_item(c);
+        unsigned stage = lockmgr_stage(m.table.bytes, session);
+        int held = lockmgr_holds(m.table.bytes, session, item);
+        int fits = verb == LOCKMGR_REQUEST
+                       ? stage == LOCKMGR_GROWING && !held
+                       : (stage == LOCKMGR_GROWING || stage == LOCKMGR_SHRINKING) && held;
+        unsigned refusal = refusal_of(verb, session, item, m);
+        CHECK(fits ? refusal == LOCKMGR_ACCEPTED || refusal == LOCKMGR_MAIL_FULL
+                   : refusal == LOCKMGR_WRONG_STAGE || refusal == LOCKMGR_WRONG_ITEM);
     }
 }
 
-static void fresh(size z, buffer *table, buffer *mail)
+static manager fresh(config c)
 {
-    *table = new_buffer(LOCKMGR_TABLE_SIZE(z.sessions, z.items));
-    *mail = new_buffer(LOCKMGR_MAIL_SIZE(z.capacity));
-    CHECK(start(z.sessions, z.items, z.capacity, *table, *mail) == LOCKMGR_ACCEPTED);
+    manager m = {new_buffer(LOCKMGR_TABLE_SIZE(c.sessions, c.items)),
+                 new_buffer(LOCKMGR_MAIL_SIZE(c.capacity))};
+    CHECK(start(c, m) == LOCKMGR_ACCEPTED);
+    return m;
 }
 
-/* Start writes every byte; then a run, which a copy follows byte for byte. */
-static void test_runs(size z)
+/* Start writes every byte. */
+static void test_start(config c)
 {
-    buffer table, mail;
-    fresh(z, &table, &mail);
+    manager m = fresh(c);
+    CHECK(m.table.bytes[LOCKMGR_TABLE_SESSIONS] == c.sessions);
+    CHECK(m.table.bytes[LOCKMGR_TABLE_ITEMS] == c.items);
+    CHECK(lockmgr_mail_capacity(m.mail.bytes) == c.capacity);
     size_t others = 0;
-    for (size_t k = 2; k < table.length; k++)
-        others += table.bytes[k] != (k < 2 + 74 * (size_t)z.sessions && (k - 2) % 74 == 0);
-    for (size_t k = 2; k < mail.length; k++)
-        others += mail.bytes[k] != 0;
-    CHECK(others == 0);
-    CHECK(table.bytes[0] == z.sessions && table.bytes[1] == z.items);
-    CHECK(lockmgr_mail_capacity(mail.bytes) == z.capacity);
-
-    for (unsigned k = 0; k < z.steps; k++) {
-        play(z, table, mail);
-        if (k % 8 == 0)
-            CHECK(report(between(1, z.sessions), table).refusal == LOCKMGR_ACCEPTED);
+    for (unsigned k = 1; k <= c.sessions; k++) {
+        others += lockmgr_stage(m.table.bytes, k) != LOCKMGR_GROWING;
+        m.table.bytes[LOCKMGR_SESSION_PLACE(k) + LOCKMGR_SESSION_STAGE] = 0;
     }
+    for (size_t k = LOCKMGR_TABLE_HEADER; k < m.table.length; k++)
+        others += m.table.bytes[k] != 0;
+    for (size_t k = LOCKMGR_MAIL_COUNT; k < m.mail.length; k++)
+        others += m.mail.bytes[k] != 0;
+    CHECK(others == 0);
+    drop_both(m);
+}
 
-    buffer table_copy = resized(table, table.length);
-    buffer mail_copy = resized(mail, mail.length);
-    uint64_t seed = state;
+/* A run, which a copy then follows byte for byte. */
+static void test_runs(config c, unsigned steps)
+{
+    manager m = fresh(c);
+    for (unsigned k = 0; k < steps; k++) {
+        play(c, m);
+        if (k % 8 == 0)
+            CHECK(report(any_session(c), m.table).refusal == LOCKMGR_ACCEPTED);
+    }
+    manager copy = copied(m);
+    uint64_t seed = random_state;
     for (int k = 0; k < 20; k++)
-        play(z, table, mail);
-    state = seed;
+        play(c, m);
+    random_state = seed;
     for (int k = 0; k < 20; k++)
-        play(z, table_copy, mail_copy);
-    CHECK(equal(table, table_copy) && equal(mail, mail_copy));
-    drop(table_copy);
-    drop(mail_copy);
-    drop(table);
-    drop(mail);
+        play(c, copy);
+    CHECK(same(m, copy));
+    drop_both(copy);
+    drop_both(m);
 }
 
 /* Each buffer too short or too long, down to nothing. */
-static void test_lengths(size z)
+static void test_lengths(config c)
 {
-    buffer table, mail;
-    fresh(z, &table, &mail);
-    for (int k = 0; k < 8; k++) {
-        static const size_t small[] = {0, 1, 2, 3, 4, 5};
-        size_t table_length = k < 6 ? small[k] : k == 6 ? table.length - 1 : table.length + 1;
-        size_t mail_length = k < 6 ? small[k] : k == 6 ? mail.length - 1 : mail.length + 1;
-        buffer bad_table = resized(table, table_length);
-        buffer bad_mail = resized(mail, mail_length);
-        CHECK(start(z.sessions, z.items, z.capacity, bad_table, mail) == LOCKMGR_BAD_SIZE);
-        CHECK(start(z.sessions, z.items, z.capacity, table, bad_mail) == LOCKMGR_BAD_SIZE);
-        for (unsigned verb = 1; verb <= 4; verb++) {
-            CHECK(step(verb, 1, 1, bad_table, mail).refusal == LOCKMGR_BAD_SIZE);
-            CHECK(step(verb, 1, 1, table, bad_mail).refusal == LOCKMGR_BAD_SIZE);
-            CHECK(step(verb, 1, 1, bad_table, bad_mail).refusal == LOCKMGR_BAD_SIZE);
+    manager m = fresh(c);
+    for (size_t k = 0; k < 8; k++) {
+        size_t table_length = k < 6 ? k : k == 6 ? m.table.length - 1 : m.table.length + 1;
+        size_t mail_length = k < 6 ? k : k == 6 ? m.mail.length - 1 : m.mail.length + 1;
+        manager both = {resized(m.table, table_length), resized(m.mail, mail_length)};
+        manager table = with_table(m, both.table), mail = with_mail(m, both.mail);
+        CHECK(start(c, table) == LOCKMGR_BAD_SIZE);
+        CHECK(start(c, mail) == LOCKMGR_BAD_SIZE);
+        for (unsigned verb = LOCKMGR_REQUEST; verb <= LOCKMGR_DELIVER_TO_SESSION; verb++) {
+            CHECK(refusal_of(verb, 1, 1, table) == LOCKMGR_BAD_SIZE);
+            CHECK(refusal_of(verb, 1, 1, mail) == LOCKMGR_BAD_SIZE);
+            CHECK(refusal_of(verb, 1, 1, both) == LOCKMGR_BAD_SIZE);
         }
-        CHECK(step(0, 1, 1, bad_table, bad_mail).refusal == LOCKMGR_BAD_VERB);
-        CHECK(report(1, bad_table).refusal == LOCKMGR_BAD_SIZE);
-        drop(bad_table);
-        drop(bad_mail);
+        CHECK(refusal_of(0, 1, 1, both) == LOCKMGR_BAD_VERB);
+        CHECK(report(1, both.table).refusal == LOCKMGR_BAD_SIZE);
+        drop_both(both);
     }
-    drop(table);
-    drop(mail);
+    drop_both(m);
 }
 
 static void test_null(void)
 {
-    buffer none = {NULL, 0, NULL, 0};
-    buffer table, mail;
-    fresh(sizes[2], &table, &mail);
-    CHECK(lockmgr_start(1, 1, 1, NULL, 0, NULL, 0) == LOCKMGR_BAD_SIZE);
-    CHECK(lockmgr_start(2, 2, 2, NULL, 0, mail.bytes, mail.length) == LOCKMGR_BAD_SIZE);
-    CHECK(lockmgr_start(2, 2, 2, table.bytes, table.length, NULL, 0) == LOCKMGR_BAD_SIZE);
-    CHECK(lockmgr_step(1, 1, 1, NULL, 0, NULL, 0).refusal == LOCKMGR_BAD_SIZE);
-    CHECK(lockmgr_step(1, 1, 1, NULL, 0, mail.bytes, mail.length).refusal == LOCKMGR_BAD_SIZE);
-    CHECK(lockmgr_step(1, 1, 1, table.bytes, table.length, NULL, 0).refusal == LOCKMGR_BAD_SIZE);
-    CHECK(lockmgr_step(5, 1, 1, NULL, 0, NULL, 0).refusal == LOCKMGR_BAD_VERB);
-    CHECK(lockmgr_report(1, NULL, 0).refusal == LOCKMGR_BAD_SIZE);
-    calls += 8;
-    CHECK(step(1, 1, 1, none, none).refusal == LOCKMGR_BAD_SIZE);
-    drop(table);
-    drop(mail);
+    const config c = {2, 2, 2};
+    const buffer none = {NULL, 0, NULL, 0};
+    manager m = fresh(c);
+    manager no_table = with_table(m, none), no_mail = with_mail(m, none);
+    manager nothing = with_mail(no_table, none);
+    CHECK(start(c, no_table) == LOCKMGR_BAD_SIZE);
+    CHECK(start(c, no_mail) == LOCKMGR_BAD_SIZE);
+    CHECK(start(c, nothing) == LOCKMGR_BAD_SIZE);
+    CHECK(refusal_of(LOCKMGR_REQUEST, 1, 1, no_table) == LOCKMGR_BAD_SIZE);
+    CHECK(refusal_of(LOCKMGR_REQUEST, 1, 1, no_mail) == LOCKMGR_BAD_SIZE);
+    CHECK(refusal_of(LOCKMGR_REQUEST, 1, 1, nothing) == LOCKMGR_BAD_SIZE);
+    CHECK(refusal_of(LOCKMGR_DELIVER_TO_SESSION + 1, 1, 1, nothing) == LOCKMGR_BAD_VERB);
+    CHECK(report(1, none).refusal == LOCKMGR_BAD_SIZE);
+    drop_both(m);
 }
 
 /* Numbers out of bounds, and such as would be right if they were cut off. */
-static void test_numbers(size z)
+static void test_numbers(config c)
 {
-    static const uint64_t added[] = {
-        UINT64_C(1) << 8, UINT64_C(1) << 16, UINT64_C(1) << 32, UINT64_C(1) << 63,
-    };
-    buffer table, mail;
-    fresh(z, &table, &mail);
-    CHECK(start(0, z.items, z.capacity, table, mail) == LOCKMGR_BAD_SIZE);
-    CHECK(start(z.sessions, 0, z.capacity, table, mail) == LOCKMGR_BAD_SIZE);
-    CHECK(start(z.sessions, z.items, 0, table, mail) == LOCKMGR_BAD_SIZE);
-    CHECK(step(1, 0, 1, table, mail).refusal == LOCKMGR_BAD_NUMBER);
-    CHECK(step(1, 1, 0, table, mail).refusal == LOCKMGR_BAD_NUMBER);
-    CHECK(step(1, z.sessions + 1, 1, table, mail).refusal == LOCKMGR_BAD_NUMBER);
-    CHECK(step(1, 1, z.items + 1, table, mail).refusal == LOCKMGR_BAD_NUMBER);
-    CHECK(report(0, table).refusal == LOCKMGR_BAD_NUMBER);
-    CHECK(report(z.sessions + 1, table).refusal == LOCKMGR_BAD_NUMBER);
-    CHECK(step(3, z.sessions, z.items, table, mail).refusal == LOCKMGR_NO_MESSAGE);
-    CHECK(step(4, z.sessions, z.items, table, mail).refusal == LOCKMGR_NO_MESSAGE);
-    for (size_t k = 0; k < sizeof added / sizeof added[0]; k++) {
-        CHECK(start(added[k] + z.sessions, z.items, z.capacity, table, mail) == LOCKMGR_BAD_SIZE);
-        CHECK(start(z.sessions, added[k] + z.items, z.capacity, table, mail) == LOCKMGR_BAD_SIZE);
-        if (added[k] > LOCKMGR_MAX_CAPACITY)
-            CHECK(start(z.sessions, z.items, added[k] + z.capacity, table, mail) ==
-                  LOCKMGR_BAD_SIZE);
-        CHECK(step(added[k] + 1, 1, 1, table, mail).refusal == LOCKMGR_BAD_VERB);
-        CHECK(step(1, added[k] + 1, 1, table, mail).refusal == LOCKMGR_BAD_NUMBER);
-        CHECK(step(1, 1, added[k] + 1, table, mail).refusal == LOCKMGR_BAD_NUMBER);
-        CHECK(report(added[k] + 1, table).refusal == LOCKMGR_BAD_NUMBER);
+    static const unsigned added_bits[] = {8, 16, 32, 63};
+    manager m = fresh(c);
+    for (size_t k = 0; k <= LENGTH(added_bits); k++) {
+        /* First 0 in place of each number, then more than each. */
+        uint64_t added = k == 0 ? 0 : UINT64_C(1) << added_bits[k - 1];
+        config sessions = c, items = c, capacity = c;
+        sessions.sessions = added ? added + c.sessions : 0;
+        items.items = added ? added + c.items : 0;
+        capacity.capacity = added ? added + c.capacity : 0;
+        CHECK(start(sessions, m) == LOCKMGR_BAD_SIZE);
+        CHECK(start(items, m) == LOCKMGR_BAD_SIZE);
+        CHECK(start(capacity, m) == LOCKMGR_BAD_SIZE);
+        uint64_t bad = added ? added + 1 : 0;
+        CHECK(refusal_of(bad, 1, 1, m) == LOCKMGR_BAD_VERB);
+        CHECK(refusal_of(LOCKMGR_REQUEST, bad, 1, m) == LOCKMGR_BAD_NUMBER);
+        CHECK(refusal_of(LOCKMGR_REQUEST, 1, bad, m) == LOCKMGR_BAD_NUMBER);
+        CHECK(report(bad, m.table).refusal == LOCKMGR_BAD_NUMBER);
     }
-    drop(table);
-    drop(mail);
+    CHECK(refusal_of(LOCKMGR_REQUEST, c.sessions + 1, 1, m) == LOCKMGR_BAD_NUMBER);
+    CHECK(refusal_of(LOCKMGR_REQUEST, 1, c.items + 1, m) == LOCKMGR_BAD_NUMBER);
+    CHECK(report(c.sessions + 1, m.table).refusal == LOCKMGR_BAD_NUMBER);
+    CHECK(refusal_of(LOCKMGR_DELIVER_TO_ITEM, c.sessions, c.items, m) == LOCKMGR_NO_MESSAGE);
+    CHECK(refusal_of(LOCKMGR_DELIVER_TO_SESSION, c.sessions, c.items, m) == LOCKMGR_NO_MESSAGE);
+    drop_both(m);
+}
+
+static void fill(buffer b, unsigned highest)
+{
+    for (size_t k = 0; k < b.length; k++)
+        b.bytes[k] = (uint8_t)between(0, highest);
 }
 
 /* Garbage: random bytes behind right or wrong numbers, or a run's buffers with
  * a few bytes changed. */
-static void test_garbage(size z)
+static void test_garbage(config c)
 {
-    buffer table, mail;
-    fresh(z, &table, &mail);
+    manager m = fresh(c);
     for (unsigned round = 0; round < 60; round++) {
         if (round % 2 == 0) {
-            unsigned most = round % 4 == 0 ? 255 : z.sessions + 1;
-            for (size_t k = 0; k < table.length; k++)
-                table.bytes[k] = (uint8_t)between(0, most);
-            for (size_t k = 0; k < mail.length; k++)
-                mail.bytes[k] = (uint8_t)between(0, most);
+            unsigned highest = round % 4 == 0 ? 255 : (unsigned)c.sessions + 1;
+            fill(m.table, highest);
+            fill(m.mail, highest);
             if (round % 3 != 0) {
-                table.bytes[0] = (uint8_t)z.sessions;
-                table.bytes[1] = (uint8_t)z.items;
-                mail.bytes[0] = (uint8_t)(z.capacity & 255);
-                mail.bytes[1] = (uint8_t)(z.capacity >> 8);
+                m.table.bytes[LOCKMGR_TABLE_SESSIONS] = (uint8_t)c.sessions;
+                m.table.bytes[LOCKMGR_TABLE_ITEMS] = (uint8_t)c.items;
+                m.mail.bytes[LOCKMGR_MAIL_CAPACITY] = (uint8_t)(c.capacity & 255);
+                m.mail.bytes[LOCKMGR_MAIL_CAPACITY + 1] = (uint8_t)(c.capacity >> 8);
             }
         } else {
-            CHECK(start(z.sessions, z.items, z.capacity, table, mail) == LOCKMGR_ACCEPTED);
+            CHECK(start(c, m) == LOCKMGR_ACCEPTED);
             for (int k = 0; k < 20; k++)
-                play(z, table, mail);
+                play(c, m);
             for (unsigned k = between(1, 3); k > 0; k--) {
-                buffer *changed = between(1, 2) == 1 ? &table : &mail;
-                changed->bytes[bits() % changed->length] = (uint8_t)bits();
+                buffer changed = between(1, 2) == 1 ? m.table : m.mail;
+                changed.bytes[bits() % changed.length] = (uint8_t)bits();
             }
         }
-        for (unsigned verb = 0; verb <= 5; verb++)
-            step(verb, between(0, z.sessions), between(0, z.items), table, mail);
-        report(between(0, z.sessions), table);
+        for (unsigned verb = 0; verb <= LOCKMGR_DELIVER_TO_SESSION + 1; verb++)
+            step(verb, between(0, (unsigned)c.sessions), between(0, (unsigned)c.items), m);
+        report(between(0, (unsigned)c.sessions), m.table);
     }
-    drop(table);
-    drop(mail);
+    drop_both(m);
 }
 
 int main(void)
 {
     static const char *const names[] = {
-        "heap blocks", "a guard page behind", "a guard page before",
+        "heap blocks",
+        "a guard page behind",
+        "a guard page before",
     };
     for (placed = HEAP; placed <= PAGES_BEFORE; placed++) {
         unsigned long calls_before = calls, accepted_before = accepted;
-        state = 1;
+        random_state = 1;
         test_null();
-        for (size_t k = 0; k < sizeof sizes / sizeof sizes[0]; k++) {
-            test_runs(sizes[k]);
-            test_lengths(sizes[k]);
-            test_numbers(sizes[k]);
-            test_garbage(sizes[k]);
+        for (size_t k = 0; k < LENGTH(sizes); k++) {
+            test_start(sizes[k].config);
+            test_runs(sizes[k].config, sizes[k].steps);
+            test_lengths(sizes[k].config);
+            test_numbers(sizes[k].config);
+            test_garbage(sizes[k].config);
         }
         printf("%-20s %7lu calls, %7lu accepted\n", names[placed], calls - calls_before,
                accepted - accepted_before);
     }
-    if (failures > 0) {
-        printf("%lu checks failed\n", failures);
-        return 1;
-    }
-    printf("no fault\n");
-    return 0;
+    return verdict();
 }

@@ -1,0 +1,99 @@
+#!/usr/bin/env bash
+# Lists of steps, good and bad: the trace, the Graphviz file, and one clear line
+# with a failing exit for everything that is wrong.
+set -euo pipefail
+cd "$(dirname "${BASH_SOURCE[0]}")/.."
+folder=$(mktemp -d)
+trap 'rm -rf "$folder"' EXIT
+failures=0
+
+fault() {
+    echo "FAILED: $1"
+    failures=$((failures + 1))
+}
+
+# refuses TEXT COMMAND..: the command fails, with one line that has the text.
+refuses() {
+    local text=$1
+    shift
+    if "$@" > "$folder/out" 2> "$folder/err"; then
+        fault "accepted: $*"
+    elif [ "$(wc -l < "$folder/err")" != 1 ] || ! grep -qF -- "$text" "$folder/err"; then
+        fault "$* says: $(cat "$folder/err")"
+    fi
+}
+
+# steps TEXT..: a file with these lines.
+steps() {
+    printf '%s\n' "$@" > "$folder/steps"
+    echo "$folder/steps"
+}
+
+input=scripts/replay-input
+refuses "No such file" $input "$folder/missing"
+refuses "Is a directory" $input "$folder"
+refuses "more than one file" $input a b
+refuses "no line with the numbers" $input "$(steps '# nothing')"
+refuses "line 1: expected the numbers" $input "$(steps '2')"
+refuses "line 2: number of sessions 0 is not 1 to 64" $input "$(steps '#' '0 1')"
+refuses "line 1: number of sessions 65" $input "$(steps '65 1')"
+refuses "line 1: number of items 65" $input "$(steps '1 65')"
+refuses "line 1: number of items 99999999999999999999" $input "$(steps '1 99999999999999999999')"
+refuses "line 3: expected a verb, a session and an item" $input "$(steps '2 2' '1 1 1' '1 1')"
+refuses "line 2: no verb is called 'ask'" $input "$(steps '2 2' 'ask 1 1')"
+refuses "line 2: verb 256 is not 0 to 255" $input "$(steps '2 2' '256 1 1')"
+refuses "line 2: session 256" $input "$(steps '2 2' '1 256 1')"
+refuses "line 2: item '-1' is no number" $input "$(steps '2 2' '1 1 -1')"
+refuses "line 2: item 'x' is no number" $input "$(steps '2 2' '1 1 x')"
+{ echo '2 2'; seq 4096 | sed 's/.*/9 0 255/'; } > "$folder/longest"
+$input "$folder/longest" > "$folder/in" || fault "4096 steps are refused"
+build/bin/replay < "$folder/in" > "$folder/out"
+[ "$(tail -n 1 "$folder/out")" = 'end 0 0 0 0' ] || fault "4096 steps"
+build/bin/trace "$folder/in" "$folder/out" > "$folder/trace" || fault "the trace of 4096 steps"
+[ "$(grep -cx '      refused: bad verb' "$folder/trace")" = 4096 ] || fault "4096 refusals"
+echo '1 1 1' >> "$folder/longest"
+refuses "line 4098: more than 4096 steps" $input "$folder/longest"
+printf '2 2\n\377\376 1 1\n' > "$folder/bytes"
+refuses "not a text file" $input "$folder/bytes"
+grep -q '^usage' <<< "$($input --help)" || fault "replay-input --help"
+if [ -w /dev/full ] && $input examples/two_sessions.steps > /dev/full 2> "$folder/err"; then
+    fault "a failure to write is silent"
+fi
+
+# The trace, from a file with a space in its name.
+cp examples/two_sessions.steps "$folder/two sessions.steps"
+make --no-print-directory --silent replay FILE="$folder/two sessions.steps" STEP=10 \
+    DOT="$folder/the waits.dot" LIB="$LOCKMGR_LIB" > "$folder/trace"
+for text in "10 3 2 1 0 0 1 0 0" \
+    "      CYCLE CLOSED: session 2 waits for session 1 waits for session 2" \
+    "      session 2 waits for item 1 held by session 1" \
+    "      sent: probe (1, 2) to session 2" \
+    "      DEADLOCK DECLARED: session 2 is the victim, session 1 the initiator" \
+    "      session 2 is rolled back" "end 0 1 1 1"; do
+    grep -qxF -- "$text" "$folder/trace" || fault "the trace has no line: $text"
+done
+[ "$(grep -c 'color=red' "$folder/the waits.dot")" = 8 ] || fault "the cycle is not drawn"
+if make --no-print-directory --silent replay FILE="$folder/missing" LIB="$LOCKMGR_LIB" \
+    > "$folder/out" 2>&1; then
+    fault "make replay accepts a missing file"
+fi
+
+trace=build/bin/trace
+$input examples/two_sessions.steps > "$folder/in"
+build/bin/replay < "$folder/in" > "$folder/out1"
+grep -q '^usage' <<< "$($trace --help)" || fault "trace --help"
+refuses "No such file" $trace "$folder/missing" "$folder/out1"
+refuses "No such file" $trace "$folder/in" "$folder/missing"
+refuses "not the input" $trace "$folder/out1" "$folder/out1"
+refuses "there are the steps 1 to 22" $trace "$folder/in" "$folder/out1" 23 "$folder/dot"
+refuses "no step 'x'" $trace "$folder/in" "$folder/out1" x "$folder/dot"
+refuses "No such file" $trace "$folder/in" "$folder/out1" 1 "$folder/none/dot"
+sed 's/^10 3 2 1 0 0 1/10 3 2 1 0 0 0/' "$folder/out1" > "$folder/out2"
+refuses "the library answers otherwise" $trace "$folder/in" "$folder/out2"
+head -n 21 "$folder/out1" > "$folder/out2"
+refuses "ends before step 22" $trace "$folder/in" "$folder/out2"
+echo bad > "$folder/out2"
+refuses "the library answers otherwise" $trace "$folder/in" "$folder/out2"
+
+[ $failures = 0 ] || exit 1
+echo "lists of steps: no fault"

@@ -1,0 +1,353 @@
+/*
+ * Room in the mail, as the header tells it: mailboxes that jam, and the two
+ * rules under which the capacity of LOCKMGR_CAPACITY is enough, driven through
+ * the worst cases known and through random runs.
+ */
+#include "lockmgr.h"
+
+#include "check.h"
+
+enum { S = LOCKMGR_MAX_SESSIONS, M = LOCKMGR_MAX_ITEMS, ENOUGH = LOCKMGR_CAPACITY(S, M) };
+
+static uint8_t table[LOCKMGR_TABLE_SIZE(S, M)];
+static uint8_t mail[LOCKMGR_MAIL_SIZE(LOCKMGR_MAX_CAPACITY)];
+static uint8_t larger[LOCKMGR_MAIL_SIZE(LOCKMGR_MAX_CAPACITY)];
+static size_t table_len, mail_len;
+
+/* The greatest count of messages since the start. */
+static unsigned peak;
+
+static unsigned count(void)
+{
+    return lockmgr_mail_count(mail);
+}
+
+static void start(unsigned sessions, unsigned items, unsigned capacity)
+{
+    lockmgr_options options = lockmgr_default_options(sessions, items);
+    options.capacity = capacity;
+    table_len = LOCKMGR_TABLE_SIZE(sessions, items);
+    mail_len = LOCKMGR_MAIL_SIZE(capacity);
+    peak = 0;
+    CHECK(lockmgr_start_with(&options, table, table_len, mail, mail_len) == LOCKMGR_ACCEPTED);
+}
+
+/* A request or a release; its refusal. */
+static unsigned call(unsigned verb, unsigned session, unsigned item)
+{
+    unsigned refusal = lockmgr_step(verb, session, item, table, table_len, mail, mail_len).refusal;
+    if (count() > peak)
+        peak = count();
+    return refusal;
+}
+
+static unsigned deliver(unsigned place)
+{
+    unsigned refusal = lockmgr_deliver(place, table, table_len, mail, mail_len).answer.refusal;
+    if (count() > peak)
+        peak = count();
+    return refusal;
+}
+
+/* Which message comes next: a place of the mail. */
+typedef unsigned (*order)(void);
+
+static unsigned oldest(void)
+{
+    return 0;
+}
+
+static unsigned any(void)
+{
+    return between(0, count() - 1);
+}
+
+/* The oldest message of a kind that does not come last, else the oldest. */
+static unsigned sooner(int comes_last(unsigned kind))
+{
+    for (unsigned k = 0; k < count(); k++)
+        if (!comes_last(lockmgr_mail_message(mail, k).kind))
+            return k;
+    return 0;
+}
+
+static int comes_last(unsigned kind)
+{
+    return kind == LOCKMGR_MSG_REBROADCAST || kind == LOCKMGR_MSG_PROBE ||
+           kind == LOCKMGR_MSG_RESEND || kind == LOCKMGR_MSG_GRANT;
+}
+
+static unsigned spreading_last(void)
+{
+    return sooner(comes_last);
+}
+
+/* Delivers until the mail is empty: 1, or 0 if a delivery is refused. */
+static int drain(order next)
+{
+    while (count() > 0)
+        if (deliver(next()) != LOCKMGR_ACCEPTED)
+            return 0;
+    return 1;
+}
+
+/* A request or a release, then a drain. */
+static int call_and_drain(unsigned verb, unsigned session, unsigned item, order next)
+{
+    return call(verb, session, item) == LOCKMGR_ACCEPTED && drain(next);
+}
+
+/* 1 if the mail holds messages and every delivery is refused for lack of room. */
+static int jammed(void)
+{
+    for (unsigned k = 0; k < count(); k++)
+        if (deliver(k) != LOCKMGR_MAIL_FULL)
+            return 0;
+    return count() > 0;
+}
+
+/* A jammed mail is moved into a larger one, where it empties, oldest first. */
+static void check_rescue(unsigned capacity)
+{
+    size_t larger_len = LOCKMGR_MAIL_SIZE(capacity);
+    unsigned before = count();
+    CHECK(lockmgr_enlarge_mail(mail, mail_len, capacity, larger, larger_len) == LOCKMGR_ACCEPTED);
+    for (size_t k = 0; k < larger_len; k++)
+        mail[k] = larger[k];
+    mail_len = larger_len;
+    CHECK(count() == before && lockmgr_mail_capacity(mail) == capacity);
+    CHECK(drain(oldest));
+    for (unsigned session = 1; session <= table[LOCKMGR_TABLE_SESSIONS]; session++)
+        CHECK(lockmgr_report(session, table, table_len).length == 0);
+}
+
+/* ---- Jams ---------------------------------------------------------------- */
+
+/* The most junior session but one stands first in the queue of 63; the release
+ * would send a grant, 62 probes and 62 resends. 1 if it is delivered. */
+static int release_with_long_queue(unsigned capacity)
+{
+    start(S, 1, capacity);
+    CHECK(call_and_drain(LOCKMGR_REQUEST, S, 1, oldest));
+    for (unsigned session = S - 1; session >= 1; session--)
+        CHECK(call_and_drain(LOCKMGR_REQUEST, session, 1, oldest));
+    CHECK(call(LOCKMGR_RELEASE, S, 1) == LOCKMGR_ACCEPTED);
+    CHECK(count() == 1);
+    return drain(oldest);
+}
+
+static void test_one_message(void)
+{
+    CHECK(!release_with_long_queue(124));
+    CHECK(count() == 1 && jammed());
+    check_rescue(125);
+    CHECK(release_with_long_queue(125));
+}
+
+/* A pump that leaves rebroadcasts alone as long as there is anything else.
+ * Session 32 holds the items 1 to 32, for 31 of which a senior session waits,
+ * and waits at item 33 behind the sessions 33 to 64. Each of these, once it
+ * holds item 33, asks for item 1 and becomes the victim; its clean makes
+ * session 32 send 31 rebroadcasts, each of which would send two messages. */
+static int is_rebroadcast(unsigned kind)
+{
+    return kind == LOCKMGR_MSG_REBROADCAST;
+}
+
+/* 1, or 0 if a delivery is refused. */
+static int deliver_all_but_rebroadcasts(void)
+{
+    while (count() > 0) {
+        unsigned place = sooner(is_rebroadcast);
+        if (is_rebroadcast(lockmgr_mail_message(mail, place).kind))
+            return 1;
+        if (deliver(place) != LOCKMGR_ACCEPTED)
+            return 0;
+    }
+    return 1;
+}
+
+static void test_passed_over(void)
+{
+    enum { HUB = 32, CAPACITY = 993 };
+    start(S, HUB + 1, CAPACITY);
+    for (unsigned item = 1; item <= HUB; item++)
+        CHECK(call_and_drain(LOCKMGR_REQUEST, HUB, item, oldest));
+    for (unsigned session = 1; session < HUB; session++)
+        CHECK(call_and_drain(LOCKMGR_REQUEST, session, session + 1, oldest));
+    for (unsigned session = HUB + 1; session <= S; session++)
+        CHECK(call_and_drain(LOCKMGR_REQUEST, session, HUB + 1, oldest));
+    CHECK(call_and_drain(LOCKMGR_REQUEST, HUB, HUB + 1, oldest));
+    for (unsigned session = HUB + 1; session <= S; session++) {
+        CHECK(call(LOCKMGR_REQUEST, session, 1) == LOCKMGR_ACCEPTED);
+        CHECK(deliver_all_but_rebroadcasts() == (session < S));
+        CHECK(count() == 31 * (session - HUB) + (session == S));
+    }
+    CHECK(count() == CAPACITY && jammed());
+    CHECK(lockmgr_report(HUB, table, table_len).length == 2);
+    check_rescue(LOCKMGR_MAX_CAPACITY);
+}
+
+/* Calls and deliveries in any order. 1 if the mail jams. */
+static int random_run(unsigned sessions, unsigned items, unsigned capacity, unsigned steps)
+{
+    start(sessions, items, capacity);
+    for (unsigned k = 0; k < steps; k++) {
+        if (count() > 0 && between(1, 10) <= 4) {
+            if (deliver(any()) == LOCKMGR_MAIL_FULL && jammed())
+                return 1;
+        } else {
+            unsigned verb = between(1, 12) == 1 ? LOCKMGR_RELEASE : LOCKMGR_REQUEST;
+            call(verb, between(1, sessions), between(1, items));
+        }
+    }
+    return 0;
+}
+
+static void test_random_pump(void)
+{
+    static const unsigned capacities[] = {40, 100};
+    for (size_t k = 0; k < LENGTH(capacities); k++) {
+        unsigned jams = 0;
+        random_state = 1;
+        for (unsigned run = 0; run < 40; run++)
+            jams += (unsigned)random_run(S, between(1, 8), capacities[k], 3000);
+        printf("random pump, capacity %u: %u of 40 runs jam\n", capacities[k], jams);
+        CHECK(jams > 0);
+    }
+}
+
+/* ---- The worst cases known, S = M = 64 ------------------------------------ */
+
+/* Rule 1, oldest first. 1 if no delivery is refused. */
+static int worst_oldest_first(unsigned capacity)
+{
+    int fits = 1;
+    start(S, M, capacity);
+    fits &= call_and_drain(LOCKMGR_REQUEST, S - 1, 1, oldest);
+    for (unsigned session = 1; session <= S - 2; session++)
+        fits &= call_and_drain(LOCKMGR_REQUEST, session, 1, oldest);
+    fits &= call_and_drain(LOCKMGR_REQUEST, S, 2, oldest);
+    fits &= call_and_drain(LOCKMGR_REQUEST, S, 1, oldest);
+    for (unsigned item = 3; item <= M; item++)
+        fits &= call_and_drain(LOCKMGR_REQUEST, S - 1, item, oldest);
+    return fits & call_and_drain(LOCKMGR_REQUEST, S - 1, 2, oldest);
+}
+
+/* Rule 1, messages that spread delivered last. */
+static int worst_any_order(unsigned capacity)
+{
+    int fits = 1;
+    start(S, M, capacity);
+    fits &= call_and_drain(LOCKMGR_REQUEST, S, 1, spreading_last);
+    for (unsigned item = 2; item <= M; item++)
+        fits &= call_and_drain(LOCKMGR_REQUEST, 2, item, spreading_last);
+    fits &= call_and_drain(LOCKMGR_REQUEST, S - 1, 1, spreading_last);
+    for (unsigned session = 1; session <= S - 2; session++)
+        if (session != 2)
+            fits &= call_and_drain(LOCKMGR_REQUEST, session, 1, spreading_last);
+    fits &= call_and_drain(LOCKMGR_REQUEST, S, 2, spreading_last);
+    return fits & call_and_drain(LOCKMGR_REQUEST, 2, 1, spreading_last);
+}
+
+/* Rule 2. */
+static int worst_calls_at_any_time(unsigned capacity)
+{
+    int fits = 1;
+    start(S, M, capacity);
+    for (unsigned item = 1; item <= M; item++)
+        fits &= call_and_drain(LOCKMGR_REQUEST, S, item, oldest);
+    for (unsigned session = S - 1; session >= 1; session--)
+        fits &= call(LOCKMGR_REQUEST, session, 1) == LOCKMGR_ACCEPTED;
+    fits &= call(LOCKMGR_RELEASE, S, 1) == LOCKMGR_ACCEPTED;
+    for (unsigned item = 2; item <= M; item++) {
+        fits &= deliver(0) == LOCKMGR_ACCEPTED;
+        fits &= call(LOCKMGR_RELEASE, S, item) == LOCKMGR_ACCEPTED;
+    }
+    return fits & drain(oldest);
+}
+
+static void test_worst(const char *name, int worst(unsigned capacity), unsigned needed)
+{
+    CHECK(worst(ENOUGH));
+    CHECK(peak == needed);
+    printf("%s: at most %u messages, of %u\n", name, peak, (unsigned)ENOUGH);
+    CHECK(worst(needed));
+    CHECK(!worst(needed - 1));
+}
+
+/* ---- Random runs under the rules ------------------------------------------ */
+
+/* A request or a release at random, of one of so many items. */
+static void random_call(unsigned items)
+{
+    for (unsigned k = 0; k < 8; k++) {
+        unsigned session = between(1, S), item = between(1, items);
+        unsigned stage = lockmgr_stage(table, session);
+        int held = lockmgr_holds(table, session, item);
+        if (stage == LOCKMGR_GROWING && !held) {
+            CHECK(call(LOCKMGR_REQUEST, session, item) == LOCKMGR_ACCEPTED);
+            return;
+        }
+        if (held && (stage == LOCKMGR_SHRINKING || between(1, 10) == 1)) {
+            unsigned refusal = call(LOCKMGR_RELEASE, session, item);
+            CHECK(refusal == LOCKMGR_ACCEPTED || refusal == LOCKMGR_WRONG_STAGE);
+            return;
+        }
+    }
+}
+
+/* Few items are asked for more often than many. */
+static unsigned few_or_many(unsigned run)
+{
+    static const unsigned items[] = {M, 3, 12, 6};
+    return items[run % LENGTH(items)];
+}
+
+static void test_rule_1(void)
+{
+    unsigned most = 0;
+    random_state = 7;
+    for (unsigned run = 0; run < 12; run++) {
+        static const order orders[] = {any, oldest, spreading_last};
+        start(S, M, ENOUGH);
+        for (unsigned k = 0; k < 400; k++) {
+            random_call(few_or_many(run));
+            CHECK(drain(orders[run % LENGTH(orders)]));
+        }
+        most = peak > most ? peak : most;
+    }
+    printf("rule 1, random runs: at most %u messages\n", most);
+}
+
+static void test_rule_2(void)
+{
+    unsigned most = 0;
+    random_state = 8;
+    for (unsigned run = 0; run < 12; run++) {
+        start(S, M, ENOUGH);
+        for (unsigned k = 0; k < 1500; k++) {
+            if (count() > 0 && between(0, 11) > run)
+                CHECK(deliver(0) == LOCKMGR_ACCEPTED);
+            else
+                random_call(few_or_many(run));
+        }
+        CHECK(drain(oldest));
+        most = peak > most ? peak : most;
+    }
+    printf("rule 2, random runs: at most %u messages\n", most);
+}
+
+int main(void)
+{
+    setvbuf(stdout, NULL, _IOLBF, 0);
+    test_one_message();
+    test_passed_over();
+    test_random_pump();
+    test_worst("rule 1, oldest first", worst_oldest_first, 249);
+    test_worst("rule 1, any order", worst_any_order, 312);
+    test_worst("rule 2", worst_calls_at_any_time, 251);
+    test_rule_1();
+    test_rule_2();
+    return verdict();
+}
