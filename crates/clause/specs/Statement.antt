@@ -1,4 +1,4 @@
--- The clause: what holds of a lock manager that was started, after every list of calls, in any order, refused ones included. RULES is docs/RULES.md.
+-- The clause: what holds of a lock manager (01: desk) that was started, after every list of calls, in any order, refused ones included. RULES is docs/RULES.md.
 use Prim.Native.Nat.{ℕ, _+_, _≤_}
 use mathlib.Core.Path.{_≡_}
 use mathlib.Core.Bool.{Bool, false, _&&_}

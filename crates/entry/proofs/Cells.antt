@@ -14,8 +14,8 @@ use Rattle.lists.proofs.Laws.{below-add, below-cong, below-three}
 use Rattle.buffer.proofs.Laws.{sets-splice}
 use Rattle.buffer.proofs.Padded.{length-padded, splice-end}
 use Rattle.message.specs.Kind
-use Rattle.entry.specs.Entry.{Entry, width, toItem, toSession, carried, wellFormed, onRoute}
-use Rattle.entry.specs.Cells.{blockEntries, blockCells, entryFrom, fits, agree, cell, cellAt, thrice, misses, missCell}
+use Rattle.entry.specs.Entry.{Entry, width, entryFrom, toItem, toSession, carried, wellFormed, onRoute}
+use Rattle.entry.specs.Cells.{blockEntries, blockCells, fits, agree, cell, cellAt, thrice, misses, missCell}
 
 -- the test of direction and kind, given a kind of at most 10
 abbrev runs : ℕ → ℕ → Bool

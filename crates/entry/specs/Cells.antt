@@ -1,11 +1,11 @@
--- Where the three bytes of a route and of a body stand, and the tests of entries as the code makes them: byte by byte, in blocks of sixteen entries.
+-- The tests of entries as the code makes them: byte by byte, in blocks of sixteen entries. No part of the promise.
 use Prim.Native.Nat.{ℕ, zero, suc, _+_, _*_}
 use mathlib.Core.Bool.{Bool, not, _&&_, _||_, Bool·beq}
 use mathlib.Core.List.{List, [], _∷_}
 use lib.Dec.{eqb, leb}
 use lib.ListN.{getD}
 use Rattle.message.specs.Kind
-use Rattle.entry.specs.Entry.{Entry, toItem, toSession, width}
+use Rattle.entry.specs.Entry.{toItem, toSession, width}
 
 -- a block of entries, and its bytes in either array
 abbrev pub blockEntries : ℕ
@@ -13,18 +13,6 @@ blockEntries = 16
 
 abbrev pub blockCells : ℕ
 blockCells = width * blockEntries
-
--- the entry whose route stands at one place and whose body stands at another
-abbrev pub entryFrom : List ℕ → ℕ → ℕ → Entry
-entryFrom m at to =
-    record {
-      direction = getD m at 0;
-      session = getD m (at + 1) 0;
-      item = getD m (at + 2) 0;
-      kind = getD m to 0;
-      a = getD m (to + 1) 0;
-      b = getD m (to + 2) 0;
-    }
 
 -- a number is zero where the kind carries none, and only there
 abbrev pub fits : Bool → ℕ → Bool

@@ -1,8 +1,9 @@
 -- An entry of the mailbox (01: mail): its route and its body. RULES is docs/RULES.md.
-use Prim.Native.Nat.{ℕ}
+use Prim.Native.Nat.{ℕ, _+_}
 use mathlib.Core.Bool.{Bool, cond, not, _&&_, _||_}
 use mathlib.Core.List.{List}
 use lib.Dec.{eqb}
+use lib.ListN.{getD}
 use Rattle.lists.specs.Lists.{between, findIndex}
 use Rattle.message.specs.Kind
 use Rattle.message.specs.declared.Message.{Message}
@@ -31,6 +32,18 @@ toSession = 2
 -- an unused entry
 abbrev pub unused : Entry
 unused = record { direction = 0; session = 0; item = 0; kind = 0; a = 0; b = 0 }
+
+-- the entry whose route stands at one place and whose body stands at another
+abbrev pub entryFrom : List ℕ → ℕ → ℕ → Entry
+entryFrom m at to =
+    record {
+      direction = getD m at 0;
+      session = getD m (at + 1) 0;
+      item = getD m (at + 2) 0;
+      kind = getD m to 0;
+      a = getD m (to + 1) 0;
+      b = getD m (to + 2) 0;
+    }
 
 -- which direction carries which kind: RULES 3.3
 abbrev pub carried : ℕ → ℕ → Bool
@@ -68,10 +81,10 @@ sent direction party m =
 
 -- a message that session t sends, and one that item x sends
 abbrev pub fromSession : ℕ → Message → Entry
-fromSession t m = record { direction = toItem; session = t; item = m .peer; kind = m .kind; a = m .a; b = m .b }
+fromSession t m = sent toItem t m
 
 abbrev pub fromItem : ℕ → Message → Entry
-fromItem x m = record { direction = toSession; session = m .peer; item = x; kind = m .kind; a = m .a; b = m .b }
+fromItem x m = sent toSession x m
 
 -- an entry as the item or the session that receives it sees it
 abbrev pub seenByItem : Entry → Message

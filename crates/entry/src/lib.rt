@@ -8,8 +8,8 @@ ghost use lib.ListN.{length, drop};
 ghost use Rattle.buffer.specs.Bytes.{slice, splice, padded};
 ghost use Rattle.lists.specs.Lists.{everyBelow};
 ghost use Rattle.entry.specs.Entry as Entry;
-ghost use Rattle.entry.specs.Entry.{width};
-ghost use Rattle.entry.specs.Cells.{blockEntries, blockCells, entryFrom, agree, cell, cellAt, thrice, misses, missCell};
+ghost use Rattle.entry.specs.Entry.{width, entryFrom};
+ghost use Rattle.entry.specs.Cells.{blockEntries, blockCells, agree, cell, cellAt, thrice, misses, missCell};
 
 // The two directions: session to item, item to session.
 pub const TO_ITEM: u8 = 1;

@@ -1,4 +1,4 @@
--- The calls on bytes: from the arguments and both buffers, the answer and both buffers after. RULES is docs/RULES.md.
+-- The calls on bytes (01: desk): from the arguments and both buffers, the answer and both buffers after. RULES is docs/RULES.md.
 -- T is the session and X the item that a step names; S, M and C are read from the buffers.
 use Prim.Native.Nat.{ℕ}
 use mathlib.Core.Path.{_≡_}

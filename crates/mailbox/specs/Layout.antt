@@ -5,13 +5,13 @@ use mathlib.Core.Path.{_≡_}
 use mathlib.Core.Bool.{Bool, _&&_}
 use mathlib.Core.List.{List, [], _∷_, _++_}
 use lib.Dec.{eqb, leb}
-use lib.ListN.{length, getD}
+use lib.ListN.{length}
 use Rattle.buffer.specs.Bytes.{slice, fromBytes, toBytes, padded}
 use Rattle.lists.specs.Lists.{between, all, tabulate}
 use Rattle.message.specs.declared.Outbox.{Outbox}
 use Rattle.message.specs.Outbox.{room}
 use Rattle.entry.specs.Entry as Entry
-use Rattle.entry.specs.Entry.{Entry, width}
+use Rattle.entry.specs.Entry.{Entry, width, entryFrom}
 
 abbrev pub maxCapacity : ℕ
 maxCapacity = 4096
@@ -44,15 +44,7 @@ unfoldable pub sized : List ℕ → Bool
 sized m = between 1 maxCapacity (capacityOf m) && eqb (length m) (size (capacityOf m))
 
 unfoldable pub entryAt : List ℕ → ℕ → Entry
-entryAt m k =
-    record {
-      direction = getD m (routePlace k) 0;
-      session = getD m (routePlace k + 1) 0;
-      item = getD m (routePlace k + 2) 0;
-      kind = getD m (bodyPlace (capacityOf m) k) 0;
-      a = getD m (bodyPlace (capacityOf m) k + 1) 0;
-      b = getD m (bodyPlace (capacityOf m) k + 2) 0;
-    }
+entryAt m k = entryFrom m (routePlace k) (bodyPlace (capacityOf m) k)
 
 -- the entries in order of sending
 unfoldable pub entriesOf : List ℕ → List Entry

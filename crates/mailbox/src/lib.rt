@@ -28,7 +28,10 @@ const CAPACITY_PLACE: usize = 0;
 const COUNT_PLACE: usize = 2;
 
 // The bytes of an entry, route and body.
-const ENTRY_SIZE: usize = 6;
+const ENTRY_SIZE: usize = 2 * WIDTH;
+
+// The bytes of the largest mailbox.
+pub const MAX_SIZE: usize = HEADER + ENTRY_SIZE * MAX_CAPACITY;
 
 // The bytes of a mailbox of capacity c.
 pub fn size(c: usize) -> usize

@@ -17,6 +17,9 @@ const SESSIONS_PLACE: usize = 0;
 
 const ITEMS_PLACE: usize = 1;
 
+// The bytes of the largest table.
+pub const MAX_SIZE: usize = HEADER + Session::SIZE * MAX_SESSIONS + Item::SIZE * MAX_ITEMS;
+
 // S and M.
 pub fn sessions(t: &[u8]) -> u8
     requires { ⌜ header ≤ length (now t) ⌝ }

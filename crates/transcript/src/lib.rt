@@ -1,9 +1,7 @@
 // What the replay program prints, as one call from the bytes of its input to the bytes of its output.
-use item::Item;
 use lockmgr::Answer;
 use message::MAX_ITEMS;
 use message::MAX_SESSIONS;
-use session::Session;
 use tally::Step;
 use tally::Tally;
 ghost use mathlib.Core.Path.{_≡_};
@@ -32,11 +30,6 @@ const LONGEST_LINE: usize = 4 + 8 * 4 + 1;
 
 // The longest output: a line for each step, and the last one.
 pub const LONGEST: usize = LONGEST_LINE * (MAX_STEPS + 1);
-
-// The bytes of the largest table, and of a mailbox of that capacity: headers of 2 and 4 bytes, entries of 6.
-const TABLE_BYTES: usize = 2 + Session::SIZE * MAX_SESSIONS + Item::SIZE * MAX_ITEMS;
-
-const MAIL_BYTES: usize = 4 + 6 * CAPACITY;
 
 // Whether the input is as the program takes it.
 fn well_formed(input: &[u8]) -> bool
@@ -139,8 +132,8 @@ pub fn write(input: &[u8], out: &mut [u8]) -> usize
         let bad = [b'b', b'a', b'd', b'\n'];
         return text::put_bytes(out, 0, &bad);
     }
-    let mut table = [0u8; TABLE_BYTES];
-    let mut mail = [0u8; MAIL_BYTES];
+    let mut table = [0u8; table::MAX_SIZE];
+    let mut mail = [0u8; mailbox::MAX_SIZE];
     let size = table::size(input[0], input[1]);
     play(input, &mut table[..size], &mut mail, out)
 }
