@@ -4,14 +4,16 @@ use mathlib.Core.Bool.{Bool, true, false, cond, false≢true, true≢false}
 use mathlib.Core.List.{List, [], _∷_, _++_, map}
 use Prim.Native.Nat.{ℕ, zero, suc, _+_, _≤_, _<_}
 use native.Mathlib.Omega.{arith}
-use lib.Dec.{eqb}
+use lib.Dec.{eqb, ltb}
 use lib.ListN.{length, getD, length-append, length-map}
-use borrow.Author.Tests.{ne-eqb, eqb-false}
+use borrow.Author.Tests.{ne-eqb, eqb-false, ltb-false}
 use Rattle.lists.specs.Lists.{between, all, removeAt}
 use Rattle.lists.proofs.Laws.{findIndex-length, removeAt-le, removeAt-past}
 use Rattle.lists.proofs.Tests.{and-intro, between-intro, by-test, refuted}
 use Rattle.buffer.proofs.Laws.{AreBytes}
 use Rattle.message.specs.declared.Message.{Message}
+use Rattle.message.specs.declared.Outbox.{Outbox}
+use Rattle.message.specs.Outbox as Outbox
 use Rattle.session.specs.declared.Session.{Session as SessionRecord}
 use Rattle.session.specs.Seniority.{senior}
 use Rattle.session.proofs.Laws.{requested-length, received-length}
@@ -21,6 +23,7 @@ use Rattle.item.specs.Record.{Packed}
 use Rattle.item.specs.Rules as Item
 use Rattle.item.proofs.Laws.{wellFormed-packed}
 use Rattle.mailbox.specs.Entry.{Entry, unused, onRoute, toItem, toSession, seenByItem, seenBySession}
+use Rattle.mailbox.specs.Layout as Mail
 use Rattle.mailbox.specs.Layout.{Kept, capacityOf, countOf, entryAt, entriesOf, mailBytes}
 use Rattle.mailbox.proofs.Laws as MailLaws
 use Rattle.mailbox.proofs.EntryLaws.{entry-facts}
@@ -31,7 +34,7 @@ use Rattle.lockmgr.specs.Refusal
 use Rattle.lockmgr.specs.Refusal.{cause, first}
 use Rattle.lockmgr.specs.Calls as Calls
 use Rattle.lockmgr.specs.Calls.{Stepped, delivered, sessionActs, sessionPlan, itemPlan, plan, stepCauses, hindered, overfull, judged, acted, step, stepped, refusedAnswer, unless, committed, nothingToDeliver}
-use Rattle.lockmgr.specs.Parts.{Judged, Posted, postResult, concluded}
+use Rattle.lockmgr.specs.Parts.{Judged, Room, room, roomMade, concluded}
 use Rattle.lockmgr.proofs.Causes.{first-stops, first-goes-on, unmet}
 
 -- what a step that was judged knows of its buffers
@@ -119,16 +122,39 @@ without-entry mail h k =
       count = MailLaws.count-mail C l (h .low) (h .high) fits;
     }
 
--- ---- whether entries were written
-pub post-full : {fits : Bool} {mail : List ℕ} (o : Bool) (m n : List ℕ) → fits ≡ false → postResult fits mail ≡ cond o (postResult false m) (postResult true n)
-    → (o ≡ true) × (mail ≡ m)
-post-full true m n e q = (refl, ap (λ (p : Posted). p .mail) q)
-post-full false m n e q = absurd (false≢true (sym e ∙ ap (λ (p : Posted). p .fits) q))
+-- ---- whether there is room beside the entries that are left
+refused-room : {fits : Bool} {mail : List ℕ} (o : Bool) (m n : List ℕ) → fits ≡ false → room fits mail ≡ cond o (room false m) (room true n) → (o ≡ true) × (mail ≡ m)
+refused-room true m n e q = (refl, ap (λ (p : Room). p .mail) q)
+refused-room false m n e q = absurd (false≢true (sym e ∙ ap (λ (p : Room). p .fits) q))
 
-pub post-fits : {fits : Bool} {mail : List ℕ} (o : Bool) (m n : List ℕ) → fits ≡ true → postResult fits mail ≡ cond o (postResult false m) (postResult true n)
-    → (o ≡ false) × (mail ≡ n)
-post-fits true m n e q = absurd (true≢false (sym e ∙ ap (λ (p : Posted). p .fits) q))
-post-fits false m n e q = (refl, ap (λ (p : Posted). p .mail) q)
+granted-room : {fits : Bool} {mail : List ℕ} (o : Bool) (m n : List ℕ) → fits ≡ true → room fits mail ≡ cond o (room false m) (room true n) → (o ≡ false) × (mail ≡ n)
+granted-room true m n e q = absurd (true≢false (sym e ∙ ap (λ (p : Room). p .fits) q))
+granted-room false m n e q = (refl, ap (λ (p : Room). p .mail) q)
+
+module _ (mail : List ℕ) (k n : ℕ) {fits : Bool} {after : List ℕ} (made : room fits after ≡ roomMade mail (removeAt k (entriesOf mail)) n) where
+  abbrev left : List Entry
+  left = removeAt k (entriesOf mail)
+
+  pub no-room : fits ≡ false → (f : Message → Entry) (l : List Message) → n ≡ length l → (overfull (capacityOf mail) (left ++ map f l) ≡ true) × (after ≡ mail)
+  no-room e f l c =
+      let p = refused-room (ltb (capacityOf mail) (length left + n)) mail (mailBytes (capacityOf mail) left) e made in
+      (rw (length-sent left f l, sym c) (p .0), p .1)
+
+  module _ (kept : Kept mail) (e : fits ≡ true) where
+    granted : (ltb (capacityOf mail) (length left + n) ≡ false) × (after ≡ mailBytes (capacityOf mail) left)
+    granted = granted-room (ltb (capacityOf mail) (length left + n)) mail (mailBytes (capacityOf mail) left) e made
+
+    pub has-room : (out : Outbox) → out .n ≡ n → n ≤ Outbox.room → Mail.Room after out
+    has-room out c few =
+        let w = without-entry mail kept k in
+        rw (granted .1)
+        (record { kept = w .kept; few = omega (arith, c, few); fits = rw (w .capacity, w .count) (omega (arith, c, ltb-false (capacityOf mail) (length left + n) (granted .0))) })
+
+    pub room-filled : (f : Message → Entry) (l : List Message) → n ≡ length l → {filled : List ℕ} → filled ≡ mailBytes (capacityOf after) (entriesOf after ++ map f l)
+        → (overfull (capacityOf mail) (left ++ map f l) ≡ false) × (filled ≡ mailBytes (capacityOf mail) (left ++ map f l))
+    room-filled f l c q =
+        let w = without-entry mail kept k in
+        (rw (length-sent left f l, sym c) (granted .0), rw (q, granted .1, w .capacity, w .entries) refl)
 
 -- ---- what a step does
 -- a session sends at most a request and 64 probes

@@ -1,8 +1,10 @@
 -- What the parts of the code ask of each other and leave. No part of the promise.
-use Prim.Native.Nat.{ℕ, _≤_, _<_}
+use Prim.Native.Nat.{ℕ, _+_, _≤_, _<_}
 use mathlib.Core.Path.{_≡_}
 use mathlib.Core.Bool.{Bool, true, false, cond}
 use mathlib.Core.List.{List}
+use lib.Dec.{ltb}
+use lib.ListN.{length}
 use Rattle.mailbox.specs.Entry.{Entry}
 use Rattle.mailbox.specs.Layout as Mail
 use Rattle.table.specs.Layout as Table
@@ -23,17 +25,18 @@ pub record Acting (verb t x k : ℕ) (table mail : List ℕ) : Type 0 where
   pub place : k ≡ delivered verb t x (Mail.entriesOf mail)
   pub found : (verb ≡ request → ⊥) → (verb ≡ release → ⊥) → k < Mail.countOf mail
 
--- whether entries were written into the mail, and the mail after
-pub record Posted : Type 0 where
+-- whether there is room in the mail, and the mail after
+pub record Room : Type 0 where
   pub fits : Bool
   pub mail : List ℕ
 
-abbrev pub postResult : Bool → List ℕ → Posted
-postResult fits mail = record { fits = fits; mail = mail }
+abbrev pub room : Bool → List ℕ → Room
+room fits mail = record { fits = fits; mail = mail }
 
-abbrev pub posted : List ℕ → List Entry → Posted
-posted mail entries =
-    cond (overfull (Mail.capacityOf mail) entries) (postResult false mail) (postResult true (Mail.mailBytes (Mail.capacityOf mail) entries))
+-- the mail holds the entries alone, if n more have room beside them
+abbrev pub roomMade : List ℕ → List Entry → ℕ → Room
+roomMade mail entries n =
+    cond (ltb (Mail.capacityOf mail) (length entries + n)) (room false mail) (room true (Mail.mailBytes (Mail.capacityOf mail) entries))
 
 -- the tail of every step: 9 where there is no room for the entries after it, else what is planned
 abbrev pub concluded : ℕ → List ℕ → List ℕ → Plan → Stepped

@@ -3,7 +3,6 @@ use item::Event;
 use item::ItemStep;
 use message::MAX_ITEMS;
 use message::MAX_SESSIONS;
-use message::Outbox;
 use session::Session;
 use session::SessionStep;
 ghost use mathlib.Core.Path.{_≡_};
@@ -25,7 +24,8 @@ ghost use Rattle.table.specs.Layout.{HasSession, HasItem, Formed, sessionsOf, w
 ghost use Rattle.waits.specs.OnTable.{cycleLength};
 ghost use Rattle.lockmgr.specs.Refusal.{first};
 ghost use Rattle.lockmgr.specs.Calls.{refusedAnswer, acceptedAnswer, config, startRefusal, startResult, start, bufferCauses, judged, delivered, sessionActs, stageForbids, maskForbids, nothingToDeliver, stepCauses, sessionPlan, itemPlan, stepped, answered, acted, step, reportRefusal, report};
-ghost use Rattle.lockmgr.specs.Parts.{Judged, Acting, posted, postResult, concluded};
+ghost use Rattle.lockmgr.specs.Parts as Parts;
+ghost use Rattle.lockmgr.specs.Parts.{Judged, Acting, roomMade, concluded};
 
 // The answer of a step. A refused step answers its number and zeros.
 #[repr(C)]
@@ -283,17 +283,15 @@ fn take(mail: &mut [u8], k: usize)
     mailbox::remove(mail, k);
 }
 
-// If there is room for what a session (direction 1) or an item (direction 2) sends, takes out entry k and adds it.
-fn post(mail: &mut [u8], k: usize, direction: u8, party: u8, out: Outbox) -> bool
-    requires { ⌜ Kept (now mail) × (out .n ≤ room) ⌝ }
-    ensures { λ r. ⌜ ((l : List Message) → out ≡ outboxOf l
-        → postResult r (now (mail .exit)) ≡ posted (now (mail .entry)) (removeAt k (entriesOf (now (mail .entry))) ++ map (sent direction party) l)) ⌝ }
+// If n entries more have room once entry k is out, takes it out.
+fn make_room(mail: &mut [u8], k: usize, n: usize) -> bool
+    requires { ⌜ Kept (now mail) × (n ≤ room) ⌝ }
+    ensures { λ r. ⌜ Parts.room r (now (mail .exit)) ≡ roomMade (now (mail .entry)) (removeAt k (entriesOf (now (mail .entry)))) n ⌝ }
 {
-    if mailbox::capacity(mail) < left(mail, k) + out.n {
+    if mailbox::capacity(mail) < left(mail, k) + n {
         return false;
     }
     take(mail, k);
-    mailbox::post(mail, direction, party, out);
     true
 }
 
@@ -305,12 +303,13 @@ fn commit_session(t: u8, k: usize, r: SessionStep, table: &mut [u8], mail: &mut 
 {
     let outbox = r.outbox;
     let session = r.session;
-    let sent = outbox.n as u8;
-    if !post(mail, k, mailbox::TO_ITEM, t, outbox) {
+    let sent = outbox.n;
+    if !make_room(mail, k, sent) {
         return Answer::refused(Answer::MAIL_FULL);
     }
+    mailbox::post(mail, mailbox::TO_ITEM, t, outbox);
     table::put_session(table, t, session);
-    Answer::accepted(sent, 0, 0, 0)
+    Answer::accepted(sent as u8, 0, 0, 0)
 }
 
 // Item x has stepped on a message of session t: the messages and the record are written, if there is room.
@@ -322,12 +321,13 @@ fn commit_item(t: u8, x: u8, k: usize, r: ItemStep, table: &mut [u8], mail: &mut
     let outbox = r.outbox;
     let item = r.item;
     let event = r.event;
-    let sent = outbox.n as u8;
-    if !post(mail, k, mailbox::TO_SESSION, x, outbox) {
+    let sent = outbox.n;
+    if !make_room(mail, k, sent) {
         return Answer::refused(Answer::MAIL_FULL);
     }
+    mailbox::post(mail, mailbox::TO_SESSION, x, outbox);
     table::put_item(table, x, item);
-    answer_of(t, sent, event, table)
+    answer_of(t, sent as u8, event, table)
 }
 
 // The answer of an accepted step, by what happened at the item.
