@@ -9,7 +9,7 @@ use Rattle.mailbox.specs.Entry.{Entry}
 use Rattle.mailbox.specs.Layout as Mail
 use Rattle.waits.specs.Waits
 use Rattle.waits.specs.OnTable.{waitsFor, cycleLength}
-use Rattle.lockmgr.specs.Calls.{Stepped}
+use Rattle.step.specs.Step.{Stepped}
 use Rattle.deadlock.specs.Machine
 use Rattle.deadlock.specs.Statement as MachineStatement
 use Rattle.deadlock.proofs.Theorem as MachineTheorem

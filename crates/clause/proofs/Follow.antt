@@ -10,8 +10,9 @@ use Rattle.session.specs.Stage
 use Rattle.mailbox.specs.Entry.{Entry}
 use Rattle.mailbox.specs.Layout as Mail
 use Rattle.table.specs.Layout as Table
+use Rattle.step.specs.Step as Step
 use Rattle.lockmgr.specs.Calls as Calls
-use Rattle.lockmgr.specs.Calls.{Stepped, stepped, refusedAnswer}
+use Rattle.step.specs.Step.{Stepped, stepped, refusedAnswer}
 use Rattle.lockmgr.specs.Run.{Call, step, report, Buffers, buffers, performed, after, steps, rollsBack, one}
 use Rattle.deadlock.specs.Machine
 use Rattle.clause.specs.Statement.{closed, rolledBack}
@@ -52,7 +53,7 @@ pub record Followed (S M C : ℕ) (s : Machine.State) (b : Buffers) (calls : Lis
 
 module _ (S M C : ℕ) (verb t : ℕ) (calls : List Call) (table mail : List ℕ) (l : List Entry) where
   abbrev delivery : Bool
-  delivery = between Calls.deliverToItem Calls.deliverToSession verb
+  delivery = between Step.deliverToItem Step.deliverToSession verb
 
   -- what the list does whose first step leaves and answers r
   abbrev After : Stepped → Type 0

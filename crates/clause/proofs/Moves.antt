@@ -19,8 +19,8 @@ use Rattle.mailbox.specs.Entry.{Entry, fromSession, fromItem}
 use Rattle.mailbox.specs.Layout as Mail
 use Rattle.table.specs.Layout as Table
 use Rattle.waits.specs.OnTable.{locks, cycleLength}
-use Rattle.lockmgr.specs.Calls as Calls
-use Rattle.lockmgr.specs.Calls.{Stepped, committed, sessionPlan, itemPlan}
+use Rattle.step.specs.Step as Step
+use Rattle.step.specs.Step.{Stepped, committed, sessionPlan, itemPlan}
 use Rattle.lockmgr.specs.Run.{rollsBack}
 use Rattle.deadlock.specs.Lists.{bit}
 use Rattle.deadlock.specs.Machine
@@ -43,7 +43,7 @@ pub record Moved (S M C : ℕ) (table : List ℕ) (l : List Entry) (verb t : ℕ
   pub closes : r .answer .closed ≡ bit (event .closed)
   pub declares : r .answer .victim ≢ 0 → event .declared ≡ some (record { victim = r .answer .victim; initiator = r .answer .initiator })
   pub rolls : rollsBack t table (r .table) ≡ event .rolledBack
-  pub delivered : between Calls.deliverToItem Calls.deliverToSession verb && rollsBack t table (r .table) ≡ rollsBack t table (r .table)
+  pub delivered : between Step.deliverToItem Step.deliverToSession verb && rollsBack t table (r .table) ≡ rollsBack t table (r .table)
 
 pub one-is-bit : (b : Bool) → cond b 1 0 ≡ bit b
 one-is-bit true = refl
@@ -75,7 +75,7 @@ module _ (S M C : ℕ) (table : List ℕ) (l : List Entry) (g : Good S M C table
         (happens : (f : ℕ → Session) → Put f → StateWellFormed S M f (locks table) sent
         → Machine.eventOf (machineOf S M) before call (readState S M f (locks table) sent)
         ≡ record { closed = false; declared = none; rolledBack = not (eqb (Table.session table t .stage) Stage.rolledBack) && eqb (f t .stage) Stage.rolledBack })
-        (delivered : between Calls.deliverToItem Calls.deliverToSession verb && eqb (r .session .stage) Stage.rolledBack ≡ eqb (r .session .stage) Stage.rolledBack) where
+        (delivered : between Step.deliverToItem Step.deliverToSession verb && eqb (r .session .stage) Stage.rolledBack ≡ eqb (r .session .stage) Stage.rolledBack) where
       abbrev table-after : List ℕ
       table-after = Table.withSession table t (r .session)
 
@@ -98,7 +98,7 @@ module _ (S M C : ℕ) (table : List ℕ) (l : List Entry) (g : Good S M C table
         closes = one-is-bit false;
         declares = λ n. absurd (n refl);
         rolls = refl;
-        delivered = middle (between Calls.deliverToItem Calls.deliverToSession verb) (not (eqb (Table.session table t .stage) Stage.rolledBack)) (eqb (Table.session table-after t .stage) Stage.rolledBack)
+        delivered = middle (between Step.deliverToItem Step.deliverToSession verb) (not (eqb (Table.session table t .stage) Stage.rolledBack)) (eqb (Table.session table-after t .stage) Stage.rolledBack)
             (rw (put .here) delivered);
       }
 
@@ -126,7 +126,7 @@ module _ (S M C : ℕ) (table : List ℕ) (l : List Entry) (g : Good S M C table
       same-stage : rollsBack t table item-after ≡ false
       same-stage = rw (State.session-same S M C table l g x x-range (r .lock) answered fits kept t t-range) (never-both (eqb (Table.session table t .stage) Stage.rolledBack))
 
-      closes : (e : Event) → Calls.closed t item-after e ≡ bit (Machine.itemEvent e (Machine.onCycle (machineOf S M) (stateOf S M item-after answered) t) .closed)
+      closes : (e : Event) → Step.closed t item-after e ≡ bit (Machine.itemEvent e (Machine.onCycle (machineOf S M) (stateOf S M item-after answered) t) .closed)
       unfolding Machine.itemEvent
       closes Nothing = one-is-bit false
       closes Joined = rw (on-cycle-of S M C item-after answered good t) (one-is-bit (not (eqb (cycleLength item-after t) 0)))
@@ -157,5 +157,5 @@ module _ (S M C : ℕ) (table : List ℕ) (l : List Entry) (g : Good S M C table
         closes = closes (r .event);
         declares = declares (r .event) (Machine.onCycle (machineOf S M) (stateOf S M item-after answered) t);
         rolls = same-stage ∙ never-rolls (r .event) (Machine.onCycle (machineOf S M) (stateOf S M item-after answered) t);
-        delivered = rw (same-stage) (and-false (between Calls.deliverToItem Calls.deliverToSession verb));
+        delivered = rw (same-stage) (and-false (between Step.deliverToItem Step.deliverToSession verb));
       }

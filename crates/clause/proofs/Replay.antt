@@ -10,8 +10,10 @@ use Rattle.session.specs.Stage
 use Rattle.mailbox.specs.Entry.{Entry}
 use Rattle.mailbox.specs.Layout as Mail
 use Rattle.table.specs.Layout as Table
+use Rattle.step.specs.Step as Step
 use Rattle.lockmgr.specs.Calls as Calls
-use Rattle.lockmgr.specs.Calls.{Config, Stepped}
+use Rattle.step.specs.Step.{Stepped}
+use Rattle.lockmgr.specs.Calls.{Config}
 use Rattle.lockmgr.proofs.Judging.{start-zero}
 use Rattle.lockmgr.specs.Run as Run
 use Rattle.lockmgr.specs.Run.{Buffers, buffers, Done, performed, steps, tallied, callOf, rollsBack}
@@ -23,7 +25,7 @@ use Rattle.clause.proofs.Theorem.{begun-good, start-accepted, start-lea
 
 -- what is known after a step: a session comes to stage 6 at deliveries alone, and the buffers are good
 record Next (S M C verb t : ℕ) (table : List ℕ) (r : Stepped) : Type 0 where
-  delivered : between Calls.deliverToItem Calls.deliverToSession verb && rollsBack t table (r .table) ≡ rollsBack t table (r .table)
+  delivered : between Step.deliverToItem Step.deliverToSession verb && rollsBack t table (r .table) ≡ rollsBack t table (r .table)
   entries : List Entry
   good : Good S M C (r .table) entries
   mail : r .mail ≡ Mail.mailBytes C entries
@@ -33,7 +35,7 @@ next : (S M C : ℕ) (table mail : List ℕ) (l : List Entry) → Good S M C tab
 next S M C table mail l g e verb t x =
     rw (e) (by-step S M C table l g verb t x (Next S M C verb t table)
     (λ n. record {
-      delivered = rw (never-both (eqb (Table.session table t .stage) Stage.rolledBack)) (and-false (between Calls.deliverToItem Calls.deliverToSession verb));
+      delivered = rw (never-both (eqb (Table.session table t .stage) Stage.rolledBack)) (and-false (between Step.deliverToItem Step.deliverToSession verb));
       entries = l;
       good = g;
       mail = refl;

@@ -20,11 +20,12 @@ use Rattle.mailbox.specs.Layout as Mail
 use Rattle.mailbox.proofs.Laws as MailLaws
 use Rattle.table.specs.Layout as Table
 use Rattle.waits.specs.OnTable.{locks}
-use Rattle.lockmgr.specs.Calls as Calls
-use Rattle.lockmgr.specs.Calls.{Stepped, stepped, refusedAnswer, judged, hindered, delivered, sessionActs, overfull, plan, acted, committed, step, stageForbids, maskForbids, nothingToDeliver}
-use Rattle.lockmgr.proofs.Causes.{unmet}
+use Rattle.step.specs.Step as Step
+use Rattle.step.specs.Step.{Stepped, stepped, refusedAnswer, hindered, delivered, sessionActs, overfull, plan, acted, committed, stageForbids, maskForbids, nothingToDeliver}
+use Rattle.lockmgr.specs.Calls.{judged, step}
+use Rattle.step.proofs.Causes.{unmet}
 use Rattle.lockmgr.proofs.Judging.{judged-zero}
-use Rattle.lockmgr.proofs.Acting.{by-verb, request-plan, release-plan}
+use Rattle.step.proofs.Acting.{by-verb, request-plan, release-plan}
 use Rattle.deadlock.specs.Machine
 use Rattle.agreement.proofs.RulesLaws.{next-inside}
 use Rattle.agreement.proofs.MoveAgrees as Agrees
@@ -99,7 +100,7 @@ module _ (S M C : ℕ) (table : List ℕ) (l : List Entry) (g : Good S M C table
     formed : Agrees.StateWellFormed S M (Table.session table) (locks table) l
     formed = State.all-formed S M C table l g
 
-    request-done : Done Calls.request
+    request-done : Done Step.request
     unfolding Machine.ofMachine Machine.eventOf Session.requested
     request-done u =
         let s = Table.session table t in
@@ -107,42 +108,42 @@ module _ (S M C : ℕ) (table : List ℕ) (l : List Entry) (g : Good S M C table
         let mask = or-neither (has x (s .held)) _ (u .mask) .0 in
         let allowed : eqb (s .stage) Stage.growing && not (has x (s .held)) ≡ true = and-intro (not-false (eqb (s .stage) Stage.growing) stage) (rw (mask) refl) in
         rw (request-plan t x table l)
-        (session-moved S M C table l g Calls.request t t-range (Machine.requestCall t x) in-range l (Session.requested x s)
+        (session-moved S M C table l g Step.request t t-range (Machine.requestCall t x) in-range l (Session.requested x s)
         (rw (capacity-is, entries-are, request-plan t x table l) at (u .room))
         (λ f h. Agrees.request-move-kept senior nextHolder S M few-sessions few-items (Table.session table) (locks table) l formed t x t-range x-range f h)
         (λ f h. Agrees.request-move senior nextHolder S M few-sessions few-items (Table.session table) (locks table) l formed t x t-range x-range allowed f h)
         (λ f h _. rw (h .here) (quiet (not (eqb (s .stage) Stage.rolledBack))))
         refl)
 
-    release-done : Done Calls.release
+    release-done : Done Step.release
     unfolding Machine.ofMachine Machine.eventOf Session.released
     release-done u =
         let s = Table.session table t in
         let stage : eqb (s .stage) Stage.growing || eqb (s .stage) Stage.shrinking ≡ true = not-false (eqb (s .stage) Stage.growing || eqb (s .stage) Stage.shrinking) (u .stage) in
         let allowed : (eqb (s .stage) Stage.growing || eqb (s .stage) Stage.shrinking) && has x (s .held) ≡ true = and-intro stage (not-false (has x (s .held)) (u .mask)) in
         rw (release-plan t x table l)
-        (session-moved S M C table l g Calls.release t t-range (Machine.releaseCall t x) in-range l (Session.released x s)
+        (session-moved S M C table l g Step.release t t-range (Machine.releaseCall t x) in-range l (Session.released x s)
         (rw (capacity-is, entries-are, release-plan t x table l) at (u .room))
         (λ f h. Agrees.release-move-kept senior nextHolder S M few-sessions few-items (Table.session table) (locks table) l formed t x t-range x-range stage f h)
         (λ f h. Agrees.release-move senior nextHolder S M few-sessions few-items (Table.session table) (locks table) l formed t x t-range x-range allowed f h)
         (λ f h _. rw (h .here) (quiet (not (eqb (s .stage) Stage.rolledBack))))
         refl)
 
-    item-done : Done Calls.deliverToItem
+    item-done : Done Step.deliverToItem
     unfolding plan delivered Machine.ofMachine
     item-done u =
         let found : eqb (Agrees.placeOf t x l true) (length l) ≡ false = rw (entries-are) at (u .route) in
-        item-moved S M C table l g Calls.deliverToItem t t-range x x-range (Machine.deliverToItem t x) in-range (Agrees.othersOf t x l true) (Agrees.itemStep senior nextHolder (locks table) t x l)
+        item-moved S M C table l g Step.deliverToItem t t-range x x-range (Machine.deliverToItem t x) in-range (Agrees.othersOf t x l true) (Agrees.itemStep senior nextHolder (locks table) t x l)
         (rw (capacity-is, entries-are) at (u .room))
         (λ f h. Agrees.item-move-kept senior nextHolder S M few-sessions few-items (Table.session table) (locks table) l formed t x t-range x-range found next-inside f h)
         (λ f h. Agrees.item-move senior nextHolder S M few-sessions few-items (Table.session table) (locks table) l formed t x t-range x-range found next-inside f h)
         (λ after. Events.item-move-event senior nextHolder S M few-sessions few-items (Table.session table) (locks table) l formed t x t-range x-range found next-inside after)
 
-    session-done : Done Calls.deliverToSession
+    session-done : Done Step.deliverToSession
     unfolding plan delivered sessionActs Machine.ofMachine
     session-done u =
         let found : eqb (Agrees.placeOf t x l false) (length l) ≡ false = rw (entries-are) at (u .route) in
-        session-moved S M C table l g Calls.deliverToSession t t-range (Machine.deliverToSession t x) in-range (Agrees.othersOf t x l false) (Agrees.sessionStep senior (Table.session table) t x l)
+        session-moved S M C table l g Step.deliverToSession t t-range (Machine.deliverToSession t x) in-range (Agrees.othersOf t x l false) (Agrees.sessionStep senior (Table.session table) t x l)
         (rw (capacity-is, entries-are) at (u .room))
         (λ f h. Agrees.session-move-kept senior nextHolder S M few-sessions few-items (Table.session table) (locks table) l formed t x t-range x-range found f h)
         (λ f h. Agrees.session-move senior nextHolder S M few-sessions few-items (Table.session table) (locks table) l formed t x t-range x-range found f h)

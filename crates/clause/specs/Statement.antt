@@ -10,8 +10,10 @@ use Rattle.mailbox.specs.Layout as Mail
 use Rattle.table.specs.Layout as Table
 use Rattle.waits.specs.Waits
 use Rattle.waits.specs.OnTable.{waitsFor, cycleLength, cycles}
+use Rattle.step.specs.Step as Step
 use Rattle.lockmgr.specs.Calls as Calls
-use Rattle.lockmgr.specs.Calls.{Config, Formed}
+use Rattle.step.specs.Step.{Formed}
+use Rattle.lockmgr.specs.Calls.{Config}
 use Rattle.lockmgr.specs.Run.{Call, Buffers, buffers, Done, after, steps, rollsBack, one}
 
 -- what start leaves in the two buffers
@@ -25,7 +27,7 @@ closed (d ∷ l) = d .result .answer .closed + closed l
 
 -- a delivery that brings a session from another stage to stage 6: RULES 9.4
 abbrev pub rollback : Done → Bool
-rollback d = between Calls.deliverToItem Calls.deliverToSession (d .verb) && rollsBack (d .session) (d .before .table) (d .result .table)
+rollback d = between Step.deliverToItem Step.deliverToSession (d .verb) && rollsBack (d .session) (d .before .table) (d .result .table)
 
 unfoldable pub rolledBack : List Done → ℕ
 rolledBack [] = 0

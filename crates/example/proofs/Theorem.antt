@@ -17,10 +17,11 @@ use Rattle.mailbox.specs.Layout as Mail
 use Rattle.table.specs.Layout as Table
 use Rattle.waits.specs.Waits
 use Rattle.waits.specs.OnTable.{locks}
-use Rattle.lockmgr.specs.Refusal
+use Rattle.step.specs.Refusal
+use Rattle.step.specs.Step as Step
 use Rattle.lockmgr.specs.Calls
 use Rattle.lockmgr.specs.Run
-use Rattle.lockmgr.specs.Run.{Step, Ran, Tally}
+use Rattle.lockmgr.specs.Run.{Ran, Tally}
 use Rattle.example.specs.Marked.{calls, printed, shown, lastLine, capacity, begun, Example}
 
 -- start accepts buffers of the right lengths, whatever they hold
@@ -30,13 +31,13 @@ unfolding Calls.start Calls.startRefusal Refusal.first
 accepted table mail p q = rw (p, q) refl
 
 -- a list of steps, where each is computed once
-unfoldable inTurn : List ℕ → List ℕ → Tally → List Step → Ran
+unfoldable inTurn : List ℕ → List ℕ → Tally → List Run.Step → Ran
 inTurn table mail y [] = record { answers = []; table = table; mail = mail; tally = y }
 inTurn table mail y (c ∷ l) =
     let r = Calls.step (c .verb) (c .session) (c .item) table mail in
     let rest = inTurn (r .table) (r .mail) (Run.counted (c .session) table r y) l in record { answers = r .answer ∷ rest .answers; table = rest .table; mail = rest .mail; tally = rest .tally }
 
-run-in-turn : (table mail : List ℕ) (y : Tally) (l : List Step) → Run.run table mail y l ≡ inTurn table mail y l
+run-in-turn : (table mail : List ℕ) (y : Tally) (l : List Run.Step) → Run.run table mail y l ≡ inTurn table mail y l
 unfolding Run.run Run.after Run.steps Run.performed Run.tallied inTurn
 run-in-turn table mail y [] = refl
 run-in-turn table mail y (c ∷ l) =
@@ -45,7 +46,7 @@ run-in-turn table mail y (c ∷ l) =
 
 -- from there on every answer and the last line are as printed
 computed : shown (inTurn (Table.started 2 2) (Mail.mailBytes capacity []) Run.zeros calls) ≡ record { answers = printed; left = 0; tally = lastLine }
-unfolding splice every lowest member distinct all filter findIndex removeAt tabulate has insert remove bitsFrom senior nextHolder SessionRecord.wellFormed Session.probesFrom Session.toHeld Session.requested Session.released Session.granted Session.resent Session.aborted Session.cleaned Session.cleanedWaiting Session.cleanedVictim Session.rolledBack Session.junior Session.keptProbe Session.probed Session.received ItemRecord.wellFormed Item.resends Item.without Item.onWithdraw Item.granted Item.probes Item.queued Item.onRequest Item.onProbe Item.onClean Item.onRebroadcast Item.handedOver Item.vacated Item.onRelease Item.received Entry.wellFormed Mail.sized Mail.entryAt Mail.entriesOf Mail.wellFormed Mail.routes Mail.bodies Mail.mailBytes Table.sized Table.session Table.withSession Table.item Table.withItem Table.wellFormed Table.repeated Table.started Waits.queuedAt Waits.waitsAt Waits.waitsFor Waits.reached Waits.cycleLength locks Refusal.first Calls.delivered Calls.sessionActs Calls.plan Calls.judged Calls.hindered Calls.acted Calls.step inTurn
+unfolding splice every lowest member distinct all filter findIndex removeAt tabulate has insert remove bitsFrom senior nextHolder SessionRecord.wellFormed Session.probesFrom Session.toHeld Session.requested Session.released Session.granted Session.resent Session.aborted Session.cleaned Session.cleanedWaiting Session.cleanedVictim Session.rolledBack Session.junior Session.keptProbe Session.probed Session.received ItemRecord.wellFormed Item.resends Item.without Item.onWithdraw Item.granted Item.probes Item.queued Item.onRequest Item.onProbe Item.onClean Item.onRebroadcast Item.handedOver Item.vacated Item.onRelease Item.received Entry.wellFormed Mail.sized Mail.entryAt Mail.entriesOf Mail.wellFormed Mail.routes Mail.bodies Mail.mailBytes Table.sized Table.session Table.withSession Table.item Table.withItem Table.wellFormed Table.repeated Table.started Waits.queuedAt Waits.waitsAt Waits.waitsFor Waits.reached Waits.cycleLength locks Refusal.first Step.delivered Step.sessionActs Step.plan Calls.judged Step.hindered Step.acted Calls.step inTurn
 computed = refl
 
 pub theorem : Example

@@ -5,7 +5,7 @@ use Prim.Native.Nat.{ℕ}
 use lib.ListN.{length}
 use Rattle.mailbox.specs.Layout as Mail
 use Rattle.table.specs.Layout as Table
-use Rattle.lockmgr.specs.declared.Answer.{Answer}
+use Rattle.step.specs.declared.Answer.{Answer}
 use Rattle.lockmgr.specs.Calls as Calls
 use Rattle.lockmgr.specs.Calls.{Started}
 use Rattle.lockmgr.specs.Run as Run

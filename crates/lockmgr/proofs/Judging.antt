@@ -5,17 +5,28 @@ use mathlib.Core.List.{List, [], _∷_, _++_}
 use Prim.Native.Nat.{ℕ, _≤_}
 use lib.Dec.{eqb}
 use lib.ListN.{length}
-use borrow.Author.Tests.{le-leb, eqb-true, eq-eqb}
+use borrow.Author.Tests.{le-leb, eqb-true, eq-eqb, ne-eqb}
 use Rattle.lists.specs.Lists.{between, all}
 use Rattle.lists.proofs.Tests.{and-both, between-intro, fails, within}
 use Rattle.message.specs.Limits.{maxSessions, maxItems}
 use Rattle.mailbox.specs.Layout as Mail
 use Rattle.table.specs.Layout as Table
-use Rattle.lockmgr.specs.Refusal
-use Rattle.lockmgr.specs.Refusal.{Cause, cause, first}
-use Rattle.lockmgr.specs.Calls.{Config, bufferCauses, judged, startRefusal, reportRefusal}
-use Rattle.lockmgr.specs.Parts.{Judged}
-use Rattle.lockmgr.proofs.Causes.{first-stops, first-goes-on, unmet-not, one-cause}
+use Rattle.step.specs.Refusal
+use Rattle.step.specs.Refusal.{Cause, cause, first}
+use Rattle.step.specs.Step.{acted, stepped, refusedAnswer}
+use Rattle.step.specs.Parts.{Judged}
+use Rattle.step.proofs.Causes.{first-stops, first-goes-on, unmet-not, one-cause}
+use Rattle.lockmgr.specs.Calls.{Config, bufferCauses, judged, startRefusal, step, reportRefusal}
+
+-- a step by what judging answers
+module _ (verb t x : ℕ) (table mail : List ℕ) where
+  pub step-refused : (judged verb t x table mail ≡ 0 → ⊥) → step verb t x table mail ≡ stepped (refusedAnswer (judged verb t x table mail)) table mail
+  unfolding step
+  step-refused e = rw (ne-eqb (judged verb t x table mail) 0 e) refl
+
+  pub step-acts : judged verb t x table mail ≡ 0 → step verb t x table mail ≡ acted verb t x table mail
+  unfolding step
+  step-acts e = rw (e) refl
 
 -- what a step knows that was judged
 pub judged-zero : (verb t x : ℕ) (table mail : List ℕ) → judged verb t x table mail ≡ 0 → (1 ≤ verb) × (verb ≤ 4) × Judged t x table mail

@@ -1,4 +1,2 @@
-pub mod Causes
 pub mod Judging
-pub mod Acting
 pub mod Form

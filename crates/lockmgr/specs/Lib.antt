@@ -1,4 +1,2 @@
-pub mod Refusal
 pub mod Calls
-pub mod Parts
 pub mod Run

@@ -5,9 +5,9 @@ use mathlib.Core.List.{List, [], _∷_, _++_, map}
 use lib.Dec.{eqb}
 use Rattle.session.specs.Stage
 use Rattle.table.specs.Layout as Table
-use Rattle.lockmgr.specs.declared.Answer.{Answer}
+use Rattle.step.specs.declared.Answer.{Answer}
+use Rattle.step.specs.Step.{Stepped}
 use Rattle.lockmgr.specs.Calls as Calls
-use Rattle.lockmgr.specs.Calls.{Stepped}
 
 -- a call: a step with any verb, session and item, or a report on any session
 pub data Call : Type 0 where

@@ -13,13 +13,14 @@ use Rattle.mailbox.specs.Layout as Mail
 use Rattle.table.specs.Layout as Table
 use Rattle.table.specs.Layout.{sessionsOf}
 use Rattle.waits.specs.OnTable.{cycleLength}
-use Rattle.lockmgr.specs.Calls.{Stepped, stepped, plan, judged, hindered, acted, step, Formed}
-use Rattle.lockmgr.specs.declared.Answer.{Answer}
+use Rattle.step.specs.Step.{Stepped, stepped, plan, hindered, acted, Formed}
+use Rattle.lockmgr.specs.Calls.{judged, step}
+use Rattle.step.specs.declared.Answer.{Answer}
 use Rattle.lockmgr.specs.Run as Run
 use Rattle.lockmgr.specs.Run.{one, declares, rollsBack, counted}
-use Rattle.lockmgr.proofs.Judging.{judged-zero}
-use Rattle.lockmgr.proofs.Acting.{step-refused}
-use Rattle.lockmgr.proofs.Form.{FormKept, step-keeps-form}
+use Rattle.lockmgr.proofs.Judging.{judged-zero, step-refused}
+use Rattle.step.proofs.Form.{FormKept}
+use Rattle.lockmgr.proofs.Form.{step-keeps-form}
 use Rattle.tally.specs.declared.Tally.{Tally}
 use Rattle.tally.specs.declared.Step.{Step}
 use Rattle.tally.specs.declared.Counted.{Counted}

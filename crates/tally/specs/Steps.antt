@@ -5,8 +5,9 @@ use mathlib.Core.Bool.{cond}
 use mathlib.Core.List.{List}
 use Rattle.lists.specs.Lists.{between}
 use Rattle.table.specs.Layout as Table
-use Rattle.lockmgr.specs.declared.Answer.{Answer}
-use Rattle.lockmgr.specs.Calls.{stepped, step}
+use Rattle.step.specs.declared.Answer.{Answer}
+use Rattle.step.specs.Step.{stepped}
+use Rattle.lockmgr.specs.Calls.{step}
 use Rattle.lockmgr.specs.Run as Run
 use Rattle.tally.specs.declared.Tally.{Tally}
 use Rattle.tally.specs.Tally.{added}

@@ -1,12 +1,12 @@
 // The steps of a list with their tally: one record of three numbers, lent to the steps that update it.
-use lockmgr::Answer;
 use session::Session;
+use step::Answer;
 ghost use mathlib.Core.Path.{_≡_};
 ghost use mathlib.Core.Bool.{true, not, _&&_};
 ghost use lib.Dec.{eqb};
 ghost use Rattle.session.specs.Stage as Stage;
 ghost use Rattle.table.specs.Layout as Table;
-ghost use Rattle.lockmgr.specs.Calls.{Formed};
+ghost use Rattle.step.specs.Step.{Formed};
 ghost use Rattle.lockmgr.specs.Run.{one, declares};
 ghost use Rattle.tally.specs.Tally.{added, Fits};
 ghost use Rattle.tally.specs.Steps.{stepOf, stageOr0, Counts, Tallied};

@@ -5,7 +5,7 @@ use Prim.Native.Nat.{ℕ, suc, _+_, _≤_, _<_}
 use native.Mathlib.Omega.{arith}
 use lib.ListN.{length}
 use Rattle.mailbox.specs.Layout as Mail
-use Rattle.lockmgr.specs.declared.Answer.{Answer}
+use Rattle.step.specs.declared.Answer.{Answer}
 use Rattle.lockmgr.specs.Calls.{step}
 use Rattle.lockmgr.specs.Run as Run
 use Rattle.lockmgr.specs.Run.{run, performed, after, steps, tallied, counted}

@@ -18,8 +18,9 @@ use Rattle.mailbox.specs.Layout as Mail
 use Rattle.mailbox.proofs.Laws.{sized-mail, wellFormed-mail, sized-facts, formed-facts}
 use Rattle.table.specs.Layout as Table
 use Rattle.table.proofs.StartLaws.{sessionsOf-started, itemsOf-started, sized-started, wellFormed-started}
-use Rattle.lockmgr.specs.declared.Answer.{Answer}
-use Rattle.lockmgr.specs.Calls.{Config, Started, Stepped, config, start, startResult, stepped, step, Formed}
+use Rattle.step.specs.declared.Answer.{Answer}
+use Rattle.step.specs.Step.{Stepped, stepped, Formed}
+use Rattle.lockmgr.specs.Calls.{Config, Started, config, start, startResult, step}
 use Rattle.lockmgr.specs.Run as Run
 use Rattle.lockmgr.specs.Run.{counted}
 use Rattle.lockmgr.proofs.Judging.{Startable, start-none}

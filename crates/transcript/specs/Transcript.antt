@@ -7,7 +7,7 @@ use lib.ListN.{length, replicate}
 use Rattle.buffer.specs.Bytes.{splice}
 use Rattle.mailbox.specs.Layout as Mail
 use Rattle.table.specs.Layout as Table
-use Rattle.lockmgr.specs.declared.Answer.{Answer}
+use Rattle.step.specs.declared.Answer.{Answer}
 use Rattle.lockmgr.specs.Calls.{Started, config, start}
 use Rattle.lockmgr.specs.Run as Run
 use Rattle.lockmgr.specs.Run.{Ran, run}

@@ -1,7 +1,7 @@
 // What the replay program prints, as one call from the bytes of its input to the bytes of its output.
-use lockmgr::Answer;
 use message::MAX_ITEMS;
 use message::MAX_SESSIONS;
+use step::Answer;
 use tally::Step;
 use tally::Tally;
 ghost use mathlib.Core.Path.{_≡_};

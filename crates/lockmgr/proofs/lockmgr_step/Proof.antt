@@ -2,10 +2,11 @@
 use mathlib.Core.Path.{_≡_, sym, ap, _∙_}
 use Prim.Native.Nat.{ℕ, _≤_}
 use native.Mathlib.Omega.{arith}
-use Rattle.lockmgr.specs.Calls.{judged, stepped, refusedAnswer}
-use Rattle.lockmgr.specs.Parts.{Judged}
-use Rattle.lockmgr.proofs.Judging.{judged-zero}
-use Rattle.lockmgr.proofs.Acting.{max-sessions, max-items, step-refused, step-acts}
+use Rattle.step.specs.Step.{stepped, refusedAnswer}
+use Rattle.step.specs.Parts.{Judged}
+use Rattle.step.proofs.Acting.{max-sessions, max-items}
+use Rattle.lockmgr.specs.Calls.{judged}
+use Rattle.lockmgr.proofs.Judging.{judged-zero, step-refused, step-acts}
 use borrow.Author.Needs.{needs}
 use Rattle.lockmgr.proofs.lockmgr_step.Statement.{statement}
 use Rattle.lockmgr.proofs.lockmgr_step.Tie as tie

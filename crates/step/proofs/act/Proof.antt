@@ -1,0 +1,135 @@
+-- The tests are the causes in their order; an item acts in a delivery to it, a session in every other step.
+use mathlib.Core.Path.{_≡_, refl, sym, ap, _∙_}
+use native.Mathlib.Omega.{arith}
+use Prim.Native.Nat.{_≤_, _<_}
+use lib.ListN.{length, getD}
+use borrow.Author.Tests.{eq-eqb, ne-eqb}
+use Rattle.item.specs.declared.ItemStep.{ItemStep}
+use Rattle.item.specs.NextHolder.{nextHolder}
+use Rattle.item.specs.Rules as Item
+use Rattle.item.proofs.Laws.{received-fits, queue-length}
+use Rattle.session.specs.declared.SessionStep.{SessionStep}
+use Rattle.session.specs.Seniority.{senior}
+use Rattle.mailbox.specs.Entry.{unused, seenByItem}
+use Rattle.mailbox.specs.Layout.{Kept, countOf, entriesOf}
+use Rattle.mailbox.proofs.Laws.{getD-entries}
+use Rattle.table.specs.Layout as Table
+use Rattle.waits.specs.OnTable.{locks}
+use Rattle.step.specs.Refusal.{first}
+use Rattle.step.specs.Step.{stepCauses, delivered, sessionActs}
+use Rattle.step.proofs.Acting.{mail-kept, item-packed, juniors-whole, acts-few, acted-refused, acted-concluded, delivers, item-acts, session-acts}
+use Rattle.step.proofs.Form.{plan-keeps}
+use borrow.Author.Needs.{needs}
+use Rattle.step.proofs.act.Statement.{statement}
+use Rattle.step.proofs.act.Tie as tie
+
+kept : (c : tie.After-slice-known2) → Kept (c .before .before .args .mail .now)
+kept c =
+    let s = c .before .before in
+    mail-kept (s .args .t) (s .args .x) (s .args .table .now) (s .args .mail .now) (s .pre .2) (λ i h. omega (arith, c .slice-known2 .given i))
+
+none : (c : tie.Else1) → first (stepCauses (c .before .before .before .before .before .before .before .before .args .verb) (c .before .before .before .before .before .before .before .before .args .t) (c .before .before .before .before .before .before .before .before .args .x) (c .before .before .before .before .before .before .before .before .args .table .now) (entriesOf (c .before .before .before .before .before .before .before .before .args .mail .now))) ≡ 0
+none c = sym (c .before .step-refusal .ensures) ∙ c .if1 .left
+
+found : (c : tie.Then2) → (c .before .before .before .before .before .delivered .result) < countOf (c .before .before .before .before .before .before .before .before .before .args .mail .now)
+found c =
+    let s = c .before .before .before .before .before .before .before .before .before in
+    rw (c .before .before .before .before .before .delivered .ensures) (delivers (s .args .verb) (s .args .t) (s .args .x) (s .args .table .now) (s .args .mail .now) (s .pre .0) (s .pre .1) (none (c .before)) (λ q. absurd (omega (arith, c .if2 .taken))) (λ q. absurd (omega (arith, c .if2 .taken))))
+
+received : (c : tie.After-receive) → c .receive .result ≡ Item.stepOf (Item.received senior nextHolder (locks (c .before .before .before .before .before .before .before .before .before .before .before .before .before .before .args .table .now) (c .before .before .before .before .before .before .before .before .before .before .before .before .before .before .args .x)) (seenByItem (getD (entriesOf (c .before .before .before .before .before .before .before .before .before .before .before .before .before .before .args .mail .now)) (c .before .before .before .before .before .before .before .before .before .before .delivered .result) unused)))
+unfolding locks
+received c = c .receive .ensures ∙ rw (c .before .before .before .item .ensures, c .before .message-to-item .ensures, getD-entries (c .before .before .before .before .before .before .before .before .before .before .before .before .before .before .args .mail .now) (c .before .before .before .before .before .before .before .before .before .before .delivered .result) (found (c .before .before .before .before .before))) refl
+
+few : (c : tie.After-receive) → c .receive .result .outbox .n ≤ 129
+unfolding locks
+few c =
+    let s = c .before .before .before .before .before .before .before .before .before .before .before .before .before .before in
+    let i = Table.item (s .args .table .now) (s .args .x) in
+    let p = item-packed (s .args .t) (s .args .x) (s .args .table .now) (s .args .mail .now) (s .pre .2) in
+    let n : c .receive .result .outbox .n ≡ length (Item.received senior nextHolder (locks (s .args .table .now) (s .args .x)) (seenByItem (getD (entriesOf (s .args .mail .now)) (c .before .before .before .before .before .before .before .before .before .before .delivered .result) unused)) .sends) = ap (λ (r : ItemStep). r .outbox .n) (received c) in
+    omega (arith, n, received-fits senior nextHolder (locks (s .args .table .now) (s .args .x)) (seenByItem (getD (entriesOf (s .args .mail .now)) (c .before .before .before .before .before .before .before .before .before .before .delivered .result) unused)) (omega (arith, p .fits, queue-length i p)))
+
+acted : (c : tie.After-session-acts) → c .session-acts .result .outbox .n ≤ 65
+acted c =
+    let s = c .before .before .before .before .before .before .before .before .before .before .before .before in
+    omega (arith, ap (λ (r : SessionStep). r .outbox .n) (c .session-acts .ensures), acts-few (s .args .verb) (s .args .t) (s .args .x) (Table.session (s .args .table .now) (s .args .t)) (juniors-whole (s .args .t) (s .args .x) (s .args .table .now) (s .args .mail .now) (s .pre .2)) (getD (entriesOf (s .args .mail .now)) (c .before .before .before .before .before .before .before .before .delivered .result) unused))
+
+delivered-requires : tie.Need-delivered-requires
+delivered-requires c κs = kept (c .before)
+
+step-refusal-requires : tie.Need-step-refusal-requires
+step-refusal-requires c κs = search needs
+
+refused-requires : tie.Need-refused-requires
+refused-requires c κs = search needs
+
+same-length : tie.Need-same-length
+same-length c = search needs
+
+same-length-2 : tie.Need-same-length-2
+same-length-2 c = search needs
+
+returns : tie.Need-returns
+returns c =
+    let s = c .before .before .before .before .before .before .before .before .before in
+    let cause = c .before .before .step-refusal .ensures in
+    rw (c .refused .ensures, acted-refused (s .args .verb) (s .args .t) (s .args .x) (s .args .table .now) (s .args .mail .now) (λ z. c .before .if1 .taken (cause ∙ z)), cause) refl
+
+item-requires : tie.Need-item-requires
+item-requires c κs = search needs
+
+message-to-item-requires : tie.Need-message-to-item-requires
+message-to-item-requires c κs = record { kept = kept (c .before .before .before .before .before .before .before .before .before .before); inside = found (c .before .before .before) }
+
+receive-requires : tie.Need-receive-requires
+receive-requires c κs =
+    let s = c .before .before .before .before .before .before .before .before .before .before .before .before .before in
+    rw (c .before .before .item .ensures) (item-packed (s .args .t) (s .args .x) (s .args .table .now) (s .args .mail .now) (s .pre .2))
+
+commit-item-requires : tie.Need-commit-item-requires
+commit-item-requires c κs =
+    let s = c .before .before .before .before .before .before .before .before .before .before .before .before .before .before .before .before in
+    let j = s .pre .2 in
+    let entries = entriesOf (s .args .mail .now) in
+    let formed = plan-keeps (s .args .t) (s .args .x) (s .args .table .now) (s .args .mail .now) j (s .args .verb) (s .pre .0) (s .pre .1) (none (c .before .before .before .before .before .before .before .before)) .formed in
+    let is = item-acts (s .args .verb) (s .args .t) (s .args .x) (s .args .table .now) entries (eq-eqb (s .args .verb) 3 (c .before .before .before .before .before .before .before .if2 .taken)) in
+    (record { sized = j .formed .records .sized; low = j .session-low; high = j .session-high }, record { sized = j .formed .records .sized; low = j .item-low; high = j .item-high }, rw (received (c .before .before), c .before .before .before .before .before .before .before .before .before .before .before .before .delivered .ensures) (rw (is) at formed), kept (c .before .before .before .before .before .before .before .before .before .before .before .before .before .before), omega (arith, few (c .before .before)))
+
+same-length-3 : tie.Need-same-length-3
+same-length-3 c = search needs
+
+same-length-4 : tie.Need-same-length-4
+same-length-4 c = search needs
+
+returns-2 : tie.Need-returns-2
+returns-2 c =
+    let s = c .before .before .before .before .before .before .before .before .before .before .before .before .before .before .before .before .before .before .before .before .before in
+    let entries = entriesOf (s .args .mail .now) in
+    let is = item-acts (s .args .verb) (s .args .t) (s .args .x) (s .args .table .now) entries (eq-eqb (s .args .verb) 3 (c .before .before .before .before .before .before .before .before .before .before .before .before .if2 .taken)) in
+    c .before .before .before .before .commit-item .ensures (Item.received senior nextHolder (locks (s .args .table .now) (s .args .x)) (seenByItem (getD entries (c .before .before .before .before .before .before .before .before .before .before .before .before .before .before .before .before .before .delivered .result) unused))) (received (c .before .before .before .before .before .before .before)) ∙ sym (acted-concluded (s .args .verb) (s .args .t) (s .args .x) (s .args .table .now) (s .args .mail .now) (none (c .before .before .before .before .before .before .before .before .before .before .before .before .before)) ∙ rw (is, ← c .before .before .before .before .before .before .before .before .before .before .before .before .before .before .before .before .before .delivered .ensures) refl)
+
+session-acts-requires : tie.Need-session-acts-requires
+session-acts-requires c κs =
+    let s = c .before .before .before .before .before .before .before .before .before .before .before in
+    record { judged = s .pre .2; place = c .before .before .before .before .before .before .before .delivered .ensures; found = λ a b. rw (c .before .before .before .before .before .before .before .delivered .ensures) (delivers (s .args .verb) (s .args .t) (s .args .x) (s .args .table .now) (s .args .mail .now) (s .pre .0) (s .pre .1) (none (c .before .before .before)) a b) }
+
+commit-session-requires : tie.Need-commit-session-requires
+commit-session-requires c κs =
+    let j = c .before .before .before .before .before .before .before .before .before .before .before .before .before .before .pre .2 in
+    (record { sized = j .formed .records .sized; low = j .session-low; high = j .session-high }, kept (c .before .before .before .before .before .before .before .before .before .before .before .before), omega (arith, acted (c .before .before)))
+
+same-length-5 : tie.Need-same-length-5
+same-length-5 c = search needs
+
+same-length-6 : tie.Need-same-length-6
+same-length-6 c = search needs
+
+returns-3 : tie.Need-returns-3
+returns-3 c =
+    let s = c .before .before .before .before .before .before .before .before .before .before .before .before .before .before .before .before .before .before .before in
+    let entries = entriesOf (s .args .mail .now) in
+    let is = session-acts (s .args .verb) (s .args .t) (s .args .x) (s .args .table .now) entries (ne-eqb (s .args .verb) 3 (c .before .before .before .before .before .before .before .before .before .before .if2 .left)) in
+    c .before .before .before .before .commit-session .ensures (sessionActs (s .args .verb) (s .args .t) (s .args .x) (Table.session (s .args .table .now) (s .args .t)) (getD entries (c .before .before .before .before .before .before .before .before .before .before .before .before .before .before .before .delivered .result) unused)) (c .before .before .before .before .before .before .before .session-acts .ensures) ∙ sym (acted-concluded (s .args .verb) (s .args .t) (s .args .x) (s .args .table .now) (s .args .mail .now) (none (c .before .before .before .before .before .before .before .before .before .before .before)) ∙ rw (is, ← c .before .before .before .before .before .before .before .before .before .before .before .before .before .before .before .delivered .ensures) refl)
+
+pub act-spec : {M : Type 1} → statement M
+act-spec = tie.close (tie.spec delivered-requires step-refusal-requires refused-requires same-length same-length-2 returns item-requires message-to-item-requires receive-requires commit-item-requires same-length-3 same-length-4 returns-2 session-acts-requires commit-session-requires same-length-5 same-length-6 returns-3)
