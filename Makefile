@@ -1,9 +1,10 @@
-#   make test          every test, then every proof and every must-fail edit
+#   make test          every proof and every must-fail edit, and every test
 #   make demo          two sessions into a deadlock and out again, in C
 #   make replay        tells what happens in a list of steps: FILE=examples/two_sessions.steps;
 #                      STEP=10 DOT=waits.dot also writes the waits after step 10 for Graphviz
 #   make lib           the library for C: build/lib/liblockmgr.a, liblockmgr.so and build/include
 #   make install       header, libraries and pkg-config file: PREFIX=/usr/local DESTDIR=
+#   make proofs        every proof and every must-fail edit alone
 #   make model         the tests of the Rust model
 #   make compare       library and model on the same calls, byte for byte
 #   make replays       the replay program and the model on the same inputs, byte for byte
@@ -31,6 +32,10 @@ WORKER_SECONDS ?= 3
 PREFIX ?= /usr/local
 DESTDIR ?=
 
+# A pipe fails where one of its commands does.
+SHELL := /bin/bash
+.SHELLFLAGS := -o pipefail -c
+
 CC := gcc
 CFLAGS ?= -O2 -g
 WARNINGS := -std=c99 -D_DEFAULT_SOURCE -Wall -Wextra -Werror
@@ -52,16 +57,22 @@ SONAME := liblockmgr.so.$(basename $(VERSION))
 
 C_TESTS := asan helpers room
 
-.PHONY: help test demo replay lib install model compare replays ctest workers install-test \
+.NOTPARALLEL:
+.PHONY: help test proofs demo replay lib install model compare replays ctest workers install-test \
 	replay-test fuzz bench picture format format-check clean FORCE
 
 # The lines above, up to the first that is no comment.
 help:
 	@sed -n '/^#/!q; s/^# \{0,1\}//p' $(firstword $(MAKEFILE_LIST))
 
-# The prover's verdict is the last line.
-test: format-check model compare replays ctest workers install-test replay-test demo
-	@rt ci
+# The crates are proved first, and the tests run on the library of what was proved. The prover's verdict
+# is repeated as the last line.
+test: format-check model proofs compare replays ctest workers install-test replay-test demo
+	@tail -n 1 build/proofs.log
+
+proofs:
+	@mkdir -p build && rm -f build/proofs.log
+	@rt ci 2>&1 | tee build/proofs.log
 
 lib: build/lib/liblockmgr.a $(SHARED) build/include/lockmgr.h
 
