@@ -15,6 +15,7 @@ use Rattle.session.specs.Stage
 use Rattle.session.specs.Seniority.{senior}
 use Rattle.session.specs.Rules as Session
 use Rattle.item.specs.NextHolder.{nextHolder}
+use Rattle.item.proofs.NextHolder.{next-inside}
 use Rattle.mailbox.specs.Entry.{Entry}
 use Rattle.mailbox.specs.Layout as Mail
 use Rattle.mailbox.proofs.Laws as MailLaws
@@ -27,7 +28,6 @@ use Rattle.step.proofs.Causes.{unmet}
 use Rattle.lockmgr.proofs.Judging.{judged-zero}
 use Rattle.step.proofs.Acting.{by-verb, request-plan, release-plan}
 use Rattle.deadlock.specs.Machine
-use Rattle.agreement.proofs.RulesLaws.{next-inside}
 use Rattle.agreement.proofs.MoveAgrees as Agrees
 use Rattle.agreement.proofs.EventAgrees as Events
 use Rattle.clause.proofs.State

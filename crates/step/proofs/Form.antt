@@ -16,6 +16,7 @@ use Rattle.session.specs.Seniority.{senior}
 use Rattle.session.specs.Record as SessionRecord
 use Rattle.session.specs.Rules as Session
 use Rattle.item.specs.NextHolder.{nextHolder}
+use Rattle.item.proofs.NextHolder.{next-inside}
 use Rattle.item.specs.Record.{packed}
 use Rattle.item.specs.Rules as Item
 use Rattle.item.proofs.Laws.{length-packed}
@@ -34,11 +35,6 @@ use Rattle.step.specs.Step.{Plan, Stepped, Formed, delivered, sessionAct
 use Rattle.step.specs.Parts.{Judged, concluded}
 use Rattle.step.proofs.Causes.{unmet}
 use Rattle.step.proofs.Acting.{by-verb, delivers, acted-refused, acted-concluded}
-
--- the next holder has a place in the queue
-pub next-inside : (q : List ℕ) → 0 < length q → nextHolder q < length q
-unfolding nextHolder
-next-inside q h = h
 
 -- what is planned on a well-formed table and well-formed entries is so again
 pub record Planned (table : List ℕ) (p : Plan) : Type 0 where
