@@ -7,7 +7,6 @@ use Prim.Native.Nat.{ℕ, _≤_, _<_}
 use lib.Dec.{eqb}
 use lib.ListN.{length}
 use Rattle.lists.specs.Lists.{between}
-use Rattle.message.specs.Kind
 use Rattle.mailbox.specs.Entry.{Entry}
 use Rattle.session.specs.Stage
 use Rattle.session.specs.declared.Session.{Session}

@@ -8,7 +8,6 @@ use lib.Dec.{eqb, eqb·zero-suc, eqb·suc-suc}
 use lib.ListN.{length, getD}
 use Rattle.lists.specs.Lists.{all, findIndex, removeAt}
 use Rattle.lists.proofs.Tests.{and-both, eqb-sym}
-use Rattle.message.specs.Kind
 use Rattle.message.specs.declared.Message.{Message}
 use Rattle.mailbox.specs.Entry as Entry
 use Rattle.mailbox.specs.Entry.{Entry, toItem, toSession, unused, onRoute, earliest, fromSession, fromItem}

@@ -1,5 +1,5 @@
 -- The lock manager's seniority is a strict total order, and its next holder comes from the queue: the machine's theorem holds of its rules.
-use mathlib.Core.List.{List, _∷_}
+use mathlib.Core.List.{_∷_}
 use Prim.Native.Nat.{ℕ}
 use native.Mathlib.Omega.{arith}
 use Rattle.lists.proofs.Laws.{getD-member}

@@ -7,7 +7,6 @@ use lib.ListN.{length, getD}
 use Rattle.buffer.specs.Bytes.{slice, fromBytes}
 use Rattle.lists.specs.Lists.{between, tabulate}
 use Rattle.message.specs.Limits.{maxSessions, maxItems}
-use Rattle.table.specs.Layout as Table
 use Rattle.lockmgr.specs.Run as Run
 
 abbrev pub sessionsIn : List ℕ → ℕ

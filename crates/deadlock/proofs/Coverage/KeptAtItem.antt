@@ -13,7 +13,6 @@ use Rattle.deadlock.specs.Lists.{bit, occurs, without}
 use Rattle.deadlock.specs.Machine.{clean, down, grant, grantOrQueue, inQueue, Item, itemReceives, Laws, Message, onRebroadcast, passClean, passProbe, probe, probesAnew, probesTo, rebroadcast, request, resends, Rules, Sends, up, withdraw, withdrawn}
 use Rattle.message.specs.Kind
 use Rattle.deadlock.specs.Counts.{behindRequest, cleansSent, countKind, except, freshProbes, kindOf, probeOf, probesBy, sentTo, unlessCleaned}
-use Rattle.deadlock.specs.Links.{}
 use Rattle.deadlock.specs.Walks.{rest}
 use Rattle.deadlock.specs.World.{Edge, HolderIs, isCleaning, Known, Live, Mail, Queued, stageOf, VictimIn, World}
 use Rattle.deadlock.specs.Coverage.{cleansFromOthers, cleansFromQueue, Coverage, CycleDeclared, probeReaches, rebroadcastDue, stores, underWay}

@@ -44,7 +44,6 @@ use Rattle.step.proofs.Answer.Laws as An′
 use Rattle.tally.specs.declared.Tally.{Tally}
 use Rattle.tally.specs.Tally.{Fits}
 use Rattle.tally.proofs.Tally as T
-use Rattle.tally.proofs.Tally.Laws as T′
 use Rattle.tally.proofs.add as add
 use Rattle.tally.proofs.add.Symbol as add-def
 use Rattle.tally.proofs.add.Symbol.{name as #tally·add}
