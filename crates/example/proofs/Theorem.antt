@@ -51,4 +51,5 @@ computed = refl
 
 pub theorem : Example
 theorem table mail p q =
-    rw (accepted table mail p q, run-in-turn (Table.started 2 2) (Mail.mailBytes capacity []) Run.zeros calls) computed
+    let s = accepted table mail p q in
+    (rw (s) refl, rw (s, run-in-turn (Table.started 2 2) (Mail.mailBytes capacity []) Run.zeros calls) computed)

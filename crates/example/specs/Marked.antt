@@ -50,8 +50,9 @@ capacity = 4096
 abbrev pub begun : List ℕ → List ℕ → Started
 begun table mail = Calls.start (Calls.config 2 2 capacity) table mail
 
--- the example: after start every answer is as printed, and so is the last line
+-- the example: start accepts, every answer is as printed, and so is the last line
 abbrev pub Example : Type 0
 Example =
     (table mail : List ℕ) → length table ≡ Table.size 2 2 → length mail ≡ Mail.size capacity
-    → shown (Run.run (begun table mail .table) (begun table mail .mail) Run.zeros calls) ≡ record { answers = printed; left = 0; tally = lastLine }
+    → (begun table mail .refusal ≡ 0)
+    × (shown (Run.run (begun table mail .table) (begun table mail .mail) Run.zeros calls) ≡ record { answers = printed; left = 0; tally = lastLine })

@@ -34,7 +34,7 @@ use Rattle.step.specs.Refusal
 use Rattle.step.specs.Refusal.{cause, first}
 use Rattle.step.specs.Step as Step
 use Rattle.step.specs.Step.{Stepped, delivered, sessionActs, sessionPlan, itemPlan, plan, stepCauses, hindered, overfull, acted, stepped, refusedAnswer, unless, committed, nothingToDeliver}
-use Rattle.step.specs.Parts.{Judged, Room, room, roomMade, concluded}
+use Rattle.step.specs.Parts.{Judged, Fitting, fitting, roomMade, concluded}
 use Rattle.step.proofs.Causes.{first-stops, first-goes-on, unmet}
 
 -- what a step that was judged knows of its buffers
@@ -123,15 +123,15 @@ without-entry mail h k =
     }
 
 -- ---- whether there is room beside the entries that are left
-refused-room : {fits : Bool} {mail : List ℕ} (o : Bool) (m n : List ℕ) → fits ≡ false → room fits mail ≡ cond o (room false m) (room true n) → (o ≡ true) × (mail ≡ m)
-refused-room true m n e q = (refl, ap (λ (p : Room). p .mail) q)
-refused-room false m n e q = absurd (false≢true (sym e ∙ ap (λ (p : Room). p .fits) q))
+refused-room : {fits : Bool} {mail : List ℕ} (o : Bool) (m n : List ℕ) → fits ≡ false → fitting fits mail ≡ cond o (fitting false m) (fitting true n) → (o ≡ true) × (mail ≡ m)
+refused-room true m n e q = (refl, ap (λ (p : Fitting). p .mail) q)
+refused-room false m n e q = absurd (false≢true (sym e ∙ ap (λ (p : Fitting). p .fits) q))
 
-granted-room : {fits : Bool} {mail : List ℕ} (o : Bool) (m n : List ℕ) → fits ≡ true → room fits mail ≡ cond o (room false m) (room true n) → (o ≡ false) × (mail ≡ n)
-granted-room true m n e q = absurd (true≢false (sym e ∙ ap (λ (p : Room). p .fits) q))
-granted-room false m n e q = (refl, ap (λ (p : Room). p .mail) q)
+granted-room : {fits : Bool} {mail : List ℕ} (o : Bool) (m n : List ℕ) → fits ≡ true → fitting fits mail ≡ cond o (fitting false m) (fitting true n) → (o ≡ false) × (mail ≡ n)
+granted-room true m n e q = absurd (true≢false (sym e ∙ ap (λ (p : Fitting). p .fits) q))
+granted-room false m n e q = (refl, ap (λ (p : Fitting). p .mail) q)
 
-module _ (mail : List ℕ) (k n : ℕ) {fits : Bool} {after : List ℕ} (made : room fits after ≡ roomMade mail (removeAt k (entriesOf mail)) n) where
+module _ (mail : List ℕ) (k n : ℕ) {fits : Bool} {after : List ℕ} (made : fitting fits after ≡ roomMade mail (removeAt k (entriesOf mail)) n) where
   abbrev left : List Entry
   left = removeAt k (entriesOf mail)
 

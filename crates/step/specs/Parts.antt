@@ -25,18 +25,18 @@ pub record Acting (verb t x k : ℕ) (table mail : List ℕ) : Type 0 where
   pub place : k ≡ delivered verb t x (Mail.entriesOf mail)
   pub found : (verb ≡ request → ⊥) → (verb ≡ release → ⊥) → k < Mail.countOf mail
 
--- whether there is room in the mail, and the mail after
-pub record Room : Type 0 where
+-- whether more entries fit into the mail, and the mail after
+pub record Fitting : Type 0 where
   pub fits : Bool
   pub mail : List ℕ
 
-abbrev pub room : Bool → List ℕ → Room
-room fits mail = record { fits = fits; mail = mail }
+abbrev pub fitting : Bool → List ℕ → Fitting
+fitting fits mail = record { fits = fits; mail = mail }
 
--- the mail holds the entries alone, if n more have room beside them
-abbrev pub roomMade : List ℕ → List Entry → ℕ → Room
+-- the mail with these entries alone, if n more fit beside them; else as it was
+abbrev pub roomMade : List ℕ → List Entry → ℕ → Fitting
 roomMade mail entries n =
-    cond (ltb (Mail.capacityOf mail) (length entries + n)) (room false mail) (room true (Mail.mailBytes (Mail.capacityOf mail) entries))
+    cond (ltb (Mail.capacityOf mail) (length entries + n)) (fitting false mail) (fitting true (Mail.mailBytes (Mail.capacityOf mail) entries))
 
 -- the tail of every step: 9 where there is no room for the entries after it, else what is planned
 abbrev pub concluded : ℕ → List ℕ → List ℕ → Plan → Stepped

@@ -1,4 +1,4 @@
--- One step on buffers that were judged (01: the four verbs): the answer and both buffers after. RULES is docs/RULES.md.
+-- One step on buffers that were judged: the answer and both buffers after. RULES is docs/RULES.md.
 -- T is the session and X the item that a step names; S, M and C are read from the buffers.
 use Prim.Native.Nat.{ℕ}
 use mathlib.Core.Path.{_≡_}
@@ -25,7 +25,7 @@ use Rattle.step.specs.declared.Answer.{Answer}
 use Rattle.step.specs.Refusal
 use Rattle.step.specs.Refusal.{Cause, cause, first}
 
--- both buffers are well-formed
+-- both buffers are well-formed (01: in form)
 pub record Formed (table mail : List ℕ) : Type 0 where
   pub records : Table.Formed table
   pub mail-sized : Mail.sized mail ≡ true

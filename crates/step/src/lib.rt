@@ -19,8 +19,7 @@ ghost use Rattle.table.specs.Layout.{HasSession, HasItem, Formed, sessionsOf, w
 ghost use Rattle.waits.specs.OnTable.{cycleLength};
 ghost use Rattle.step.specs.Refusal.{first};
 ghost use Rattle.step.specs.Step.{refusedAnswer, acceptedAnswer, delivered, sessionActs, stageForbids, maskForbids, stepCauses, sessionPlan, itemPlan, stepped, answered, acted};
-ghost use Rattle.step.specs.Parts as Parts;
-ghost use Rattle.step.specs.Parts.{Judged, Acting, roomMade, concluded};
+ghost use Rattle.step.specs.Parts.{Judged, Acting, fitting, roomMade, concluded};
 
 // The answer of a step. A refused step answers its number and zeros.
 #[repr(C)]
@@ -175,7 +174,7 @@ fn take(mail: &mut [u8], k: usize)
 // If n entries more have room once entry k is out, takes it out.
 fn make_room(mail: &mut [u8], k: usize, n: usize) -> bool
     requires { ⌜ Kept (now mail) × (n ≤ room) ⌝ }
-    ensures { λ r. ⌜ Parts.room r (now (mail .exit)) ≡ roomMade (now (mail .entry)) (removeAt k (entriesOf (now (mail .entry)))) n ⌝ }
+    ensures { λ r. ⌜ fitting r (now (mail .exit)) ≡ roomMade (now (mail .entry)) (removeAt k (entriesOf (now (mail .entry)))) n ⌝ }
 {
     if mailbox::capacity(mail) < left(mail, k) + n {
         return false;
