@@ -51,12 +51,6 @@ module _ (t x : ℕ) (table mail : List ℕ) (j : Judged t x table mail) where
   pub mail-head : 4 ≤ length mail
   mail-head = MailLaws.sized-facts mail (j .formed .mail-sized) .head
 
-  pub capacity-high : capacityOf mail ≤ 4096
-  capacity-high = MailLaws.sized-facts mail (j .formed .mail-sized) .high
-
-  pub count-fits : countOf mail ≤ capacityOf mail
-  count-fits = MailLaws.formed-facts (Table.sessionsOf table) (Table.itemsOf table) mail (j .formed .mail-formed) .fits
-
   pub mail-kept : AreBytes mail → Kept mail
   mail-kept b = MailLaws.formed-kept (Table.sessionsOf table) (Table.itemsOf table) mail (j .formed .mail-sized) (j .formed .mail-formed) b
 
