@@ -4,7 +4,7 @@ use Prim.Native.Nat.{ℕ}
 use native.Mathlib.Omega.{arith}
 use Rattle.lists.proofs.Laws.{getD-member}
 use Rattle.session.specs.Seniority.{senior}
-use Rattle.session.proofs.Seniority.{senior-irreflexive, senior-transitive, senior-total}
+use Rattle.session.proofs.Seniority.{senior-order}
 use Rattle.item.specs.NextHolder.{nextHolder}
 use Rattle.item.proofs.NextHolder.{next-inside}
 use Rattle.deadlock.specs.Machine
@@ -12,8 +12,8 @@ use Rattle.agreement.specs.Reading.{rules}
 
 pub rules-laws : (S M : ℕ) → Machine.Laws (rules S M senior nextHolder)
 rules-laws S M = record {
-  irreflexive = senior-irreflexive;
-  transitive = senior-transitive;
-  total = senior-total;
+  irreflexive = senior-order .irreflexive;
+  transitive = senior-order .transitive;
+  total = senior-order .total;
   next-member = λ x xs. getD-member (x ∷ xs) (nextHolder (x ∷ xs)) (next-inside (x ∷ xs) (omega arith));
 }
