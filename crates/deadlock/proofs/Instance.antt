@@ -1,23 +1,26 @@
 -- The theorem holds of the rules of module Instance, since they meet the laws.
 use mathlib.Core.Bool.{Bool}
+use mathlib.Core.List.{_∷_}
 use Prim.Native.Nat.{ℕ}
-use Rattle.lists.specs.Lists.{member}
-use Rattle.lists.proofs.Tests.{eqb-self}
+use native.Mathlib.Omega.{arith}
+use lib.Dec.{ltb}
+use Rattle.lists.proofs.Laws.{getD-member}
 use Rattle.lists.proofs.Orders.{less}
+use Rattle.item.specs.NextHolder.{mostSenior}
+use Rattle.item.proofs.MostSenior.{most-senior-inside}
 use Rattle.deadlock.specs.Machine.{Call, Laws, State}
 use Rattle.deadlock.specs.Statement.{Guarantees}
-use Rattle.deadlock.specs.Instance.{firstCome}
+use Rattle.deadlock.specs.Instance.{seniorFirst}
 use Rattle.deadlock.proofs.Theorem.{theorem}
 
 module _ (S M : ℕ) where
-  first-come-laws : Laws (firstCome S M)
-  unfolding member
-  first-come-laws = record {
+  senior-first-laws : Laws (seniorFirst S M)
+  senior-first-laws = record {
     irreflexive = less .irreflexive;
     transitive = less .transitive;
     total = less .total;
-    next-member = λ x xs. rw eqb-self;
+    next-member = λ x xs. getD-member (x ∷ xs) (mostSenior ltb (x ∷ xs)) (most-senior-inside less (x ∷ xs) (omega arith));
   }
 
-  pub first-come : (admits : State → Call → Bool) → Guarantees (firstCome S M) admits
-  first-come = theorem (firstCome S M) first-come-laws
+  pub senior-first : (admits : State → Call → Bool) → Guarantees (seniorFirst S M) admits
+  senior-first = theorem (seniorFirst S M) senior-first-laws

@@ -1,8 +1,11 @@
--- Rules that meet the laws: the lower-numbered session is senior, and the first of the queue is the next holder.
+-- Rules that meet the laws: the lower-numbered session is senior, and the most senior session of the queue is the next holder.
 use Prim.Native.Nat.{ℕ}
+use mathlib.Core.List.{_∷_}
 use lib.Dec.{ltb}
+use lib.ListN.{getD}
+use Rattle.item.specs.NextHolder.{mostSenior}
 use Rattle.deadlock.specs.Machine.{Rules}
 
 -- with S sessions and M items
-abbrev pub firstCome : ℕ → ℕ → Rules
-firstCome S M = record { S = S; M = M; senior = ltb; next = λ x _. x }
+abbrev pub seniorFirst : ℕ → ℕ → Rules
+seniorFirst S M = record { S = S; M = M; senior = ltb; next = λ x xs. getD (x ∷ xs) (mostSenior ltb (x ∷ xs)) 0 }

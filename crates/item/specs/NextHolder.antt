@@ -1,7 +1,19 @@
--- Who holds an item next when it is released: the first in its queue. Nothing else knows how this is decided; the rules take it as a parameter.
+-- Who holds an item next when it is released: the most senior session of its queue. Nothing else knows how this is decided; the rules take it as a parameter.
 use Prim.Native.Nat.{ℕ}
+use mathlib.Core.Bool.{Bool, not}
 use mathlib.Core.List.{List}
+use Rattle.lists.specs.Lists.{all, findIndex}
+use Rattle.session.specs.Seniority
+
+module _ (senior : ℕ → ℕ → Bool) where
+  -- no session of the queue is senior to r; exactly one member passes, since seniority is a strict total order
+  unfoldable pub isMostSenior : List ℕ → ℕ → Bool
+  isMostSenior q r = all (λ s. not (senior s r)) q
+
+  -- the place of that member in a queue that is not empty
+  unfoldable pub mostSenior : List ℕ → ℕ
+  mostSenior q = findIndex (isMostSenior q) q
 
 -- the place of the next holder in a queue that is not empty
 unfoldable pub nextHolder : List ℕ → ℕ
-nextHolder q = 0
+nextHolder = mostSenior Seniority.senior

@@ -99,12 +99,22 @@ impl Item {
         self.place(t) < self.waiting as usize
     }
 
-    // The place of the next holder in the queue.
+    // The place of the next holder in the queue: of the most senior session.
     fn next_holder(self) -> usize
         requires { ⌜ (0 < self .waiting) × (self .waiting ≤ maxSessions) ⌝ }
         ensures { λ r. ⌜ (r ≡ nextHolder (unpacked self .queue)) × (r < self .waiting) ⌝ }
     {
-        0
+        let queue = self.queue;
+        let n = self.waiting as usize;
+        let mut next: usize = 0;
+        let mut i: usize = 1;
+        while i < n {
+            if Session::senior(queue[i], queue[next]) {
+                next = i;
+            }
+            i += 1;
+        }
+        next
     }
 
     // The record without the session at place k of its queue.

@@ -54,6 +54,22 @@ module _ {A : Type 0} where
   findIndex-found p [] d h = absurd (omega arith)
   findIndex-found p (a ∷ l) d h = found-step p a l d (findIndex p l) (p a) refl (findIndex-found p l d) h
 
+  -- the first element that passes the test: those before it do not
+  pub findIndex-first : (p : A → Bool) (l : List A) (d : A) (k : ℕ) → k < length l → p (getD l k d) ≡ true
+      → ((j : ℕ) → j < k → p (getD l j d) ≡ false) → findIndex p l ≡ k
+  unfolding findIndex
+  findIndex-first p [] d k h e f = absurd (omega arith)
+  findIndex-first p (a ∷ l) d zero h e f = rw (e) refl
+  findIndex-first p (a ∷ l) d (suc k) h e f =
+      rw (f 0 (omega arith)) (ap suc (findIndex-first p l d k (omega arith) e (λ j g. f (suc j) (omega arith))))
+
+  -- where every element fails the test none is kept
+  pub filter-none : (p : A → Bool) (l : List A) → all (λ a. not (p a)) l ≡ true → filter p l ≡ []
+  unfolding filter all
+  filter-none p [] e = refl
+  filter-none p (a ∷ l) e =
+      let h = and-both (not (p a)) (all (λ a. not (p a)) l) e in rw (not-true (p a) (h .0)) (filter-none p l (h .1))
+
   -- without an element the list is what stands before it and what stands behind it
   pub removeAt-split : (k : ℕ) (l : List A) → k < length l → removeAt k l ≡ take k l ++ drop (suc k) l
   unfolding removeAt
@@ -139,6 +155,11 @@ module _ {A : Type 0} (p : A → Bool) where
   all-getD [] k d e h = absurd (omega arith)
   all-getD (a ∷ l) zero d e h = and-both (p a) (all p l) e .0
   all-getD (a ∷ l) (suc k) d e h = all-getD l k d (and-both (p a) (all p l) e .1) (omega arith)
+
+  pub all-intro : (l : List A) (d : A) → ((k : ℕ) → k < length l → p (getD l k d) ≡ true) → all p l ≡ true
+  unfolding all
+  all-intro [] d f = refl
+  all-intro (a ∷ l) d f = and-intro (f 0 (omega arith)) (all-intro l d (λ k h. f (suc k) (omega arith)))
 
   pub all-take : (n : ℕ) (l : List A) → all p l ≡ true → all p (take n l) ≡ true
   unfolding all
