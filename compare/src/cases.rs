@@ -7,8 +7,8 @@ use crate::numbers::{
     kind, DELIVER_TO_ITEM, DELIVER_TO_SESSION, GROWING, RELEASE, REQUEST, SHRINKING, TO_ITEM,
 };
 use model::layout::{
-    DIRECTION, HOLDER, ITEM_SIZE, JUNIORS, KIND, MAX_SESSIONS, QUEUE, QUEUE_LENGTH, ROUTE_ITEM,
-    ROUTE_SESSION, SESSION_SIZE, STAGE, TABLE_ITEMS, TABLE_SESSIONS,
+    DIRECTION, ITEM_SIZE, JUNIORS, KIND, MAX_SESSIONS, ROUTE_ITEM, ROUTE_SESSION, SESSION_SIZE,
+    STAGE, TABLE_ITEMS, TABLE_SESSIONS,
 };
 use model::scenario::Random;
 use model::{Config, ACCEPTED};
@@ -380,8 +380,9 @@ fn full_mail(comparison: &mut Comparison, random: &mut Random) -> Outcome {
     some_steps(comparison, random, config, &mut buffers, steps)
 }
 
-/// The steps that send most: a request with all 64 probes, a clean or a
-/// release at an item where 62 or 63 wait, into mail with more or less room.
+/// The steps that send most: a request with all 64 probes; a clean, a release
+/// or a rebroadcast at an item where everyone waits, into mail with more or less
+/// room.
 fn many_sends(comparison: &mut Comparison, random: &mut Random) -> Outcome {
     let config = Config {
         capacity: random.between(100, 400),
@@ -401,30 +402,43 @@ fn many_sends(comparison: &mut Comparison, random: &mut Random) -> Outcome {
     }
     comparison.step(REQUEST, session, config.any_item(random), &mut own)?;
 
-    let Some(place) = count.checked_sub(1) else {
+    if count == 0 {
         return Ok(());
-    };
-    for kind in [kind::RELEASE, kind::CLEAN, kind::REBROADCAST] {
-        let mut at_item = buffers.clone();
-        let holder = random.between(50, config.sessions) as u8;
-        let item = config.any_item(random);
-        let record = at_item.item_mut(item as usize);
-        record.fill(0);
-        record[HOLDER] = holder;
-        // All others wait, the most junior first.
-        record[QUEUE_LENGTH] = MAX_SESSIONS as u8 - 1;
-        let waiting = (1..=MAX_SESSIONS as u8).filter(|&session| session != holder);
-        for (byte, session) in record[QUEUE].iter_mut().zip(waiting.rev()) {
-            *byte = session;
-        }
-        let ab = u8::from(kind == kind::CLEAN);
-        at_item.set_message(
-            place as usize,
-            [TO_ITEM, holder, item as u8],
-            [kind, ab, ab],
-        );
-        comparison.step(DELIVER_TO_ITEM, holder.into(), item, &mut at_item)?;
     }
+    for kind in [kind::RELEASE, kind::CLEAN, kind::REBROADCAST] {
+        let holder = random.between(50, config.sessions) as u8;
+        everyone_waits(comparison, random, &buffers, holder, holder, kind)?;
+    }
+    // Any holder, and none: all 64 wait then.
+    for holder in [config.any_session(random) as u8, 0] {
+        let from = match holder {
+            0 => config.any_session(random) as u8,
+            holder => holder,
+        };
+        everyone_waits(comparison, random, &buffers, holder, from, kind::RELEASE)?;
+    }
+    Ok(())
+}
+
+/// The last message of these buffers, made one of this kind and sender, comes
+/// to an item for which all but its holder wait, in any order.
+fn everyone_waits(
+    comparison: &mut Comparison,
+    random: &mut Random,
+    buffers: &Buffers,
+    holder: u8,
+    from: u8,
+    kind: u8,
+) -> Outcome {
+    let mut buffers = buffers.clone();
+    let item = LARGEST.any_item(random);
+    let waiting = MAX_SESSIONS - usize::from(holder != 0);
+    let record = buffers.item_mut(item as usize);
+    forge::set_item(random, LARGEST, record, holder, waiting);
+    let ab = u8::from(kind == kind::CLEAN);
+    let place = buffers.count() - 1;
+    buffers.set_message(place, [TO_ITEM, from, item as u8], [kind, ab, ab]);
+    comparison.step(DELIVER_TO_ITEM, from.into(), item, &mut buffers)?;
     Ok(())
 }
 

@@ -68,10 +68,14 @@ const ITEM_RULES: &[&str] = &[
     "request: joins and closes a cycle",
     "request: joins and closes none",
     "release: not from the holder, dropped",
+    "release: no holder but a queue, dropped",
+    "release: no holder but a queue of 64, dropped",
     "release: empty queue, no holder",
     "release: next holder, nobody left waiting",
-    "release: next holder, probes and resends",
-    "release: next holder, resends alone",
+    "release: next holder from the front of the queue",
+    "release: next holder from the middle of the queue",
+    "release: next holder from the end of the queue",
+    "release: next holder from a queue of 63",
     "probe: not from the queue, dropped",
     "probe: no holder, dropped",
     "probe: holder senior, dropped",
@@ -320,15 +324,31 @@ impl Coverage {
                     "request: joins and closes none"
                 });
             }
+            kind::RELEASE if holder == 0 && queue.len() == MAX_SESSIONS => {
+                rules.hit("release: no holder but a queue of 64, dropped")
+            }
+            kind::RELEASE if holder == 0 && !queue.is_empty() => {
+                rules.hit("release: no holder but a queue, dropped")
+            }
             kind::RELEASE if from != holder => rules.hit("release: not from the holder, dropped"),
-            kind::RELEASE => rules.hit(match queue {
-                [] => "release: empty queue, no holder",
-                [_] => "release: next holder, nobody left waiting",
-                [next, left @ ..] if senior_to(*next, left) => {
-                    "release: next holder, probes and resends"
+            kind::RELEASE => {
+                // The most senior has the least number.
+                let least = queue.iter().min();
+                rules.hit(match queue {
+                    [] => "release: empty queue, no holder",
+                    [_] => "release: next holder, nobody left waiting",
+                    [first, ..] if least == Some(first) => {
+                        "release: next holder from the front of the queue"
+                    }
+                    [.., last] if least == Some(last) => {
+                        "release: next holder from the end of the queue"
+                    }
+                    _ => "release: next holder from the middle of the queue",
+                });
+                if queue.len() == MAX_SESSIONS - 1 {
+                    rules.hit("release: next holder from a queue of 63");
                 }
-                _ => "release: next holder, resends alone",
-            }),
+            }
             kind::PROBE if !waits => rules.hit("probe: not from the queue, dropped"),
             kind::PROBE if holder == 0 => rules.hit("probe: no holder, dropped"),
             kind::PROBE if holder < body[BODY_A] => rules.hit("probe: holder senior, dropped"),

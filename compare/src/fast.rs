@@ -275,6 +275,11 @@ impl Sends {
                 self.push(holder, PROBE, waiting, holder);
             }
         }
+        self.resends(queue, but);
+    }
+
+    /// Resends to all but one.
+    fn resends(&mut self, queue: &[u8], but: u8) {
         for &waiting in queue {
             if waiting != but {
                 self.push(waiting, RESEND, 0, 0);
@@ -488,14 +493,12 @@ fn at_item(
                 record[HOLDER] = 0;
                 return false;
             }
-            let queue = &mut record[QUEUE];
-            let next = queue[0];
-            queue.copy_within(1..length, 0);
-            queue[length - 1] = 0;
+            // The least number is the most senior: nobody left causes a probe.
+            let next = queue.iter().fold(u8::MAX, |least, &w| least.min(w));
             record[HOLDER] = next;
-            record[QUEUE_LENGTH] -= 1;
+            leave_queue(record, next);
             sends.push(next, GRANT, 0, 0);
-            sends.probes_and_resends(next, &record[QUEUE][..length - 1], 0);
+            sends.resends(&record[QUEUE][..length - 1], 0);
         }
         PROBE if holder >= a && queue.contains(&from) => {
             if holder == a {
@@ -512,17 +515,23 @@ fn at_item(
         }
         REBROADCAST if holder != 0 => sends.probes_and_resends(holder, queue, 0),
         WITHDRAW => {
-            if let Some(place) = queue.iter().position(|&waiting| waiting == from) {
-                let queue = &mut record[QUEUE];
-                queue.copy_within(place + 1..length, place);
-                queue[length - 1] = 0;
-                record[QUEUE_LENGTH] -= 1;
-            }
+            leave_queue(record, from);
             sends.push(from, WITHDRAWN, 0, 0);
         }
         _ => {}
     }
     false
+}
+
+/// A session leaves the queue, if it stands there, and those behind it close up.
+fn leave_queue(record: &mut ItemBytes, session: u8) {
+    let length = usize::from(record[QUEUE_LENGTH]);
+    let queue = &mut record[QUEUE][..length];
+    if let Some(place) = queue.iter().position(|&waiting| waiting == session) {
+        queue.copy_within(place + 1.., place);
+        queue[length - 1] = 0;
+        record[QUEUE_LENGTH] -= 1;
+    }
 }
 
 /// Session `own` receives a message from an item.

@@ -123,16 +123,22 @@ fn item_record(random: &mut Random, config: Config, record: &mut [u8]) {
         1 => 0,
         _ => config.any_session(random),
     };
-    let mut others: Vec<u8> = (1..=config.sessions)
+    let others = config.sessions - u64::from(holder != 0);
+    let length = Filling::draw(random).of(random, others) as usize;
+    set_item(random, config, record, holder as u8, length);
+}
+
+/// An item with this holder, or 0, for which so many others wait, in any order.
+pub fn set_item(random: &mut Random, config: Config, record: &mut [u8], holder: u8, length: usize) {
+    let mut others: Vec<u8> = (1..=config.sessions as u8)
         .filter(|&session| session != holder)
-        .map(|session| session as u8)
         .collect();
-    let length = Filling::draw(random).of(random, others.len() as u64) as usize;
     for k in 0..length {
         let other = random.between(k as u64, others.len() as u64 - 1) as usize;
         others.swap(k, other);
     }
-    record[HOLDER] = holder as u8;
+    record.fill(0);
+    record[HOLDER] = holder;
     record[QUEUE_LENGTH] = length as u8;
     record[QUEUE][..length].copy_from_slice(&others[..length]);
 }

@@ -25,7 +25,7 @@ fn difference(subject: impl Calls + 'static) -> Option<String> {
 
 #[test]
 fn every_misreading_is_found() {
-    for misreading in Misreading::ALL {
+    for misreading in Misreading::ALL.into_iter().chain(Misreading::REPLACED) {
         let found = difference(Misread(misreading));
         println!("{misreading:?}: {found:?}");
         assert!(found.is_some(), "{misreading:?}");

@@ -59,10 +59,14 @@ impl Item {
         bytes[QUEUE][..self.queue.len()].copy_from_slice(&self.queue);
     }
 
-    /// The choice of the next holder: its place in the queue, "the first in
-    /// line".
-    fn next_holder(&self) -> Option<usize> {
-        (!self.queue.is_empty()).then_some(0)
+    /// The choice of the next holder: its place in the queue. F-1: "a freed item
+    /// goes to the most senior session in its line".
+    fn next_holder(&self, misreading: Misreading) -> Option<usize> {
+        if misreading == Misreading::FirstInLine {
+            return (!self.queue.is_empty()).then_some(0);
+        }
+        let most_senior = |&waiting: &u8| !self.queue.iter().any(|&other| senior(other, waiting));
+        self.queue.iter().position(most_senior)
     }
 
     /// "probe (R, holder) to the holder for each R in line senior to it".
@@ -108,7 +112,7 @@ impl Item {
     pub fn receive(self, from: u8, body: Body, misreading: Misreading) -> Outcome {
         match body {
             Body::Request => self.requested(from),
-            Body::Release => self.released(from),
+            Body::Release => self.released(from, misreading),
             Body::Probe { initiator, junior } => self.probed(from, initiator, junior, misreading),
             Body::Clean { victim, initiator } => self.cleaned(from, victim, initiator),
             Body::Rebroadcast => self.rebroadcast(),
@@ -138,15 +142,16 @@ impl Item {
         self.gives(sends)
     }
 
-    /// "dropped unless T is holder. Empty line: no holder. Else the first in
-    /// line, N, becomes holder and leaves the line; grant to N; then probe
-    /// (R, N) to N for each remaining R senior to N; then resend to each
-    /// remaining R; both in line order."
-    fn released(mut self, from: u8) -> Outcome {
+    /// "dropped unless T is holder. Empty line: no holder. Else [..] N, becomes
+    /// holder and leaves the line; grant to N; then probe (R, N) to N for each
+    /// remaining R senior to N; then resend to each remaining R; both in line
+    /// order." F-1: "N's place in the line closes up, and the others keep their
+    /// order."
+    fn released(mut self, from: u8, misreading: Misreading) -> Outcome {
         if from != self.holder {
             return self.drops();
         }
-        let Some(place) = self.next_holder() else {
+        let Some(place) = self.next_holder(misreading) else {
             self.holder = 0;
             return self.gives(Vec::new());
         };

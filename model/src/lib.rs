@@ -1,9 +1,10 @@
-//! A plain model of the lock manager (01: the desk), written from document 01
-//! and the recorded readings of it, without sight of the product's code, to
-//! check the product against.
+//! A plain model of the lock manager (01: the desk), written from document 01,
+//! the requests of document 02 that have landed and the recorded readings of
+//! them, without sight of the product's code, to check the product against.
 //!
 //! A call decodes the lent buffers into records, applies one rule and encodes
-//! what follows. Comments in quotation marks are the words of 01.
+//! what follows. Comments in quotation marks are the words of 01, or of 02
+//! where they name a request.
 
 pub mod calls;
 pub mod config;

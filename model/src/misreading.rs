@@ -1,5 +1,5 @@
-//! The entries of 01's "Plausible misreadings", each of which can be switched
-//! on, to show that the tests would notice it.
+//! The entries of 01's "Plausible misreadings", and rules that a later request
+//! has replaced. Each can be switched on, to show that the tests would notice.
 
 #[derive(Clone, Copy, PartialEq, Eq, Debug, Default)]
 pub enum Misreading {
@@ -16,9 +16,12 @@ pub enum Misreading {
     ForwardsUnchanged,
     /// "Passing a late probe back to a sender that has become the holder".
     PassesLateProbe,
+    /// Replaced by F-1: "the first in line, N, becomes holder".
+    FirstInLine,
 }
 
 impl Misreading {
+    /// Those of 01, which break demand 3.
     pub const ALL: [Misreading; 5] = [
         Misreading::VictimForwards,
         Misreading::RebuildsFromSenderOnly,
@@ -26,4 +29,8 @@ impl Misreading {
         Misreading::ForwardsUnchanged,
         Misreading::PassesLateProbe,
     ];
+
+    /// Rules that were right once. Demand 3 holds under them too; the bytes
+    /// differ.
+    pub const REPLACED: [Misreading; 1] = [Misreading::FirstInLine];
 }

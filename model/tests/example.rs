@@ -251,7 +251,7 @@ fn full_mail_takes_a_delivery_that_sends_at_most_one() {
     desk.sends(TO_ITEM, 1, 1, 1);
     desk.sends(TO_SESSION, 1, 1, 0);
 
-    // A release sends grant, probe and resend: three in place of one.
+    // A release sends grant and resend: two in place of one.
     let release = |capacity| {
         let mut desk = Desk::new(3, 1, capacity).forged(|table| {
             table.sessions[2].held = 1;
@@ -263,8 +263,8 @@ fn full_mail_takes_a_delivery_that_sends_at_most_one() {
         desk.sends(RELEASE, 3, 1, 1);
         desk
     };
-    release(2).refuses(TO_ITEM, 3, 1, Refusal::MailFull);
-    release(3).sends(TO_ITEM, 3, 1, 3);
+    release(1).refuses(TO_ITEM, 3, 1, Refusal::MailFull);
+    release(2).sends(TO_ITEM, 3, 1, 2);
 }
 
 #[test]

@@ -73,23 +73,48 @@ fn item_release() {
     item_drops(item(2, &[1]), 1, Body::Release);
     item_drops(item(0, &[1]), 1, Body::Release);
     item_does(item(2, &[]), 2, Body::Release, item(0, &[]), &[], None);
-    let sends = [
-        (3, Body::Grant),
-        (3, probe(2, 3)),
-        (3, probe(1, 3)),
-        (2, Body::Resend),
-        (4, Body::Resend),
-        (1, Body::Resend),
-    ];
-    let after = item(3, &[2, 4, 1]);
-    item_does(
-        item(5, &[3, 2, 4, 1]),
-        5,
-        Body::Release,
-        after,
-        &sends,
-        None,
-    );
+    // The most senior is next wherever it stands, and the others keep their
+    // order. None of them is senior to it, so that no probe is sent.
+    for (queue, left) in [
+        (&[2, 5, 3], &[5, 3]),
+        (&[5, 2, 3], &[5, 3]),
+        (&[5, 3, 2], &[5, 3]),
+        (&[3, 2, 5], &[3, 5]),
+    ] {
+        for holder in [1, 4, 6] {
+            let sends = [
+                (2, Body::Grant),
+                (left[0], Body::Resend),
+                (left[1], Body::Resend),
+            ];
+            let before = item(holder, queue);
+            item_does(before, holder, Body::Release, item(2, left), &sends, None);
+        }
+    }
+}
+
+/// The longest queues: 63 sessions beside a holder, 64 without one.
+#[test]
+fn item_release_with_a_long_queue() {
+    let all: Vec<u8> = (1..=MAX_SESSIONS as u8).collect();
+    let backwards: Vec<u8> = all.iter().rev().copied().collect();
+    for everyone in [all, backwards] {
+        // No session is holder 0.
+        for &from in &everyone {
+            item_drops(item(0, &everyone), from, Body::Release);
+        }
+        for &holder in &everyone {
+            let mut queue = everyone.clone();
+            queue.retain(|&waiting| waiting != holder);
+            let next = if holder == 1 { 2 } else { 1 };
+            let mut left = queue.clone();
+            left.retain(|&waiting| waiting != next);
+            let mut sends = vec![(next, Body::Grant)];
+            sends.extend(left.iter().map(|&waiting| (waiting, Body::Resend)));
+            let (before, after) = (item(holder, &queue), item(next, &left));
+            item_does(before, holder, Body::Release, after, &sends, None);
+        }
+    }
 }
 
 #[test]

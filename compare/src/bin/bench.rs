@@ -4,10 +4,10 @@
 
 use compare::calls::{Calls, Fast, Library, Model};
 use compare::comparison::Buffers;
-use compare::forge::well_formed;
+use compare::forge::{set_item, well_formed};
 use compare::numbers::{
-    kind, DELIVER_TO_ITEM, DELIVER_TO_SESSION, GROWING, RELEASE, REQUEST, TO_ITEM, TO_SESSION,
-    WAITING,
+    kind, DELIVER_TO_ITEM, DELIVER_TO_SESSION, GROWING, RELEASE, REQUEST, SHRINKING, TO_ITEM,
+    TO_SESSION, WAITING,
 };
 use model::layout::{
     route_at, AWAITED, HELD, HOLDER, JUNIORS, QUEUE, QUEUE_LENGTH, ROUTE_ITEM, STAGE,
@@ -120,6 +120,66 @@ fn buffers(config: Config, count: u64, contents: Table) -> Buffers {
     buffers
 }
 
+/// The order of a queue.
+#[derive(Clone, Copy)]
+enum Order {
+    SeniorFirst,
+    SeniorLast,
+    Mixed,
+}
+
+/// The delivery of a release: it stands at this place of the mail, alone on its
+/// route. Session S gives up item 1, for which all others wait in this order.
+fn release(mut buffers: Buffers, config: Config, place: usize, order: Order) -> Row {
+    let holder = config.sessions as u8;
+    buffers.session_mut(holder.into()).fill(0);
+    buffers.session_mut(holder.into())[STAGE] = SHRINKING;
+    let others = usize::from(holder) - 1;
+    let item = buffers.item_mut(1);
+    set_item(&mut Random::new(7), config, item, holder, others);
+    let queue = &mut item[QUEUE][..others];
+    let name = match order {
+        Order::SeniorFirst => {
+            queue.sort_unstable();
+            "deliver release, senior first"
+        }
+        Order::SeniorLast => {
+            queue.sort_unstable_by(|a, b| b.cmp(a));
+            "deliver release, senior last"
+        }
+        Order::Mixed => "deliver release",
+    };
+    buffers.set_message(place, [TO_ITEM, holder, 1], [kind::RELEASE, 0, 0]);
+    Row {
+        name,
+        call: Call::Step(DELIVER_TO_ITEM, holder.into(), 1),
+        buffers,
+        floor_target: None,
+    }
+}
+
+/// One item, for which all others wait, and its release as the only message:
+/// the smallest buffers in which the queue is as long as can be.
+const LONG_QUEUE: Config = Config {
+    sessions: LARGEST.sessions,
+    items: 1,
+    capacity: 128,
+};
+
+fn long_queue_rows() -> Vec<Row> {
+    let mut buffers = Buffers::filled(LONG_QUEUE, 0);
+    buffers.set_numbers(LONG_QUEUE);
+    for session in 1..=LONG_QUEUE.sessions as usize {
+        let record = buffers.session_mut(session);
+        record[STAGE] = WAITING;
+        record[AWAITED] = 1;
+    }
+    buffers.set_count(1);
+    [Order::SeniorFirst, Order::SeniorLast, Order::Mixed]
+        .map(|order| release(buffers.clone(), LONG_QUEUE, 0, order))
+        .into()
+}
+
 fn rows(config: Config, count: u64) -> Vec<Row> {
     let n = config.sessions;
     let full = count == config.capacity;
@@ -141,7 +201,7 @@ fn rows(config: Config, count: u64) -> Vec<Row> {
         buffers: filled.clone(),
         floor_target: floor_target.filter(|_| matches!(call, Call::Step(..))),
     };
-    vec![
+    let mut rows = vec![
         row("request", Call::Step(REQUEST, 1, 3)),
         row("release", Call::Step(RELEASE, 1, 1)),
         row("deliver to item", Call::Step(DELIVER_TO_ITEM, n, 1)),
@@ -156,7 +216,12 @@ fn rows(config: Config, count: u64) -> Vec<Row> {
             },
             floor_target: None,
         },
-    ]
+    ];
+    if count >= 2 && !full {
+        let place = count as usize / 2 - 1;
+        rows.push(release(filled, config, place, Order::Mixed));
+    }
+    rows
 }
 
 fn refusal(subject: &dyn Calls, call: Call, buffers: &mut Buffers) -> u8 {
@@ -263,45 +328,62 @@ fn main() {
     println!("stored and passed on. With an empty mail a delivery is refused with 8, with a");
     println!("full mail a request or release with 9, both after all bytes were looked at.");
     println!("With a full mail the table is full too: longest queues, every probe stored.");
+    println!("Where a release is delivered all others wait for the item, in an order drawn at");
+    println!("random if none is named, and the most senior becomes its holder.");
 
     let mut missed = 0;
     let largest = (LARGEST.sessions, LARGEST.capacity);
     for (n, capacity) in [(8, 64), (16, 256), largest] {
         let config = Config::new(n, n, capacity);
-        let bytes = config.table_length() + config.mail_length();
-        println!("\nS = M = {n}, C = {capacity}: {bytes} bytes");
-        println!(
-            "{:>6}  {:20}{:>8}{:>10}{:>10}{:>10}{:>10}  {:>7}{:13}{:>7}{:13}{:>7}",
-            "mail",
-            "call",
-            "refusal",
-            "library",
-            "model",
-            "floor",
-            "fast",
-            "/floor",
-            "",
-            "/model",
-            "",
-            "/fast",
-        );
+        header(config);
         let mut counts = vec![0, capacity / 8, capacity];
         if n == LARGEST.sessions {
             counts.insert(1, 64);
         }
         for count in counts {
-            for row in rows(config, count) {
-                let refused = refusal(&Library, row.call, &mut row.buffers.clone());
-                let [library, model, floor, fast] = measure(&row);
-                println!(
-                    "{count:>6}  {:20}{refused:>8}{library:>10.0}{model:>10.0}{floor:>10.0}{fast:>10.0}  {} {} {}",
-                    row.name,
-                    beside(library / floor, row.floor_target, &mut missed),
-                    beside(library / model, Some(MODEL), &mut missed),
-                    beside(library / fast, Some(FAST), &mut missed),
-                );
-            }
+            print(count, rows(config, count), &mut missed);
         }
     }
+    header(LONG_QUEUE);
+    print(1, long_queue_rows(), &mut missed);
     println!("\n{missed} targets missed.");
+}
+
+fn header(config: Config) {
+    let Config {
+        sessions,
+        items,
+        capacity,
+    } = config;
+    let bytes = config.table_length() + config.mail_length();
+    println!("\nS = {sessions}, M = {items}, C = {capacity}: {bytes} bytes");
+    println!(
+        "{:>6}  {:30}{:>8}{:>10}{:>10}{:>10}{:>10}  {:>7}{:13}{:>7}{:13}{:>7}",
+        "mail",
+        "call",
+        "refusal",
+        "library",
+        "model",
+        "floor",
+        "fast",
+        "/floor",
+        "",
+        "/model",
+        "",
+        "/fast",
+    );
+}
+
+fn print(count: u64, rows: Vec<Row>, missed: &mut usize) {
+    for row in rows {
+        let refused = refusal(&Library, row.call, &mut row.buffers.clone());
+        let [library, model, floor, fast] = measure(&row);
+        println!(
+            "{count:>6}  {:30}{refused:>8}{library:>10.0}{model:>10.0}{floor:>10.0}{fast:>10.0}  {} {} {}",
+            row.name,
+            beside(library / floor, row.floor_target, missed),
+            beside(library / model, Some(MODEL), missed),
+            beside(library / fast, Some(FAST), missed),
+        );
+    }
 }
