@@ -78,7 +78,7 @@ static const script_step out_of_the_cycle[] = {
     {TO_SESSION, 2, 1, {0, 1, 0, 0, 0},
      "Session 2 releases all that it holds, item 2, and is rolled back."},
     {TO_ITEM, 2, 2, {0, 1, 0, 0, 0},
-     "Item 2 is free for the first in its wait queue: session 1 becomes its holder."},
+     "Item 2 goes to the most senior session in its wait queue: session 1 becomes its holder."},
     {TO_SESSION, 1, 2, {0, 0, 0, 0, 0}, "Session 1 holds both items. The mail is empty."},
 };
 

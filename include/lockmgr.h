@@ -2,12 +2,13 @@
  * lockmgr: a lock manager that finds deadlocks, as a C library.
  *
  * Sessions lock items, one at a time and exclusively. An item that is held
- * keeps a wait queue. Sessions and items talk only by messages, which stand in
- * a mailbox until you deliver them. When sessions come to wait for each other
- * in a cycle, probes find it: the most junior session of the cycle, the
- * victim, is rolled back and gives up everything that it holds. You call three
- * functions on numbers and two byte buffers. The library allocates nothing,
- * keeps nothing between calls, does no input or output and starts no threads.
+ * keeps a wait queue, and when it is released it goes to the most senior
+ * session there. Sessions and items talk only by messages, which stand in a
+ * mailbox until you deliver them. When sessions come to wait for each other in
+ * a cycle, probes find it: the most junior session of the cycle, the victim, is
+ * rolled back and gives up everything that it holds. You call three functions
+ * on numbers and two byte buffers. The library allocates nothing, keeps nothing
+ * between calls, does no input or output and starts no threads.
  *
  * Its limits: 1 to 64 sessions, 1 to 64 items, 1 to 4096 messages. Locks are
  * exclusive. A session that waits cannot give up. A session number serves
@@ -30,7 +31,11 @@
  *   5. There is no call to end it: drop the buffers, or start again on them.
  *
  * Sessions and items are numbered from 1. Session 1 is the most senior, the
- * session with the highest number the most junior.
+ * session with the highest number the most junior. Seniority decides two
+ * things: who is rolled back, and who holds an item next when several wait for
+ * it. Who came first does not matter for that: a session that waits can be
+ * passed over by any senior one that asks later, by each of them once, since
+ * none asks again after its first release.
  *
  *   uint8_t table[LOCKMGR_TABLE_SIZE(2, 3)];                  // 2 sessions, 3 items
  *   uint8_t mail[LOCKMGR_MAIL_SIZE(LOCKMGR_CAPACITY(2, 3))];
@@ -124,8 +129,8 @@
  * that sends at most one message always fits. But a mailbox can come to hold
  * only messages that do not fit any more. It is jammed then: every delivery is
  * refused, for good, and who waits goes on waiting. A single message can do
- * it: with 64 sessions, one item and a capacity of 124, the release of an item
- * for which 63 sessions wait would send 125 messages.
+ * it: with 64 sessions, one item and a capacity of 62, the release of an item
+ * for which 63 sessions wait would send 63 messages.
  *
  * Proved is what holds when the mail is empty: no cycle stands, and as many
  * sessions have been rolled back as cycles were closed. That the mail gets
@@ -142,7 +147,7 @@
  * has ever been refused with LOCKMGR_MAIL_FULL: in all states of small lock
  * managers, in searches for the worst case, and in long random runs, none of
  * which needed more than 4 S + M. This is tried, not proved. For deadlocks the
- * order of deliveries does not matter, for room it does: a mailbox of 993
+ * order of deliveries does not matter, for room it does: a mailbox of 962
  * messages has been jammed by passing over routes that carry rebroadcasts.
  * Leaving places free before a call is no substitute for a rule.
  *
@@ -155,9 +160,11 @@
  *
  * VERSIONS
  *
- * LOCKMGR_VERSION_MAJOR, _MINOR and _PATCH number the interface. Before 1.0 a
- * new minor number may lengthen an argument list or an answer: recompile.
- * Callers that start with lockmgr_options keep compiling.
+ * LOCKMGR_VERSION_MAJOR, _MINOR and _PATCH number the interface and the rules.
+ * Before 1.0 a new minor number may lengthen an argument list or an answer, or
+ * change a rule: recompile. Callers that start with lockmgr_options keep
+ * compiling. What is guaranteed is proved for a lock manager that one minor
+ * version has served from its start on.
  *
  * LOCKMGR_LAYOUT_VERSION numbers the bytes of table and mail. The buffers do
  * not carry it. If you store or send them, store that number beside them, and
@@ -179,9 +186,9 @@ extern "C" {
 /* ---- Version ------------------------------------------------------------ */
 
 #define LOCKMGR_VERSION_MAJOR 0
-#define LOCKMGR_VERSION_MINOR 1
+#define LOCKMGR_VERSION_MINOR 2
 #define LOCKMGR_VERSION_PATCH 0
-#define LOCKMGR_VERSION "0.1.0"
+#define LOCKMGR_VERSION "0.2.0"
 
 /* One number that grows with the version. */
 #define LOCKMGR_VERSION_NUMBER \

@@ -60,19 +60,29 @@ if [ -w /dev/full ] && $input examples/two_sessions.steps > /dev/full 2> "$folde
     fault "a failure to write is silent"
 fi
 
+# tells TEXT..: the trace has these lines.
+tells() {
+    for text in "$@"; do
+        grep -qxF -- "$text" "$folder/trace" || fault "the trace has no line: $text"
+    done
+}
+
 # The trace, from a file with a space in its name.
 cp examples/two_sessions.steps "$folder/two sessions.steps"
 make --no-print-directory --silent replay FILE="$folder/two sessions.steps" STEP=10 \
     DOT="$folder/the waits.dot" LIB="$LOCKMGR_LIB" > "$folder/trace"
-for text in "10 3 2 1 0 0 1 0 0" \
+tells "10 3 2 1 0 0 1 0 0" \
     "      CYCLE CLOSED: session 2 waits for session 1 waits for session 2" \
     "      session 2 waits for item 1 held by session 1" \
     "      sent: probe (1, 2) to session 2" \
     "      DEADLOCK DECLARED: session 2 is the victim, session 1 the initiator" \
-    "      session 2 is rolled back" "end 0 1 1 1"; do
-    grep -qxF -- "$text" "$folder/trace" || fault "the trace has no line: $text"
-done
+    "      session 2 is rolled back" "end 0 1 1 1"
 [ "$(grep -c 'color=red' "$folder/the waits.dot")" = 8 ] || fault "the cycle is not drawn"
+make --no-print-directory --silent replay FILE=examples/senior_first.steps LIB="$LOCKMGR_LIB" \
+    > "$folder/trace"
+tells "10 3 2 1 0 2 0 0 0" \
+    "      sent: grant to session 1" "      sent: resend to session 3" \
+    "      session 3 waits for item 1 held by session 1" "end 0 0 0 0"
 if make --no-print-directory --silent replay FILE="$folder/missing" LIB="$LOCKMGR_LIB" \
     > "$folder/out" 2>&1; then
     fault "make replay accepts a missing file"

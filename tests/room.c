@@ -62,24 +62,24 @@ static unsigned any(void)
     return between(0, count() - 1);
 }
 
-/* The oldest message of a kind that does not come last, else the oldest. */
-static unsigned sooner(int comes_last(unsigned kind))
+/* The oldest message that does not come last, else the oldest. */
+static unsigned sooner(int comes_last(lockmgr_message message))
 {
     for (unsigned k = 0; k < count(); k++)
-        if (!comes_last(lockmgr_mail_message(mail, k).kind))
+        if (!comes_last(lockmgr_mail_message(mail, k)))
             return k;
     return 0;
 }
 
-static int comes_last(unsigned kind)
+static int spreads(lockmgr_message message)
 {
-    return kind == LOCKMGR_MSG_REBROADCAST || kind == LOCKMGR_MSG_PROBE ||
-           kind == LOCKMGR_MSG_RESEND || kind == LOCKMGR_MSG_GRANT;
+    return message.kind == LOCKMGR_MSG_REBROADCAST || message.kind == LOCKMGR_MSG_PROBE ||
+           message.kind == LOCKMGR_MSG_RESEND || message.kind == LOCKMGR_MSG_GRANT;
 }
 
 static unsigned spreading_last(void)
 {
-    return sooner(comes_last);
+    return sooner(spreads);
 }
 
 /* Delivers until the mail is empty: 1, or 0 if a delivery is refused. */
@@ -123,8 +123,8 @@ static void check_rescue(unsigned capacity)
 
 /* ---- Jams ---------------------------------------------------------------- */
 
-/* The most junior session but one stands first in the queue of 63; the release
- * would send a grant, 62 probes and 62 resends. 1 if it is delivered. */
+/* The release of an item for which all others wait would send a grant and 62
+ * resends. 1 if it is delivered. */
 static int release_with_long_queue(unsigned capacity)
 {
     start(S, 1, capacity);
@@ -138,28 +138,33 @@ static int release_with_long_queue(unsigned capacity)
 
 static void test_one_message(void)
 {
-    CHECK(!release_with_long_queue(124));
+    CHECK(!release_with_long_queue(62));
     CHECK(count() == 1 && jammed());
-    check_rescue(125);
-    CHECK(release_with_long_queue(125));
+    check_rescue(63);
+    CHECK(release_with_long_queue(63));
+    /* The next holder is the most senior, who stood last. */
+    CHECK(lockmgr_holder(table, 1) == 1);
 }
 
-/* A pump that leaves rebroadcasts alone as long as there is anything else.
- * Session 32 holds the items 1 to 32, for 31 of which a senior session waits,
- * and waits at item 33 behind the sessions 33 to 64. Each of these, once it
- * holds item 33, asks for item 1 and becomes the victim; its clean makes
- * session 32 send 31 rebroadcasts, each of which would send two messages. */
-static int is_rebroadcast(unsigned kind)
+/* A pump that leaves alone, as long as there is anything else, the rebroadcasts
+ * to items for which somebody waits. Session 33, the hub, holds the items 1 to
+ * 32, for 31 of which a senior session waits, and waits for item 33, held by
+ * session 32. One after the other, each session from 34 on holds the item of
+ * its number, for which session 32 asks, and then asks for item 1: it becomes
+ * the victim, and its clean makes the hub send 31 rebroadcasts, each of which
+ * would send two messages. Session 32 gets the item and asks for the next. The
+ * last clean stops at session 32, which would send 31 messages for it. */
+static int is_pumped(lockmgr_message message)
 {
-    return kind == LOCKMGR_MSG_REBROADCAST;
+    return message.kind == LOCKMGR_MSG_REBROADCAST && lockmgr_queue_length(table, message.item) > 0;
 }
 
 /* 1, or 0 if a delivery is refused. */
-static int deliver_all_but_rebroadcasts(void)
+static int deliver_all_but_pumped(void)
 {
     while (count() > 0) {
-        unsigned place = sooner(is_rebroadcast);
-        if (is_rebroadcast(lockmgr_mail_message(mail, place).kind))
+        unsigned place = sooner(is_pumped);
+        if (is_pumped(lockmgr_mail_message(mail, place)))
             return 1;
         if (deliver(place) != LOCKMGR_ACCEPTED)
             return 0;
@@ -169,22 +174,25 @@ static int deliver_all_but_rebroadcasts(void)
 
 static void test_passed_over(void)
 {
-    enum { HUB = 32, CAPACITY = 993 };
-    start(S, HUB + 1, CAPACITY);
-    for (unsigned item = 1; item <= HUB; item++)
+    enum { NEXT = 32, HUB = 33, CAPACITY = 962 };
+    start(S, M, CAPACITY);
+    for (unsigned item = 1; item < HUB; item++)
         CHECK(call_and_drain(LOCKMGR_REQUEST, HUB, item, oldest));
-    for (unsigned session = 1; session < HUB; session++)
+    for (unsigned session = 1; session < NEXT; session++)
         CHECK(call_and_drain(LOCKMGR_REQUEST, session, session + 1, oldest));
-    for (unsigned session = HUB + 1; session <= S; session++)
-        CHECK(call_and_drain(LOCKMGR_REQUEST, session, HUB + 1, oldest));
-    CHECK(call_and_drain(LOCKMGR_REQUEST, HUB, HUB + 1, oldest));
+    CHECK(call_and_drain(LOCKMGR_REQUEST, NEXT, HUB, oldest));
+    CHECK(call_and_drain(LOCKMGR_REQUEST, HUB, HUB, oldest));
     for (unsigned session = HUB + 1; session <= S; session++) {
+        CHECK(call(LOCKMGR_REQUEST, session, session) == LOCKMGR_ACCEPTED);
+        CHECK(deliver_all_but_pumped());
+        CHECK(call(LOCKMGR_REQUEST, NEXT, session) == LOCKMGR_ACCEPTED);
+        CHECK(deliver_all_but_pumped());
         CHECK(call(LOCKMGR_REQUEST, session, 1) == LOCKMGR_ACCEPTED);
-        CHECK(deliver_all_but_rebroadcasts() == (session < S));
+        CHECK(deliver_all_but_pumped() == (session < S));
         CHECK(count() == 31 * (session - HUB) + (session == S));
     }
     CHECK(count() == CAPACITY && jammed());
-    CHECK(lockmgr_report(HUB, table, table_len).length == 2);
+    CHECK(lockmgr_report(HUB, table, table_len).length == 3);
     check_rescue(LOCKMGR_MAX_CAPACITY);
 }
 
@@ -206,7 +214,7 @@ static int random_run(unsigned sessions, unsigned items, unsigned capacity, unsi
 
 static void test_random_pump(void)
 {
-    static const unsigned capacities[] = {40, 100};
+    static const unsigned capacities[] = {40, 70};
     for (size_t k = 0; k < LENGTH(capacities); k++) {
         unsigned jams = 0;
         random_state = 1;
@@ -219,7 +227,7 @@ static void test_random_pump(void)
 
 /* ---- The worst cases known, S = M = 64 ------------------------------------ */
 
-/* Rule 1, oldest first. 1 if no delivery is refused. */
+/* Rule 1, oldest first, which keeps rule 2 as well. 1 if no delivery is refused. */
 static int worst_oldest_first(unsigned capacity)
 {
     int fits = 1;
@@ -250,7 +258,7 @@ static int worst_any_order(unsigned capacity)
     return fits & call_and_drain(LOCKMGR_REQUEST, 2, 1, spreading_last);
 }
 
-/* Rule 2. */
+/* Rule 2, with calls while there is mail. */
 static int worst_calls_at_any_time(unsigned capacity)
 {
     int fits = 1;
@@ -344,9 +352,9 @@ int main(void)
     test_one_message();
     test_passed_over();
     test_random_pump();
-    test_worst("rule 1, oldest first", worst_oldest_first, 249);
-    test_worst("rule 1, any order", worst_any_order, 312);
-    test_worst("rule 2", worst_calls_at_any_time, 251);
+    test_worst("rules 1 and 2, oldest first", worst_oldest_first, 249);
+    test_worst("rule 1, any order", worst_any_order, 250);
+    test_worst("rule 2, calls at any time", worst_calls_at_any_time, 189);
     test_rule_1();
     test_rule_2();
     return verdict();
