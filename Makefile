@@ -52,7 +52,7 @@ PROVED := crates.txt $(shell find crates -type f -not -path '*/must-fail/*')
 
 VERSION := $(shell sed -n 's/^.define LOCKMGR_VERSION "\(.*\)"$$/\1/p' include/lockmgr.h)
 SHARED := build/lib/liblockmgr.so.$(VERSION)
-# Before 1.0 every minor version may change the interface.
+# Before 1.0 every minor version may change the interface or a rule.
 SONAME := liblockmgr.so.$(basename $(VERSION))
 
 C_TESTS := asan helpers room

@@ -32,10 +32,10 @@
  *
  * Sessions and items are numbered from 1. Session 1 is the most senior, the
  * session with the highest number the most junior. Seniority decides two
- * things: who is rolled back, and who holds an item next when several wait for
- * it. Who came first does not matter for that: a session that waits can be
- * passed over by any senior one that asks later, by each of them once, since
- * none asks again after its first release.
+ * things: who is rolled back, and who of those in its wait queue holds an item
+ * next when its release arrives. Who came first does not matter for that: a
+ * session in the queue can be passed over by senior ones that come later, at
+ * most once by each, since a session asks for nothing after its first release.
  *
  *   uint8_t table[LOCKMGR_TABLE_SIZE(2, 3)];                  // 2 sessions, 3 items
  *   uint8_t mail[LOCKMGR_MAIL_SIZE(LOCKMGR_CAPACITY(2, 3))];
@@ -167,9 +167,10 @@
  * version has served from its start on.
  *
  * LOCKMGR_LAYOUT_VERSION numbers the bytes of table and mail. The buffers do
- * not carry it. If you store or send them, store that number beside them, and
- * hand them only to a library with the same one. There is no conversion: let
- * the sessions end under the old version and start anew under the new one.
+ * not carry it. If you store or send them, store that number and
+ * LOCKMGR_VERSION beside them, and go on only with a library of the same
+ * layout, major and minor number. There is no conversion: let the sessions end
+ * under the old version and start anew under the new one.
  * Buffers of another layout are no danger, since every call judges them, and
  * most are refused with LOCKMGR_BAD_SIZE; but do not rely on it.
  */
@@ -249,7 +250,7 @@ extern "C" {
 
 #define LOCKMGR_ITEM_HOLDER 0       /* holder or 0 (1) */
 #define LOCKMGR_ITEM_QUEUE_LENGTH 1 /* length of the wait queue (1) */
-#define LOCKMGR_ITEM_QUEUE 2        /* waiting sessions, first to last (64) */
+#define LOCKMGR_ITEM_QUEUE 2        /* waiting sessions in order of arrival (64) */
 #define LOCKMGR_ITEM_SIZE 66
 
 /* Bytes of the mail's header, of a route and of a body. */
@@ -599,7 +600,8 @@ static inline unsigned lockmgr_queue_length(const uint8_t *table, unsigned item)
     return lockmgr_item_(table, item)[LOCKMGR_ITEM_QUEUE_LENGTH];
 }
 
-/* The session at a place of the wait queue, 0 being the first. */
+/* The session at a place of the wait queue. At place 0 stands the one that came
+ * first, who need not be the next holder. */
 static inline unsigned lockmgr_queue_session(const uint8_t *table, unsigned item, unsigned place)
 {
     return lockmgr_item_(table, item)[LOCKMGR_ITEM_QUEUE + place];

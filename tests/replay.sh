@@ -78,6 +78,7 @@ tells "10 3 2 1 0 0 1 0 0" \
     "      DEADLOCK DECLARED: session 2 is the victim, session 1 the initiator" \
     "      session 2 is rolled back" "end 0 1 1 1"
 [ "$(grep -c 'color=red' "$folder/the waits.dot")" = 8 ] || fault "the cycle is not drawn"
+# The next holder is the most senior of the queue, not the first.
 make --no-print-directory --silent replay FILE=examples/senior_first.steps LIB="$LOCKMGR_LIB" \
     > "$folder/trace"
 tells "10 3 2 1 0 2 0 0 0" \

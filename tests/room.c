@@ -1,7 +1,7 @@
 /*
  * Room in the mail, as the header tells it: mailboxes that jam, and the two
  * rules under which the capacity of LOCKMGR_CAPACITY is enough, driven through
- * the worst cases known and through random runs.
+ * lists of calls that fill the mail and through random runs.
  */
 #include "lockmgr.h"
 
@@ -62,7 +62,7 @@ static unsigned any(void)
     return between(0, count() - 1);
 }
 
-/* The oldest message that does not come last, else the oldest. */
+/* The oldest message for which comes_last is false, else the oldest. */
 static unsigned sooner(int comes_last(lockmgr_message message))
 {
     for (unsigned k = 0; k < count(); k++)
@@ -174,18 +174,18 @@ static int deliver_all_but_pumped(void)
 
 static void test_passed_over(void)
 {
-    enum { NEXT = 32, HUB = 33, CAPACITY = 962 };
+    enum { INITIATOR = 32, HUB = 33, AWAITED = 33, CAPACITY = 962 };
     start(S, M, CAPACITY);
-    for (unsigned item = 1; item < HUB; item++)
+    for (unsigned item = 1; item < AWAITED; item++)
         CHECK(call_and_drain(LOCKMGR_REQUEST, HUB, item, oldest));
-    for (unsigned session = 1; session < NEXT; session++)
+    for (unsigned session = 1; session < INITIATOR; session++)
         CHECK(call_and_drain(LOCKMGR_REQUEST, session, session + 1, oldest));
-    CHECK(call_and_drain(LOCKMGR_REQUEST, NEXT, HUB, oldest));
-    CHECK(call_and_drain(LOCKMGR_REQUEST, HUB, HUB, oldest));
+    CHECK(call_and_drain(LOCKMGR_REQUEST, INITIATOR, AWAITED, oldest));
+    CHECK(call_and_drain(LOCKMGR_REQUEST, HUB, AWAITED, oldest));
     for (unsigned session = HUB + 1; session <= S; session++) {
         CHECK(call(LOCKMGR_REQUEST, session, session) == LOCKMGR_ACCEPTED);
         CHECK(deliver_all_but_pumped());
-        CHECK(call(LOCKMGR_REQUEST, NEXT, session) == LOCKMGR_ACCEPTED);
+        CHECK(call(LOCKMGR_REQUEST, INITIATOR, session) == LOCKMGR_ACCEPTED);
         CHECK(deliver_all_but_pumped());
         CHECK(call(LOCKMGR_REQUEST, session, 1) == LOCKMGR_ACCEPTED);
         CHECK(deliver_all_but_pumped() == (session < S));
@@ -225,7 +225,7 @@ static void test_random_pump(void)
     }
 }
 
-/* ---- The worst cases known, S = M = 64 ------------------------------------ */
+/* ---- Lists of calls that fill the mail, S = M = 64 ------------------------- */
 
 /* Rule 1, oldest first, which keeps rule 2 as well. 1 if no delivery is refused. */
 static int worst_oldest_first(unsigned capacity)

@@ -382,7 +382,7 @@ fn full_mail(comparison: &mut Comparison, random: &mut Random) -> Outcome {
 
 /// The steps that send most: a request with all 64 probes; a clean, a release
 /// or a rebroadcast at an item where everyone waits, into mail with more or less
-/// room.
+/// room. And a release that finds a queue of 64 and no holder.
 fn many_sends(comparison: &mut Comparison, random: &mut Random) -> Outcome {
     let config = Config {
         capacity: random.between(100, 400),
@@ -409,7 +409,7 @@ fn many_sends(comparison: &mut Comparison, random: &mut Random) -> Outcome {
         let holder = random.between(50, config.sessions) as u8;
         everyone_waits(comparison, random, &buffers, holder, holder, kind)?;
     }
-    // Any holder, and none: all 64 wait then.
+    // A release with any holder; and with none, where all 64 wait.
     for holder in [config.any_session(random) as u8, 0] {
         let from = match holder {
             0 => config.any_session(random) as u8,

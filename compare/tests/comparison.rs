@@ -24,8 +24,8 @@ fn difference(subject: impl Calls + 'static) -> Option<String> {
 }
 
 #[test]
-fn every_misreading_is_found() {
-    for misreading in Misreading::ALL.into_iter().chain(Misreading::REPLACED) {
+fn every_misreading_and_replaced_rule_is_found() {
+    for misreading in Misreading::OF_01.into_iter().chain(Misreading::REPLACED) {
         let found = difference(Misread(misreading));
         println!("{misreading:?}: {found:?}");
         assert!(found.is_some(), "{misreading:?}");

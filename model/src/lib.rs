@@ -4,7 +4,7 @@
 //!
 //! A call decodes the lent buffers into records, applies one rule and encodes
 //! what follows. Comments in quotation marks are the words of 01, or of 02
-//! where they name a request.
+//! where the name of a request stands before them, as `F-1:`.
 
 pub mod calls;
 pub mod config;

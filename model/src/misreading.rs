@@ -16,13 +16,13 @@ pub enum Misreading {
     ForwardsUnchanged,
     /// "Passing a late probe back to a sender that has become the holder".
     PassesLateProbe,
-    /// Replaced by F-1: "the first in line, N, becomes holder".
+    /// 01's rule before F-1, "the first in line, N, becomes holder".
     FirstInLine,
 }
 
 impl Misreading {
-    /// Those of 01, which break demand 3.
-    pub const ALL: [Misreading; 5] = [
+    /// Those of 01. The check of demand 3 catches each.
+    pub const OF_01: [Misreading; 5] = [
         Misreading::VictimForwards,
         Misreading::RebuildsFromSenderOnly,
         Misreading::ReleasesEarly,
@@ -30,7 +30,7 @@ impl Misreading {
         Misreading::PassesLateProbe,
     ];
 
-    /// Rules that were right once. Demand 3 holds under them too; the bytes
-    /// differ.
+    /// Rules that a request has replaced. Demand 3 holds under them too; the
+    /// bytes differ.
     pub const REPLACED: [Misreading; 1] = [Misreading::FirstInLine];
 }

@@ -99,7 +99,7 @@ fn item_release_with_a_long_queue() {
     let all: Vec<u8> = (1..=MAX_SESSIONS as u8).collect();
     let backwards: Vec<u8> = all.iter().rev().copied().collect();
     for everyone in [all, backwards] {
-        // No session is holder 0.
+        // Holder 0 is nobody: a release from any session is dropped.
         for &from in &everyone {
             item_drops(item(0, &everyone), from, Body::Release);
         }

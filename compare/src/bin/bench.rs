@@ -123,8 +123,8 @@ fn buffers(config: Config, count: u64, contents: Table) -> Buffers {
 /// The order of a queue.
 #[derive(Clone, Copy)]
 enum Order {
-    SeniorFirst,
-    SeniorLast,
+    MostSeniorInFront,
+    MostSeniorAtTheEnd,
     Mixed,
 }
 
@@ -139,13 +139,13 @@ fn release(mut buffers: Buffers, config: Config, place: usize, order: Order) -> 
     set_item(&mut Random::new(7), config, item, holder, others);
     let queue = &mut item[QUEUE][..others];
     let name = match order {
-        Order::SeniorFirst => {
+        Order::MostSeniorInFront => {
             queue.sort_unstable();
-            "deliver release, senior first"
+            "deliver release, senior in front"
         }
-        Order::SeniorLast => {
+        Order::MostSeniorAtTheEnd => {
             queue.sort_unstable_by(|a, b| b.cmp(a));
-            "deliver release, senior last"
+            "deliver release, senior at end"
         }
         Order::Mixed => "deliver release",
     };
@@ -158,8 +158,9 @@ fn release(mut buffers: Buffers, config: Config, place: usize, order: Order) -> 
     }
 }
 
-/// One item, for which all others wait, and its release as the only message:
-/// the smallest buffers in which the queue is as long as can be.
+/// Small buffers with the longest queue: one item, for which all others wait, and
+/// its release as the only message. The 125 messages of a release that sends
+/// probes would fit too.
 const LONG_QUEUE: Config = Config {
     sessions: LARGEST.sessions,
     items: 1,
@@ -175,9 +176,13 @@ fn long_queue_rows() -> Vec<Row> {
         record[AWAITED] = 1;
     }
     buffers.set_count(1);
-    [Order::SeniorFirst, Order::SeniorLast, Order::Mixed]
-        .map(|order| release(buffers.clone(), LONG_QUEUE, 0, order))
-        .into()
+    [
+        Order::MostSeniorInFront,
+        Order::MostSeniorAtTheEnd,
+        Order::Mixed,
+    ]
+    .map(|order| release(buffers.clone(), LONG_QUEUE, 0, order))
+    .into()
 }
 
 fn rows(config: Config, count: u64) -> Vec<Row> {
@@ -329,7 +334,8 @@ fn main() {
     println!("full mail a request or release with 9, both after all bytes were looked at.");
     println!("With a full mail the table is full too: longest queues, every probe stored.");
     println!("Where a release is delivered all others wait for the item, in an order drawn at");
-    println!("random if none is named, and the most senior becomes its holder.");
+    println!("random if none is named, and the most senior becomes its holder. With M = 1 the");
+    println!("release is the only message.");
 
     let mut missed = 0;
     let largest = (LARGEST.sessions, LARGEST.capacity);
@@ -358,7 +364,7 @@ fn header(config: Config) {
     let bytes = config.table_length() + config.mail_length();
     println!("\nS = {sessions}, M = {items}, C = {capacity}: {bytes} bytes");
     println!(
-        "{:>6}  {:30}{:>8}{:>10}{:>10}{:>10}{:>10}  {:>7}{:13}{:>7}{:13}{:>7}",
+        "{:>6}  {:34}{:>8}{:>10}{:>10}{:>10}{:>10}  {:>7}{:13}{:>7}{:13}{:>7}",
         "mail",
         "call",
         "refusal",
@@ -379,7 +385,7 @@ fn print(count: u64, rows: Vec<Row>, missed: &mut usize) {
         let refused = refusal(&Library, row.call, &mut row.buffers.clone());
         let [library, model, floor, fast] = measure(&row);
         println!(
-            "{count:>6}  {:30}{refused:>8}{library:>10.0}{model:>10.0}{floor:>10.0}{fast:>10.0}  {} {} {}",
+            "{count:>6}  {:34}{refused:>8}{library:>10.0}{model:>10.0}{floor:>10.0}{fast:>10.0}  {} {} {}",
             row.name,
             beside(library / floor, row.floor_target, missed),
             beside(library / model, Some(MODEL), missed),

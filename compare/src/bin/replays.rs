@@ -127,7 +127,9 @@ impl Recorder {
 
     /// Fills the mail. Every session asks for item 1; the most junior holds it
     /// and stores a probe of each other, which it sends with every request for
-    /// a further item. Then it releases all, and nothing is delivered.
+    /// a further item. Then it releases item 1, and so does session 1, which is
+    /// next, with a resend to all that wait each time; then the others, of which
+    /// nothing is delivered.
     fn crowd(&mut self) {
         let (holder, items) = (self.sessions as u8, self.items as u8);
         for session in (1..=holder).rev() {
@@ -142,6 +144,9 @@ impl Recorder {
         }
         self.step(RELEASE, holder, 1);
         self.step(TO_ITEM, holder, 1);
+        self.step(TO_SESSION, 1, 1);
+        self.step(RELEASE, 1, 1);
+        self.step(TO_ITEM, 1, 1);
         for item in 2..=items {
             self.step(RELEASE, holder, item);
         }

@@ -1,4 +1,4 @@
--- The most senior session of a queue, by any strict total order: exactly one member is that, and its place is found by one pass.
+-- The most senior session, by any strict total order: a queue that is not empty has exactly one, and its place is found in one pass.
 use mathlib.Core.Path.{_≡_, refl, sym, ap, _∙_}
 use mathlib.Core.Bool.{Bool, true, false, not, true≢false}
 use mathlib.Core.List.{List, []}
@@ -14,7 +14,7 @@ use Rattle.item.specs.NextHolder.{isMostSenior, mostSenior}
 use Rattle.item.specs.Rules.{probes}
 
 module _ (senior : ℕ → ℕ → Bool) where
-  -- no member is senior to a session that passes
+  -- no member is senior to a session that passes `isMostSenior`
   pub none-senior : (q : List ℕ) (n r : ℕ) → isMostSenior senior q n ≡ true → member r q ≡ true → senior r n ≡ false
   unfolding isMostSenior
   none-senior q n r e m =
@@ -89,18 +89,19 @@ module _ {senior : ℕ → ℕ → Bool} (order : StrictTotal senior) where
         (λ j g. refuted _ _ (λ e. all-getD (λ s. not (senior s (getD p j 0))) p k 0 e (omega arith)) (rw (at k inside, at j (omega arith), l .first j g) refl))
 
   module _ (q : List ℕ) (h : 0 < length q) where
-    -- exactly one member passes: the one at that place
+    -- the place lies in the queue
     pub most-senior-inside : mostSenior senior q < length q
     most-senior-inside =
         let p = leads-some q (length q) h in
         let e : mostSenior senior q ≡ p .0 = rw (take-length q) at (leads-place q (length q) (p .0) (omega arith) (p .1)) in
         omega (arith, e, p .1 .inside)
 
+    -- who stands there passes
     pub most-senior-passes : isMostSenior senior q (getD q (mostSenior senior q) 0) ≡ true
     unfolding mostSenior
     most-senior-passes = findIndex-found (isMostSenior senior q) q 0 most-senior-inside
 
-    -- and no other
+    -- and nobody else in the queue does
     pub most-senior-only : (r : ℕ) → isMostSenior senior q r ≡ true → member r q ≡ true → r ≡ getD q (mostSenior senior q) 0
     most-senior-only r e m =
         let n = getD q (mostSenior senior q) 0 in

@@ -1,4 +1,4 @@
--- Who holds an item next when it is released: the most senior session of its queue. Nothing else knows how this is decided; the rules take it as a parameter.
+-- Who holds an item next when it is released: the most senior session of its queue. The rules do not know how this is decided: they take it as a parameter.
 use Prim.Native.Nat.{ℕ}
 use mathlib.Core.Bool.{Bool, not}
 use mathlib.Core.List.{List}
@@ -6,11 +6,12 @@ use Rattle.lists.specs.Lists.{all, findIndex}
 use Rattle.session.specs.Seniority
 
 module _ (senior : ℕ → ℕ → Bool) where
-  -- no session of the queue is senior to r; exactly one member passes, since seniority is a strict total order
+  -- no session of the queue is senior to r. In a queue that is not empty exactly one member passes, since seniority is a strict total order
+  -- (proofs/NextHolder.antt)
   unfoldable pub isMostSenior : List ℕ → ℕ → Bool
   isMostSenior q r = all (λ s. not (senior s r)) q
 
-  -- the place of that member in a queue that is not empty
+  -- the place of that member
   unfoldable pub mostSenior : List ℕ → ℕ
   mostSenior q = findIndex (isMostSenior q) q
 

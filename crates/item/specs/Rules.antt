@@ -94,13 +94,13 @@ module _ (senior : ℕ → ℕ → Bool) where
   unfoldable pub onRebroadcast : Lock → After
   onRebroadcast k = cond (eqb (k .holder) 0) (dropped k) (after k (probes (k .holder) (k .queue) ++ resends (k .queue)) Nothing)
 
-  -- the next holder N, with the queue that it has left: RULES 5.2. The probes are kept as 01 has them, for any choice of N; where N is the most
-  -- senior of the queue none is sent (`next-sends` in proofs/NextHolder.antt)
+  -- the next holder N, with the queue that it has left: RULES 5.2. 01's probes are kept, for any choice of N; with `nextHolder` none is ever sent
+  -- (`next-sends` in proofs/NextHolder.antt)
   unfoldable pub handedOver : ℕ → List ℕ → After
   handedOver n rest = after (lock n rest) (plain n Kind.grant ∷ (probes n rest ++ resends rest)) Nothing
 
   module _ (next : List ℕ → ℕ) where
-    -- an empty queue: no holder; else the next in the queue
+    -- an empty queue: no holder; else the next holder leaves it
     unfoldable pub vacated : List ℕ → After
     vacated [] = after (lock 0 []) [] Nothing
     vacated (r ∷ q) = handedOver (getD (r ∷ q) (next (r ∷ q)) 0) (removeAt (next (r ∷ q)) (r ∷ q))

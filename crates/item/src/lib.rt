@@ -99,7 +99,7 @@ impl Item {
         self.place(t) < self.waiting as usize
     }
 
-    // The place of the next holder in the queue, by one pass: that of its most senior session.
+    // The place of the next holder, the most senior session of the queue, found in one pass.
     fn next_holder(self) -> usize
         requires { ⌜ (0 < self .waiting) × (self .waiting ≤ maxSessions) ⌝ }
         ensures { λ r. ⌜ (r ≡ nextHolder (unpacked self .queue)) × (r < self .waiting) ⌝ }

@@ -6,7 +6,7 @@ use native.Mathlib.Omega.{arith}
 use lib.Dec.{ltb}
 use borrow.Author.Tests.{ltb-true, ltb-false, lt-ltb, le-ltb}
 
--- of two different numbers one stands before the other, and none before itself
+-- irreflexive, transitive, and of two different numbers one stands before the other
 pub record StrictTotal (before : ℕ → ℕ → Bool) : Type 0 where
   pub irreflexive : (a : ℕ) → before a a ≡ false
   pub transitive : (a b c : ℕ) → before a b ≡ true → before b c ≡ true → before a c ≡ true
