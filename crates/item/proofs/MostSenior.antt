@@ -7,8 +7,9 @@ use native.Mathlib.Omega.{arith}
 use lib.ListN.{length, getD, take}
 use lib.Seq.{getD-take, length-take-le, take-length}
 use Rattle.lists.specs.Lists.{member, removeAt}
-use Rattle.lists.proofs.Tests.{refuted, by-answer, same?}
+use Rattle.lists.proofs.Tests.{refuted, by-answer}
 use Rattle.lists.proofs.Laws.{findIndex-first, findIndex-found, filter-none, all-intro, all-getD, all-member, all-removeAt, getD-member}
+use Rattle.lists.proofs.Searches.{below-and-at}
 use Rattle.lists.proofs.Orders.{StrictTotal}
 use Rattle.item.specs.NextHolder.{isMostSenior, mostSenior}
 use Rattle.item.specs.Rules.{probes}
@@ -51,21 +52,18 @@ module _ {senior : ℕ → ℕ → Bool} (order : StrictTotal senior) where
       pub leads-new : senior (getD q i 0) (getD q k 0) ≡ true → Leads senior q (suc i) i
       leads-new e = record {
         inside = omega arith;
-        unsurpassed = λ j h. older j h (same? j i);
+        unsurpassed =
+            below-and-at (λ j. senior (getD q j 0) (getD q i 0) ≡ false) i
+            (λ j h. refuted _ _ (λ f. order .transitive (getD q j 0) (getD q i 0) (getD q k 0) f e) (l .unsurpassed j h)) (order .irreflexive (getD q i 0));
         first = λ j h. above (getD q i 0) (getD q k 0) (getD q j 0) e (l .unsurpassed j h);
       }
-        where
-          older : (j : ℕ) → j < suc i → Dec (j ≡ i) → senior (getD q j 0) (getD q i 0) ≡ false
-          older j h (yes z) = rw (z) (order .irreflexive (getD q i 0))
-          older j h (no z) =
-              refuted (senior (getD q j 0) (getD q i 0)) (senior (getD q j 0) (getD q k 0)) (λ f. order .transitive (getD q j 0) (getD q i 0) (getD q k 0) f e) (l .unsurpassed j (omega arith))
 
       pub leads-still : senior (getD q i 0) (getD q k 0) ≡ false → Leads senior q (suc i) k
-      leads-still e = record { inside = omega (arith, l .inside); unsurpassed = λ j h. older j h (same? j i); first = l .first }
-        where
-          older : (j : ℕ) → j < suc i → Dec (j ≡ i) → senior (getD q j 0) (getD q k 0) ≡ false
-          older j h (yes z) = rw (z) e
-          older j h (no z) = l .unsurpassed j (omega arith)
+      leads-still e = record {
+        inside = omega (arith, l .inside);
+        unsurpassed = below-and-at (λ j. senior (getD q j 0) (getD q k 0) ≡ false) i (l .unsurpassed) e;
+        first = l .first;
+      }
 
     -- some place has the most senior
     leads-some : (i : ℕ) → 0 < i → (k : ℕ) × Leads senior q i k

@@ -11,7 +11,15 @@ use lib.Dec.{eqb}
 use lib.ListN.{length}
 use borrow.Author.Tests.{eqb-true, eqb-false, ne-eqb, not-true}
 use Rattle.lists.specs.Lists.{between, every, lowest, count, member, distinct, all}
-use Rattle.lists.proofs.Tests.{and-both, and-intro, fails, refuted, by-test, within, eqb-self}
+use Rattle.lists.proofs.Tests.{and-both, and-intro, fails, refuted, by-test, within, eqb-self, same?}
+
+-- what holds of every number below n, and of n, holds of every number below n + 1
+pub below-and-at : (P : ℕ → Type 0) (n : ℕ) → ((k : ℕ) → k < n → P k) → P n → (k : ℕ) → k < suc n → P k
+below-and-at P n f e k h = at (same? k n)
+  where
+    at : Dec (k ≡ n) → P k
+    at (yes z) = rw (z) e
+    at (no z) = f k (omega arith)
 
 -- ---- lowest
 
