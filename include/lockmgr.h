@@ -145,11 +145,12 @@
  * And give the mailbox at least LOCKMGR_CAPACITY(sessions, items) messages,
  * which is 6 S + M + 1, or 449 for 64 sessions and 64 items. Then no delivery
  * has ever been refused with LOCKMGR_MAIL_FULL: in all states of small lock
- * managers, in searches for the worst case, and in long random runs, none of
- * which needed more than 4 S + M. This is tried, not proved. For deadlocks the
- * order of deliveries does not matter, for room it does: a mailbox of 962
- * messages has been jammed by passing over routes that carry rebroadcasts.
- * Leaving places free before a call is no substitute for a rule.
+ * managers, in searches for the worst case (made before version 0.2), and in
+ * long random runs, none of which needed more than 4 S + M. This is tried, not
+ * proved. For deadlocks the order of deliveries does not matter, for room it
+ * does: a mailbox of 962 messages has been jammed by passing over routes that
+ * carry rebroadcasts. Leaving places free before a call is no substitute for a
+ * rule.
  *
  * If every delivery is refused all the same, move the mail into a larger
  * buffer with lockmgr_enlarge_mail and go on there, oldest first. Nothing is
