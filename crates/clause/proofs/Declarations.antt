@@ -1,4 +1,4 @@
--- Every declaration of a list of calls is true: each is one of a run of the machine.
+-- Every declaration of a list of single steps is true: each is one of a run of the machine.
 use mathlib.Core.Path.{_≡_, refl, sym, ap, _∙_}
 use mathlib.Core.List.{List, [], _∷_, _++_}
 use mathlib.Core.Logic.{_≢_}
@@ -14,7 +14,7 @@ use Rattle.deadlock.specs.Machine
 use Rattle.deadlock.specs.Statement as MachineStatement
 use Rattle.deadlock.proofs.Theorem as MachineTheorem
 use Rattle.agreement.proofs.RulesLaws.{rules-laws}
-use Rattle.lockmgr.specs.Run.{Call, step, report, buffers, performed, steps}
+use Rattle.lockmgr.specs.Run.{Step, buffers, done}
 use Rattle.clause.specs.Statement.{TrueDeclaration, DeclarationsTrue}
 use Rattle.clause.proofs.State.{machineOf, stateOf, Good}
 use Rattle.clause.proofs.Cycles.{reached-of, on-cycle-of}
@@ -47,10 +47,10 @@ run-then S M s [] c = refl
 run-then S M s (d ∷ cs) c = run-then S M (Machine.step (machineOf S M) anything s d .state) cs c
 
 -- what is to hold of the first step, which leaves and answers r, and of the others
-abbrev From : List Call → Stepped → Type 0
-From calls r =
+abbrev From : List Step → Stepped → Type 0
+From steps r =
     (r .answer .victim ≢ 0 → r .answer .initiator ≢ 0 → TrueDeclaration (r .table) (r .answer .victim) (r .answer .initiator))
-    × DeclarationsTrue (steps (buffers (r .table) (r .mail)) calls)
+    × DeclarationsTrue (done (buffers (r .table) (r .mail)) steps)
 
 module _ (S M C : ℕ) where
   abbrev begun : Machine.State
@@ -71,15 +71,14 @@ module _ (S M C : ℕ) where
         let told = guaranteed S M .declarations-true cs (m .call) d (ap (λ (s : Machine.Stepped). s .event .declared) stepped-to ∙ m .declares n) in
         true-in-table S M C (r .table) (m .entries) (m .good) (r .answer .victim) (r .answer .initiator) (rw (stepped-to) at told)
 
-  pub declarations : (calls : List Call) (table mail : List ℕ) (l : List Entry) → Good S M C table l → mail ≡ Mail.mailBytes C l
-      → (cs : List Machine.Call) → ran S M begun cs .state ≡ stateOf S M table l → DeclarationsTrue (steps (buffers table mail) calls)
-  unfolding steps performed
+  pub declarations : (steps : List Step) (table mail : List ℕ) (l : List Entry) → Good S M C table l → mail ≡ Mail.mailBytes C l
+      → (cs : List Machine.Call) → ran S M begun cs .state ≡ stateOf S M table l → DeclarationsTrue (done (buffers table mail) steps)
+  unfolding done
   declarations [] table mail l g b cs e = tt
-  declarations (report t ∷ calls) table mail l g b cs e = declarations calls table mail l g b cs e
-  declarations (step verb t x ∷ calls) table mail l g b cs e =
-      rw (b) (by-step S M C table l g verb t x (From calls)
-      (λ n. ((λ v. absurd (v refl)), declarations calls table (Mail.mailBytes C l) l g refl cs e))
+  declarations (c ∷ steps) table mail l g b cs e =
+      rw (b) (by-step S M C table l g (c .verb) (c .session) (c .item) (From steps)
+      (λ n. ((λ v. absurd (v refl)), declarations steps table (Mail.mailBytes C l) l g refl cs e))
       (λ r m. (
-        (λ v _. declares-truly table l verb t r m cs e v),
-        declarations calls (r .table) (r .mail) (m .entries) (m .good) (m .mail) (cs ++ (m .call ∷ [])) (run-on table l verb t r m cs e),
+        (λ v _. declares-truly table l (c .verb) (c .session) r m cs e v),
+        declarations steps (r .table) (r .mail) (m .entries) (m .good) (m .mail) (cs ++ (m .call ∷ [])) (run-on table l (c .verb) (c .session) r m cs e),
       )))

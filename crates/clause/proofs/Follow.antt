@@ -1,4 +1,4 @@
--- A list of calls is a run of the machine: its steps that are not refused, in order. The counts agree.
+-- A list of single steps is a run of the machine: those that are not refused, in order. The counts agree.
 use mathlib.Core.Path.{_≡_, refl, ap}
 use mathlib.Core.Bool.{Bool, true, _&&_, and-false}
 use mathlib.Core.List.{List, [], _∷_}
@@ -13,7 +13,8 @@ use Rattle.table.specs.Layout as Table
 use Rattle.step.specs.Step as Step
 use Rattle.lockmgr.specs.Calls as Calls
 use Rattle.step.specs.Step.{Stepped, stepped, refusedAnswer}
-use Rattle.lockmgr.specs.Run.{Call, step, report, Buffers, buffers, performed, after, steps, rollsBack, one}
+use Rattle.lockmgr.specs.Run as Run
+use Rattle.lockmgr.specs.Run.{Buffers, buffers, done, left, rollsBack, one}
 use Rattle.deadlock.specs.Machine
 use Rattle.clause.specs.Statement.{closed, rolledBack}
 use Rattle.clause.proofs.State.{machineOf, stateOf, Good}
@@ -42,24 +43,24 @@ run-more S M s c cs a e =
     ap (λ (b : Machine.Stepped). record { state = ran S M (b .state) cs .state; events = b .event ∷ ran S M (b .state) cs .events }) e
 
 -- the counts of a list, after k cycles closed and j sessions rolled back, are those of a run of the machine
-pub record Followed (S M C : ℕ) (s : Machine.State) (b : Buffers) (calls : List Call) (k j : ℕ) : Type 0 where
+pub record Followed (S M C : ℕ) (s : Machine.State) (b : Buffers) (steps : List Run.Step) (k j : ℕ) : Type 0 where
   pub run : List Machine.Call
   pub entries : List Entry
-  pub mail : after b calls .mail ≡ Mail.mailBytes C entries
-  pub good : Good S M C (after b calls .table) entries
-  pub state : ran S M s run .state ≡ stateOf S M (after b calls .table) entries
-  pub closes : k + closed (steps b calls) ≡ Machine.countClosed (ran S M s run .events)
-  pub rolls : j + rolledBack (steps b calls) ≡ Machine.countRolledBack (ran S M s run .events)
+  pub mail : left b steps .mail ≡ Mail.mailBytes C entries
+  pub good : Good S M C (left b steps .table) entries
+  pub state : ran S M s run .state ≡ stateOf S M (left b steps .table) entries
+  pub closes : k + closed (done b steps) ≡ Machine.countClosed (ran S M s run .events)
+  pub rolls : j + rolledBack (done b steps) ≡ Machine.countRolledBack (ran S M s run .events)
 
-module _ (S M C : ℕ) (verb t : ℕ) (calls : List Call) (table mail : List ℕ) (l : List Entry) where
+module _ (S M C : ℕ) (verb t : ℕ) (steps : List Run.Step) (table mail : List ℕ) (l : List Entry) where
   abbrev delivery : Bool
   delivery = between Step.deliverToItem Step.deliverToSession verb
 
   -- what the list does whose first step leaves and answers r
   abbrev After : Stepped → Type 0
-  After r = Followed S M C (stateOf S M table l) (buffers (r .table) (r .mail)) calls (r .answer .closed) (one (delivery && rollsBack t table (r .table)))
+  After r = Followed S M C (stateOf S M table l) (buffers (r .table) (r .mail)) steps (r .answer .closed) (one (delivery && rollsBack t table (r .table)))
 
-  refused-after : Followed S M C (stateOf S M table l) (buffers table mail) calls 0 0 → (n : ℕ) → After (stepped (refusedAnswer n) table mail)
+  refused-after : Followed S M C (stateOf S M table l) (buffers table mail) steps 0 0 → (n : ℕ) → After (stepped (refusedAnswer n) table mail)
   refused-after h n = record {
     run = h .run;
     entries = h .entries;
@@ -71,7 +72,7 @@ module _ (S M C : ℕ) (verb t : ℕ) (calls : List Call) (table mail : List ℕ
   }
 
   moved-after : (r : Stepped) (m : Moved S M C table l verb t r)
-      → Followed S M C (stateOf S M (r .table) (m .entries)) (buffers (r .table) (r .mail)) calls 0 0 → After r
+      → Followed S M C (stateOf S M (r .table) (m .entries)) (buffers (r .table) (r .mail)) steps 0 0 → After r
   unfolding Machine.countClosed Machine.countRolledBack
   moved-after r m h =
       let at = run-more S M (stateOf S M table l) (m .call) (h .run) _ (step-is S M C table l verb t r m) in record {
@@ -85,38 +86,32 @@ module _ (S M C : ℕ) (verb t : ℕ) (calls : List Call) (table mail : List ℕ
       }
 
 module _ (S M C : ℕ) (table mail : List ℕ) (l : List Entry) where
-  abbrev All : List Call → Type 0
-  All calls = Followed S M C (stateOf S M table l) (buffers table mail) calls 0 0
+  abbrev All : List Run.Step → Type 0
+  All steps = Followed S M C (stateOf S M table l) (buffers table mail) steps 0 0
 
-  no-calls : Good S M C table l → mail ≡ Mail.mailBytes C l → All []
-  unfolding after steps closed rolledBack Machine.run Machine.countClosed Machine.countRolledBack
-  no-calls g e = record { run = []; entries = l; mail = e; good = g; state = refl; closes = refl; rolls = refl }
+  no-steps : Good S M C table l → mail ≡ Mail.mailBytes C l → All []
+  unfolding left done closed rolledBack Machine.run Machine.countClosed Machine.countRolledBack
+  no-steps g e = record { run = []; entries = l; mail = e; good = g; state = refl; closes = refl; rolls = refl }
 
-  after-report : (t : ℕ) (calls : List Call) → All calls → All (report t ∷ calls)
-  unfolding after steps performed closed rolledBack
-  after-report t calls h =
-      record { run = h .run; entries = h .entries; mail = h .mail; good = h .good; state = h .state; closes = omega (arith, h .closes); rolls = omega (arith, h .rolls) }
-
-  after-step : (verb t x : ℕ) (calls : List Call) → After S M C verb t calls table mail l (Calls.step verb t x table mail) → All (step verb t x ∷ calls)
-  unfolding after steps performed closed rolledBack
-  after-step verb t x calls h =
+  after-step : (c : Run.Step) (steps : List Run.Step) → After S M C (c .verb) (c .session) steps table mail l (Calls.step (c .verb) (c .session) (c .item) table mail) → All (c ∷ steps)
+  unfolding left done closed rolledBack
+  after-step c steps h =
       record { run = h .run; entries = h .entries; mail = h .mail; good = h .good; state = h .state; closes = omega (arith, h .closes); rolls = omega (arith, h .rolls) }
 
   -- the first step, with what it is followed by
-  first-step : (verb t x : ℕ) (calls : List Call) → Good S M C table l → mail ≡ Mail.mailBytes C l → All calls
-      → ((r : Stepped) (m : Moved S M C table l verb t r) → Followed S M C (stateOf S M (r .table) (m .entries)) (buffers (r .table) (r .mail)) calls 0 0)
-      → All (step verb t x ∷ calls)
-  first-step verb t x calls g e same other =
-      after-step verb t x calls
-      (rw (e) (by-step S M C table l g verb t x (After S M C verb t calls table mail l)
-      (refused-after S M C verb t calls table (Mail.mailBytes C l) l (rw (e) at same))
-      (λ r m. moved-after S M C verb t calls table mail l r m (other r m))))
+  first-step : (c : Run.Step) (steps : List Run.Step) → Good S M C table l → mail ≡ Mail.mailBytes C l → All steps
+      → ((r : Stepped) (m : Moved S M C table l (c .verb) (c .session) r) → Followed S M C (stateOf S M (r .table) (m .entries)) (buffers (r .table) (r .mail)) steps 0 0)
+      → All (c ∷ steps)
+  first-step c steps g e same other =
+      after-step c steps
+      (rw (e) (by-step S M C table l g (c .verb) (c .session) (c .item) (After S M C (c .verb) (c .session) steps table mail l)
+      (refused-after S M C (c .verb) (c .session) steps table (Mail.mailBytes C l) l (rw (e) at same))
+      (λ r m. moved-after S M C (c .verb) (c .session) steps table mail l r m (other r m))))
 
 -- by the list
-pub follow : (S M C : ℕ) (calls : List Call) (table mail : List ℕ) (l : List Entry) → Good S M C table l → mail ≡ Mail.mailBytes C l
-    → Followed S M C (stateOf S M table l) (buffers table mail) calls 0 0
-follow S M C [] table mail l g e = no-calls S M C table mail l g e
-follow S M C (report t ∷ calls) table mail l g e = after-report S M C table mail l t calls (follow S M C calls table mail l g e)
-follow S M C (step verb t x ∷ calls) table mail l g e =
-    first-step S M C table mail l verb t x calls g e (follow S M C calls table mail l g e)
-    (λ r m. follow S M C calls (r .table) (r .mail) (m .entries) (m .good) (m .mail))
+pub follow : (S M C : ℕ) (steps : List Run.Step) (table mail : List ℕ) (l : List Entry) → Good S M C table l → mail ≡ Mail.mailBytes C l
+    → Followed S M C (stateOf S M table l) (buffers table mail) steps 0 0
+follow S M C [] table mail l g e = no-steps S M C table mail l g e
+follow S M C (c ∷ steps) table mail l g e =
+    first-step S M C table mail l c steps g e (follow S M C steps table mail l g e)
+    (λ r m. follow S M C steps (r .table) (r .mail) (m .entries) (m .good) (m .mail))

@@ -16,7 +16,8 @@ use Rattle.step.specs.Step.{Stepped}
 use Rattle.lockmgr.specs.Calls.{Config}
 use Rattle.lockmgr.proofs.Judging.{start-zero}
 use Rattle.lockmgr.specs.Run as Run
-use Rattle.lockmgr.specs.Run.{Buffers, buffers, Done, performed, steps, tallied, callOf, rollsBack}
+use Rattle.lockmgr.specs.Run.{Buffers, buffers, Done, doneOn, leftBy, done, left, tallied, rollsBack}
+use Rattle.lockmgr.specs.History.{Call, step, made, singles}
 use Rattle.clause.specs.Statement.{opened, closed, rollback, rolledBack}
 use Rattle.clause.proofs.State.{Good}
 use Rattle.clause.proofs.Moves.{never-both}
@@ -57,14 +58,22 @@ unfolding tallied closed rolledBack
 one-step y d l e h = record { closes = omega (arith, h .closes); rolls = rw (e) (omega (arith, h .rolls)) }
 
 replay : (S M C : ℕ) (l : List Run.Step) (table mail : List ℕ) (k : List Entry) → Good S M C table k → mail ≡ Mail.mailBytes C k → (y : Run.Tally)
-    → Tallied y (steps (buffers table mail) (map callOf l))
-unfolding steps performed
+    → Tallied y (done (buffers table mail) l)
+unfolding done
 replay S M C [] table mail k g e y = no-steps y
 replay S M C (c ∷ l) table mail k g e y =
     let n = next S M C table mail k g e (c .verb) (c .session) (c .item) in
-    let r = Calls.step (c .verb) (c .session) (c .item) table mail in
-    let d : Done = record { verb = c .verb; session = c .session; before = buffers table mail; result = r } in
-    one-step y d (steps (buffers (r .table) (r .mail)) (map callOf l)) (n .delivered) (replay S M C l (r .table) (r .mail) (n .entries) (n .good) (n .mail) (Run.counted (c .session) table r y))
+    let d = doneOn (buffers table mail) c in
+    one-step y d (done (leftBy d) l) (n .delivered) (replay S M C l (d .result .table) (d .result .mail) (n .entries) (n .good) (n .mail) (Run.counted (c .session) table (d .result) y))
+
+-- a list of steps as a list of calls
+abbrev callOf : Run.Step → Call
+callOf c = step (c .verb) (c .session) (c .item)
+
+single-steps : (b : Buffers) (l : List Run.Step) → singles b (map callOf l) ≡ l
+unfolding singles made left
+single-steps b [] = refl
+single-steps b (c ∷ l) = ap (λ (k : List Run.Step). c ∷ k) (single-steps (leftBy (doneOn b c)) l)
 
 -- from a start that is not refused, with the tallies at zero
 abbrev pub replayed : Config → List ℕ → List ℕ → List Run.Step → Run.Ran
@@ -79,8 +88,9 @@ tallies-agree c table mail e l empty =
     let M = c .items in
     let C = c .capacity in
     let s = Calls.start c table mail in
+    let b = buffers (s .table) (s .mail) in
     let p = start-leaves c table mail e in
     let g : Good S M C (s .table) [] = rw (ap (λ (b : Buffers). b .table) p) (begun-good S M C (start-zero c table mail (start-accepted c table mail e))) in
     let h = replay S M C l (s .table) (s .mail) [] g (ap (λ (b : Buffers). b .mail) p) Run.zeros in
-    let n = theorem c table mail e (map callOf l) .settled empty .counts in
-    omega (arith, h .closes, h .rolls, n)
+    let n = theorem c table mail e (map callOf l) .settled (rw (single-steps b l) empty) .counts in
+    omega (arith, h .closes, h .rolls, rw (single-steps b l) at n)

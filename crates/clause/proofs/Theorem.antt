@@ -1,4 +1,4 @@
--- The clause: a list of calls is a run of the machine, whose theorem holds of the lock manager's rules.
+-- The clause: the single steps of a list of calls are a run of the machine, whose theorem holds of the lock manager's rules.
 use mathlib.Core.Path.{_≡_, refl, sym, ap, _∙_}
 use mathlib.Core.Bool.{false, not}
 use mathlib.Core.List.{List, [], _∷_}
@@ -27,7 +27,8 @@ use Rattle.lockmgr.proofs.Judging.{Startable, start-zero, report-none}
 use Rattle.deadlock.specs.Machine
 use Rattle.agreement.specs.Reading.{readEntries}
 use Rattle.agreement.proofs.MoveAgrees.{start-agrees}
-use Rattle.lockmgr.specs.Run.{Call, Buffers, buffers, after}
+use Rattle.lockmgr.specs.Run.{Buffers, buffers}
+use Rattle.lockmgr.specs.History.{Call, singles, after}
 use Rattle.clause.specs.Statement.{opened, Settled, WellFormed, Clause}
 use Rattle.clause.proofs.State.{machineOf, stateOf, Good}
 use Rattle.clause.proofs.Cycles.{on-cycle-of}
@@ -78,7 +79,7 @@ unfolding readEntries
 none-read l e = ap readEntries e
 
 -- what a list of calls leaves that is followed by a run of the machine from its start
-module _ (S M C : ℕ) (b : Buffers) (calls : List Call) (h : Followed S M C (Machine.start (machineOf S M)) b calls 0 0) where
+module _ (S M C : ℕ) (b : Buffers) (calls : List Call) (h : Followed S M C (Machine.start (machineOf S M)) b (singles b calls) 0 0) where
   abbrev table-left : List ℕ
   table-left = after b calls .table
 
@@ -126,10 +127,11 @@ theorem c table mail e calls =
     let S = c .sessions in
     let M = c .items in
     let C = c .capacity in
+    let b = buffers (Table.started S M) (Mail.mailBytes C []) in
     let g = begun-good S M C (start-zero c table mail (start-accepted c table mail e)) in
-    let h = rw (begun-state S M C) at (follow S M C calls (Table.started S M) (Mail.mailBytes C []) [] g refl) in
+    let h = rw (begun-state S M C) at (follow S M C (singles b calls) (Table.started S M) (Mail.mailBytes C []) [] g refl) in
     rw (start-leaves c table mail e) (record {
-      settled = settled S M C (buffers (Table.started S M) (Mail.mailBytes C [])) calls h;
-      declarations = declarations S M C calls (Table.started S M) (Mail.mailBytes C []) [] g refl [] (sym (begun-state S M C));
-      formed = well-formed S M C (buffers (Table.started S M) (Mail.mailBytes C [])) calls h;
+      settled = settled S M C b calls h;
+      declarations = declarations S M C (singles b calls) (Table.started S M) (Mail.mailBytes C []) [] g refl [] (sym (begun-state S M C));
+      formed = well-formed S M C b calls h;
     })

@@ -14,7 +14,8 @@ use Rattle.step.specs.Step as Step
 use Rattle.lockmgr.specs.Calls as Calls
 use Rattle.step.specs.Step.{Formed}
 use Rattle.lockmgr.specs.Calls.{Config}
-use Rattle.lockmgr.specs.Run.{Call, Buffers, buffers, Done, after, steps, rollsBack, one}
+use Rattle.lockmgr.specs.Run.{Buffers, buffers, Done, rollsBack, one}
+use Rattle.lockmgr.specs.History.{Call, after, steps}
 
 -- what start leaves in the two buffers
 unfoldable pub opened : Config → List ℕ → List ℕ → Buffers

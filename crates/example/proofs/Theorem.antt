@@ -38,7 +38,7 @@ inTurn table mail y (c ∷ l) =
     let rest = inTurn (r .table) (r .mail) (Run.counted (c .session) table r y) l in record { answers = r .answer ∷ rest .answers; table = rest .table; mail = rest .mail; tally = rest .tally }
 
 run-in-turn : (table mail : List ℕ) (y : Tally) (l : List Run.Step) → Run.run table mail y l ≡ inTurn table mail y l
-unfolding Run.run Run.after Run.steps Run.performed Run.tallied inTurn
+unfolding Run.run Run.done Run.left Run.tallied inTurn
 run-in-turn table mail y [] = refl
 run-in-turn table mail y (c ∷ l) =
     let r = Calls.step (c .verb) (c .session) (c .item) table mail in

@@ -1,7 +1,7 @@
--- A list of calls, each given the table and mail as the one before left them: the single steps that it is made of, and what is counted over them.
+-- A list of single steps, each given the table and mail as the one before left them, and what is counted over them.
 use Prim.Native.Nat.{ℕ, _+_}
 use mathlib.Core.Bool.{Bool, cond, not, _&&_}
-use mathlib.Core.List.{List, [], _∷_, _++_, map}
+use mathlib.Core.List.{List, [], _∷_, map}
 use lib.Dec.{eqb}
 use Rattle.session.specs.Stage
 use Rattle.table.specs.Layout as Table
@@ -9,10 +9,11 @@ use Rattle.step.specs.declared.Answer.{Answer}
 use Rattle.step.specs.Step.{Stepped}
 use Rattle.lockmgr.specs.Calls as Calls
 
--- a call: a step with any verb, session and item, or a report on any session
-pub data Call : Type 0 where
-  step : ℕ → ℕ → ℕ → Call
-  report : ℕ → Call
+-- a step: any verb, session and item
+pub record Step : Type 0 where
+  pub verb : ℕ
+  pub session : ℕ
+  pub item : ℕ
 
 -- the two lent buffers
 pub record Buffers : Type 0 where
@@ -29,25 +30,22 @@ pub record Done : Type 0 where
   pub before : Buffers
   pub result : Stepped
 
--- what a call performs: the steps that it is made of, in their order, and the buffers that it leaves
-pub record Performed : Type 0 where
-  pub steps : List Done
-  pub left : Buffers
+abbrev pub doneOn : Buffers → Step → Done
+doneOn b c =
+    record { verb = c .verb; session = c .session; before = b; result = Calls.step (c .verb) (c .session) (c .item) (b .table) (b .mail) }
 
--- a report changes nothing
-unfoldable pub performed : Buffers → Call → Performed
-performed b (step verb t x) =
-    let r = Calls.step verb t x (b .table) (b .mail) in record { steps = record { verb = verb; session = t; before = b; result = r } ∷ []; left = buffers (r .table) (r .mail) }
-performed b (report t) = record { steps = []; left = b }
+-- the buffers that a step leaves
+abbrev pub leftBy : Done → Buffers
+leftBy d = buffers (d .result .table) (d .result .mail)
 
--- what a list of calls leaves, and the steps that it is made of
-unfoldable pub after : Buffers → List Call → Buffers
-after b [] = b
-after b (c ∷ l) = after (performed b c .left) l
+-- the steps of a list, done in their order, and what they leave
+unfoldable pub done : Buffers → List Step → List Done
+done b [] = []
+done b (c ∷ l) = let d = doneOn b c in d ∷ done (leftBy d) l
 
-unfoldable pub steps : Buffers → List Call → List Done
-steps b [] = []
-steps b (c ∷ l) = let p = performed b c in p .steps ++ steps (p .left) l
+unfoldable pub left : Buffers → List Step → Buffers
+left b [] = b
+left b (c ∷ l) = left (leftBy (doneOn b c)) l
 
 -- ---- what is counted
 -- a step that answers a victim and an initiator other than 0
@@ -84,15 +82,7 @@ unfoldable pub tallied : Tally → List Done → Tally
 tallied y [] = y
 tallied y (d ∷ l) = tallied (counted (d .session) (d .before .table) (d .result) y) l
 
--- ---- a list of steps
-pub record Step : Type 0 where
-  pub verb : ℕ
-  pub session : ℕ
-  pub item : ℕ
-
-abbrev pub callOf : Step → Call
-callOf c = step (c .verb) (c .session) (c .item)
-
+-- ---- a list of steps with its answers and counts
 -- the answers of a list of steps, in order, and what the list leaves
 pub record Ran : Type 0 where
   pub answers : List Answer
@@ -103,7 +93,6 @@ pub record Ran : Type 0 where
 unfoldable pub run : List ℕ → List ℕ → Tally → List Step → Ran
 run table mail y l =
     let b = buffers table mail in
-    let calls = map callOf l in
-    let d = steps b calls in
-    let end = after b calls in
+    let d = done b l in
+    let end = left b l in
     record { answers = map (λ d. d .result .answer) d; table = end .table; mail = end .mail; tally = tallied y d }

@@ -8,7 +8,7 @@ use Rattle.mailbox.specs.Layout as Mail
 use Rattle.step.specs.declared.Answer.{Answer}
 use Rattle.lockmgr.specs.Calls.{step}
 use Rattle.lockmgr.specs.Run as Run
-use Rattle.lockmgr.specs.Run.{run, performed, after, steps, tallied, counted}
+use Rattle.lockmgr.specs.Run.{run, done, left, tallied, counted}
 use Rattle.text.specs.Text.{decimal, spaced, rest}
 use Rattle.text.proofs.Laws.{length-decimal, length-rest, spaced-none, spaced-longer}
 use Rattle.transcript.specs.Transcript.{stepLine, stepLines, endLine, printed, longestLine}
@@ -43,13 +43,13 @@ abbrev pub ahead : ℕ → List ℕ → List ℕ → Run.Tally → List Run.Step
 ahead index table mail y l = printed index l (run table mail y l)
 
 pub ahead-none : (index : ℕ) (table mail : List ℕ) (y : Run.Tally) → ahead index table mail y [] ≡ endLine (Mail.countOf mail) y
-unfolding printed run after steps tallied stepLines
+unfolding printed run done left tallied stepLines
 ahead-none index table mail y = refl
 
 pub ahead-step : (index : ℕ) (table mail : List ℕ) (y : Run.Tally) (c : Run.Step) (l : List Run.Step)
     → let r = step (c .verb) (c .session) (c .item) table mail in
     ahead index table mail y (c ∷ l) ≡ stepLine index c (r .answer) ++ ahead (suc index) (r .table) (r .mail) (counted (c .session) table r y) l
-unfolding printed run after steps performed tallied stepLines
+unfolding printed run done left tallied stepLines
 ahead-step index table mail y c l =
     let r = step (c .verb) (c .session) (c .item) table mail in
     let b = run (r .table) (r .mail) (counted (c .session) table r y) l in
