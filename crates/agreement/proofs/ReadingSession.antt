@@ -13,7 +13,7 @@ use borrow.Author.Tests.{eqb-true, eqb-false, ne-eqb}
 use Rattle.lists.specs.Lists as Product
 use Rattle.lists.specs.Lists.{between, all}
 use Rattle.lists.proofs.Laws.{zeros-getD}
-use Rattle.lists.proofs.Tests.{and-agrees, between-intro, within}
+use Rattle.lists.proofs.Tests.{and-agrees, between-intro, within, cond-same}
 use Rattle.bitset.specs.Bitset.{has, insert, remove}
 use Rattle.bitset.proofs.MemberLaws.{rising, thoseIn, members-rising, has-insert-same, has-insert-other, has-remove-same, has-remove-other, has-none, has-above}
 use Rattle.message.specs.Kind
@@ -54,10 +54,6 @@ getD-zeros : (n i : ℕ) → _≡_ {A = ℕ} (getD (replicate n 0) i 0) 0
 getD-zeros zero i = refl
 getD-zeros (suc n) zero = refl
 getD-zeros (suc n) (suc i) = getD-zeros n i
-
-cond-same : {A : Type 0} (b : Bool) (a : A) → cond b a a ≡ a
-cond-same true a = refl
-cond-same false a = refl
 
 pub stored-none : readStored SessionRecord.none ≡ (λ (_ : ℕ). 0)
 unfolding readStored

@@ -2,7 +2,7 @@
 use mathlib.Core.Path.{_≡_, refl, sym, ap, _∙_}
 use mathlib.Core.List.{List, [], _∷_, _++_, append-assoc, append-nil}
 use Prim.Native.Nat.{ℕ, zero, suc, _+_, _-_, _*_, _/_, _%_, _^_, _≤_, _<_}
-use native.Mathlib.Nat.{add-assoc, zero-add, suc-add, mul-assoc, one-mul, pow-suc, mul-comm, div-one, div-div-eq-div-mul}
+use native.Mathlib.Nat.{add-assoc, add-zero, zero-add, suc-add, mul-assoc, one-mul, pow-suc, mul-comm, div-one, div-div-eq-div-mul}
 use native.Mathlib.Numerals.{add-one, towards-suc}
 use native.Mathlib.Omega.{arith}
 use lib.ListN.{length, getD, take, drop, set, length-append, length-drop, take-append-drop}
@@ -91,6 +91,32 @@ module _ (t : List ℕ) (at : ℕ) (a : List ℕ) (h : at + length a ≤ length 
       let back : drop (at + length a + length b) (splice t at a) ≡ drop (at + length (a ++ b)) t =
       drop-past (length b) ∙ ap (λ (n : ℕ). drop n t) (add-assoc at (length a) (length b) ∙ ap (λ (n : ℕ). at + n) (sym (length-append a b))) in
       rw (front, back) (simp append-assoc)
+
+-- n bytes moved down by `by` to `at`
+abbrev pub movedDown : List ℕ → ℕ → ℕ → ℕ → List ℕ
+movedDown t at by n = splice t at (slice t (at + by) n)
+
+pub move-none : (t : List ℕ) (at by : ℕ) → movedDown t at by 0 ≡ t
+unfolding splice
+move-none t at by = rw (add-zero) (take-append-drop at t)
+
+pub move-byte : (t : List ℕ) (at by : ℕ) → at + by < length t → set t at (getD t (at + by) 0) ≡ movedDown t at by 1
+move-byte t at by h =
+    rw (drop-cons t (at + by) 0 h) (set-splice t at (getD t (at + by) 0) (omega arith))
+
+-- i of n bytes have moved: k more, and then what is left, is all the rest at once
+pub move-more : (t : List ℕ) (at by n i k : ℕ) → at + by + n ≤ length t → i + k ≤ n
+    → movedDown (movedDown t (at + i) by k) (at + (i + k)) by (n - (i + k)) ≡ movedDown t (at + i) by (n - i)
+move-more t at by n i k h f =
+    let a : List ℕ = slice t (at + i + by) k in
+    let len : length a ≡ k = length-slice t (at + i + by) k (omega arith) in
+    let next : at + (i + k) ≡ at + i + length a = omega arith in
+    let from : at + i + length a + by ≡ at + i + by + k = omega arith in
+    let all : n - i ≡ k + (n - (i + k)) = omega arith in
+    let rest : slice (splice t (at + i) a) (at + i + length a + by) (n - (i + k)) ≡ slice t (at + i + by + k) (n - (i + k)) =
+    slice-splice-after t (at + i) a (omega arith) (at + i + length a + by) (n - (i + k)) (omega arith)
+    ∙ ap (λ (j : ℕ). slice t j (n - (i + k))) from in
+    rw (next, rest, all, slice-split t (at + i + by) k (n - (i + k))) (splice-splice t (at + i) a (omega arith) (slice t (at + i + by + k) (n - (i + k))))
 
 -- one element more of a padded list
 pub put-padded : (m : ℕ) (p : List ℕ) (x : ℕ) → length p < m → set (padded m p) (length p) x ≡ padded m (p ++ (x ∷ []))

@@ -79,6 +79,35 @@ pub fn put_row(t: &mut [u8], at: usize, row: [u8; 64])
     }
 }
 
+// Moves n bytes down by `by` to `at`: rows of 64, which are done by vectors however short the distance, then the last bytes.
+pub fn move_down(t: &mut [u8], at: usize, by: usize, n: usize)
+    requires { ⌜ at + by + n ≤ length (now t) ⌝ }
+    ensures { λ _. ⌜ now (t .exit) ≡ splice (now (t .entry)) at (slice (now (t .entry)) (at + by) n) ⌝ }
+{
+    let mut i: usize = 0;
+    while 64 <= n - i {
+        let row = get_row(t, at + i + by);
+        put_row(t, at + i, row);
+        i += 64;
+    }
+    while i < n {
+        t[at + i] = t[at + i + by];
+        i += 1;
+    }
+}
+
+// Writes n zeros at `at`.
+pub fn put_zeros(t: &mut [u8], at: usize, n: usize)
+    requires { ⌜ at + n ≤ length (now t) ⌝ }
+    ensures { λ _. ⌜ now (t .exit) ≡ splice (now (t .entry)) at (replicate n 0) ⌝ }
+{
+    let mut i: usize = 0;
+    while i < n {
+        t[at + i] = 0;
+        i += 1;
+    }
+}
+
 // Whether n bytes from `at` on are zero; with no early exit, so that the loop is done by vectors.
 pub fn is_zero(t: &[u8], at: usize, n: usize) -> bool
     requires { ⌜ at + n ≤ length (now t) ⌝ }

@@ -218,3 +218,13 @@ pub fn cut(m: &mut [u8], from: usize, len: usize)
     }
     put(m, from + end, 0, 0, 0);
 }
+
+// Takes `by` bytes out at `from`: the rest of the len bytes move down, in rows of 64, and zeros follow.
+pub fn cut_run(m: &mut [u8], from: usize, by: usize, len: usize)
+    requires { ⌜ (from + len ≤ length (now m)) × (by ≤ len) ⌝ }
+    ensures { λ _. ⌜ now (m .exit) ≡ splice (now (m .entry)) from (padded len (drop by (slice (now (m .entry)) from len))) ⌝ }
+{
+    let end = len - by;
+    buffer::move_down(m, from, by, end);
+    buffer::put_zeros(m, from + end, by);
+}

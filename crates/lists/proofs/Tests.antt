@@ -59,6 +59,10 @@ pub by-test : {A : Type 0} (P : A → Type 0) (b : Bool) {x y : A} → (b ≡ tr
 by-test P true f g = f refl
 by-test P false f g = g refl
 
+pub cond-same : {A : Type 0} (b : Bool) (a : A) → cond b a a ≡ a
+cond-same true a = refl
+cond-same false a = refl
+
 -- a conditional and its reading, on tests that are equal
 pub cond-agrees : {A B : Type 0} (f : A → B) (b c : Bool) {x y : A} {u v : B} → b ≡ c → (b ≡ true → f x ≡ u) → (b ≡ false → f y ≡ v)
     → f (cond b x y) ≡ cond c u v

@@ -1,14 +1,12 @@
--- The bytes of a mailbox after an entry is taken out, after one is added, and of an empty mailbox.
+-- The bytes of a mailbox after entries are taken out, after one is added, and of an empty mailbox.
 use mathlib.Core.Path.{_≡_, refl, sym, ap, _∙_}
 use mathlib.Core.List.{List, [], _∷_, _++_, append-assoc, map}
 use Prim.Native.Nat.{ℕ, _+_, _-_, _*_, _≤_, _<_}
 use native.Mathlib.Numerals.{add-one}
 use native.Mathlib.Omega.{arith}
-use lib.ListN.{length, getD, take, drop, replicate, length-append, length-map, replicate-append-replicate, List·getD-append}
+use lib.ListN.{length, getD, take, drop, replicate, length-append, length-drop, length-map, replicate-append-replicate, List·getD-append}
 use lib.Seq.{take-suc, length-take-le}
 use Rattle.buffer.specs.Bytes.{splice, toBytes, padded}
-use Rattle.lists.specs.Lists.{removeAt}
-use Rattle.lists.proofs.Laws.{removeAt-length}
 use Rattle.message.specs.declared.Message.{Message}
 use Rattle.message.specs.Outbox.{room, plain, cells}
 use Rattle.entry.specs.Entry.{Entry, width}
@@ -24,34 +22,40 @@ splice-count : (C n k : ℕ) (r q : List ℕ) → splice (framed C n r q) countP
 unfolding splice
 splice-count C n k r q = refl
 
-routes-remove : (k : ℕ) (l : List Entry) → k < length l → take (width * k) (routes l) ++ drop (width * k + width) (routes l) ≡ routes (removeAt k l)
-routes-remove k l h =
-    rw (routes-triples l, routes-triples (removeAt k l)) (sym (triples-remove (λ e. e .direction) (λ e. e .session) (λ e. e .item) k l h))
+-- n entries are taken out behind the first k
+routes-remove : (k n : ℕ) (l : List Entry) → take (width * k) (routes l) ++ drop (width * k + width * n) (routes l) ≡ routes (take k l ++ drop (k + n) l)
+routes-remove k n l =
+    rw (routes-triples l, routes-triples (take k l ++ drop (k + n) l)) (sym (triples-remove (λ e. e .direction) (λ e. e .session) (λ e. e .item) k n l))
 
-bodies-remove : (k : ℕ) (l : List Entry) → k < length l → take (width * k) (bodies l) ++ drop (width * k + width) (bodies l) ≡ bodies (removeAt k l)
-bodies-remove k l h =
-    rw (bodies-triples l, bodies-triples (removeAt k l)) (sym (triples-remove (λ e. e .kind) (λ e. e .a) (λ e. e .b) k l h))
+bodies-remove : (k n : ℕ) (l : List Entry) → take (width * k) (bodies l) ++ drop (width * k + width * n) (bodies l) ≡ bodies (take k l ++ drop (k + n) l)
+bodies-remove k n l =
+    rw (bodies-triples l, bodies-triples (take k l ++ drop (k + n) l)) (sym (triples-remove (λ e. e .kind) (λ e. e .a) (λ e. e .b) k n l))
+
+length-remove : (k n : ℕ) (l : List Entry) → k + n ≤ length l → length (take k l ++ drop (k + n) l) ≡ length l - n
+length-remove k n l h = rw (length-append, length-take-le k l (omega arith), length-drop) (omega arith)
 
 -- what two cuts and a count leave
-pub remove-mail : (C n k : ℕ) (l : List Entry) {m m₁ m₂ : List ℕ} → length l ≡ n → n ≤ C → k < n → m ≡ mailBytes C l
-    → m₁ ≡ splice m (routePlace k) (closedUp m (routePlace k) (width * (n - k)))
-    → m₂ ≡ splice m₁ (bodyPlace C k) (closedUp m₁ (bodyPlace C k) (width * (n - k)))
-    → splice m₂ countPlace (toBytes 2 (n - 1)) ≡ mailBytes C (removeAt k l)
+pub remove-mail : (C c k n len : ℕ) (l : List Entry) {m m₁ m₂ : List ℕ} → length l ≡ c → c ≤ C → k + n ≤ c → len ≡ width * (c - k) → m ≡ mailBytes C l
+    → m₁ ≡ splice m (routePlace k) (closedUp m (routePlace k) (width * n) len)
+    → m₂ ≡ splice m₁ (bodyPlace C k) (closedUp m₁ (bodyPlace C k) (width * n) len)
+    → splice m₂ countPlace (toBytes 2 (c - n)) ≡ mailBytes C (take k l ++ drop (k + n) l)
 unfolding mailBytes
-remove-mail C n k l {m₁ = m₁} {m₂ = m₂} len h p e e₁ e₂ =
-    let r : List ℕ = padded (width * C) (routes (removeAt k l)) in
+remove-mail C c k n len l {m₁ = m₁} {m₂ = m₂} size h p s e e₁ e₂ =
+    let left : List Entry = take k l ++ drop (k + n) l in
+    let count : length left ≡ c - n = length-remove k n l (omega arith) ∙ ap (λ (j : ℕ). j - n) size in
+    let r : List ℕ = padded (width * C) (routes left) in
     let first : m₁ ≡ framed C (length l) r (padded (width * C) (bodies l)) =
-    e₁ ∙ rw (e) (cut-within (head C (length l)) (padded (width * C) (bodies l)) (width * C) (routes l) (width * k) (width * (n - k)) (omega (arith, length-routes l)) (omega (arith, length-routes l)) (omega (arith, length-routes l)))
-    ∙ ap (λ (q : List ℕ). framed C (length l) (padded (width * C) q) (padded (width * C) (bodies l))) (routes-remove k l (omega arith)) in
+    e₁ ∙ rw (e) (cut-within (head C (length l)) (padded (width * C) (bodies l)) (width * C) (routes l) (width * k) (width * n) len (omega (arith, length-routes l)) (omega (arith, length-routes l)) (omega (arith, length-routes l)))
+    ∙ ap (λ (q : List ℕ). framed C (length l) (padded (width * C) q) (padded (width * C) (bodies l))) (routes-remove k n l) in
     let at : bodyPlace C k ≡ length (head C (length l) ++ r) + width * k =
-    omega (arith, length-append (head C (length l)) r, length-padded (width * C) (routes (removeAt k l)) (omega (arith, length-routes (removeAt k l), removeAt-length k l (omega arith)))) in
-    let second : m₂ ≡ framed C (length l) r (padded (width * C) (bodies (removeAt k l))) =
+    omega (arith, length-append (head C (length l)) r, length-padded (width * C) (routes left) (omega (arith, length-routes left))) in
+    let second : m₂ ≡ framed C (length l) r (padded (width * C) (bodies left)) =
     e₂
-    ∙ rw (at, first ∙ framed-second C (length l) r (padded (width * C) (bodies l))) (cut-within (head C (length l) ++ r) [] (width * C) (bodies l) (width * k) (width * (n - k)) (omega (arith, length-bodies l)) (omega (arith, length-bodies l)) (omega (arith, length-bodies l)))
-    ∙ ap (λ (q : List ℕ). (head C (length l) ++ r) ++ (padded (width * C) q ++ [])) (bodies-remove k l (omega arith))
-    ∙ sym (framed-second C (length l) r (padded (width * C) (bodies (removeAt k l)))) in
-    ap (λ (q : List ℕ). splice q countPlace (toBytes 2 (n - 1))) second ∙ splice-count C (length l) (n - 1) r (padded (width * C) (bodies (removeAt k l)))
-    ∙ rw (removeAt-length k l (omega arith), len) refl
+    ∙ rw (at, first ∙ framed-second C (length l) r (padded (width * C) (bodies l))) (cut-within (head C (length l) ++ r) [] (width * C) (bodies l) (width * k) (width * n) len (omega (arith, length-bodies l)) (omega (arith, length-bodies l)) (omega (arith, length-bodies l)))
+    ∙ ap (λ (q : List ℕ). (head C (length l) ++ r) ++ (padded (width * C) q ++ [])) (bodies-remove k n l)
+    ∙ sym (framed-second C (length l) r (padded (width * C) (bodies left))) in
+    ap (λ (q : List ℕ). splice q countPlace (toBytes 2 (c - n))) second ∙ splice-count C (length l) (c - n) r (padded (width * C) (bodies left))
+    ∙ rw (count) refl
 
 routes-add : (l : List Entry) (e : Entry) → routes l ++ (e .direction ∷ e .session ∷ e .item ∷ []) ≡ routes (l ++ (e ∷ []))
 unfolding triples

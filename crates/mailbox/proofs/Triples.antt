@@ -5,9 +5,9 @@ use Prim.Native.Nat.{ℕ, zero, suc, _+_, _*_, _≤_, _<_}
 use native.Mathlib.Nat.{add-zero}
 use native.Mathlib.Omega.{arith}
 use lib.ListN.{length, getD, take, drop}
-use lib.Seq.{drop-cons, getD-drop}
+use lib.Seq.{take-nil, drop-nil, drop-cons, getD-drop}
 use Rattle.buffer.specs.Bytes.{slice}
-use Rattle.lists.specs.Lists.{removeAt, tabulate}
+use Rattle.lists.specs.Lists.{tabulate}
 use Rattle.entry.specs.Entry.{Entry, unused}
 use Rattle.mailbox.specs.Layout.{routes, bodies}
 
@@ -36,23 +36,31 @@ module _ (f g h : Entry → ℕ) where
   triples-append [] k = refl
   triples-append (e ∷ l) k = ap (λ (r : List ℕ). f e ∷ g e ∷ h e ∷ r) (triples-append l k)
 
-  pub triples-remove : (i : ℕ) (l : List Entry) → i < length l
-      → triples f g h (removeAt i l) ≡ take (3 * i) (triples f g h l) ++ drop (3 * i + 3) (triples f g h l)
-  unfolding triples removeAt
-  triples-remove i [] p = absurd (omega arith)
-  triples-remove zero (e ∷ l) p = refl
-  triples-remove (suc i) (e ∷ l) p =
-      let n : 3 * suc i ≡ suc (suc (suc (3 * i))) = omega arith in
-      let m : suc (suc (suc (3 * i))) + 3 ≡ suc (suc (suc (3 * i + 3))) = omega arith in
-      rw (n, m) (ap (λ (r : List ℕ). f e ∷ g e ∷ h e ∷ r) (triples-remove i l (omega arith)))
+  triples-take : (k : ℕ) (l : List Entry) → triples f g h (take k l) ≡ take (3 * k) (triples f g h l)
+  unfolding triples
+  triples-take zero l = refl
+  triples-take (suc k) [] = sym (take-nil (3 * suc k))
+  triples-take (suc k) (e ∷ l) =
+      let n : 3 * suc k ≡ suc (suc (suc (3 * k))) = omega arith in rw (n) (ap (λ (r : List ℕ). f e ∷ g e ∷ h e ∷ r) (triples-take k l))
+
+  triples-drop : (k : ℕ) (l : List Entry) → triples f g h (drop k l) ≡ drop (3 * k) (triples f g h l)
+  unfolding triples
+  triples-drop zero l = refl
+  triples-drop (suc k) [] = sym (drop-nil (3 * suc k))
+  triples-drop (suc k) (e ∷ l) = let n : 3 * suc k ≡ suc (suc (suc (3 * k))) = omega arith in rw (n) (triples-drop k l)
+
+  -- n entries are taken out behind the first k
+  pub triples-remove : (k n : ℕ) (l : List Entry)
+      → triples f g h (take k l ++ drop (k + n) l) ≡ take (3 * k) (triples f g h l) ++ drop (3 * k + 3 * n) (triples f g h l)
+  triples-remove k n l =
+      let both : 3 * (k + n) ≡ 3 * k + 3 * n = omega arith in
+      triples-append (take k l) (drop (k + n) l) ∙ rw (triples-take k l, triples-drop (k + n) l, both) refl
 
   -- the three numbers of entry k, and what follows them
   drop-triples : (k : ℕ) (l : List Entry) → k < length l
       → drop (3 * k) (triples f g h l) ≡ f (getD l k unused) ∷ g (getD l k unused) ∷ h (getD l k unused) ∷ triples f g h (drop (suc k) l)
   unfolding triples
-  drop-triples k [] p = absurd (omega arith)
-  drop-triples zero (e ∷ l) p = refl
-  drop-triples (suc k) (e ∷ l) p = let n : 3 * suc k ≡ suc (suc (suc (3 * k))) = omega arith in rw (n) (drop-triples k l (omega arith))
+  drop-triples k l p = sym (triples-drop k l) ∙ ap (triples f g h) (drop-cons l k unused p)
 
   module _ (k : ℕ) (l : List Entry) (p : k < length l) where
     number : (j : ℕ) → getD (triples f g h l) (3 * k + j) 0 ≡ getD (f (getD l k unused) ∷ g (getD l k unused) ∷ h (getD l k unused) ∷ triples f g h (drop (suc k) l)) j 0

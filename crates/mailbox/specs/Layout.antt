@@ -12,6 +12,7 @@ use Rattle.message.specs.declared.Outbox.{Outbox}
 use Rattle.message.specs.Outbox.{room}
 use Rattle.entry.specs.Entry as Entry
 use Rattle.entry.specs.Entry.{Entry, width, entryFrom}
+use Rattle.mailbox.specs.declared.Route.{Route}
 
 abbrev pub maxCapacity : ℕ
 maxCapacity = 4096
@@ -49,6 +50,10 @@ entryAt m k = entryFrom m (routePlace k) (bodyPlace (capacityOf m) k)
 -- the entries in order of sending
 unfoldable pub entriesOf : List ℕ → List Entry
 entriesOf m = tabulate (countOf m) (entryAt m)
+
+-- the route of an entry
+abbrev pub routeOf : Entry → Route
+routeOf e = record { direction = e .direction; session = e .session; item = e .item }
 
 -- the mailbox is well-formed: RULES 3.5
 unfoldable pub wellFormed : ℕ → ℕ → List ℕ → Bool

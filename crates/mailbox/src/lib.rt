@@ -7,12 +7,12 @@ ghost use mathlib.Core.Bool.{true, cond};
 ghost use mathlib.Core.List.{List, [], _∷_, _++_, map};
 ghost use Prim.Native.Nat.{_≤_, _<_};
 ghost use lib.Dec.{eqb};
-ghost use lib.ListN.{length};
+ghost use lib.ListN.{length, drop};
 ghost use Rattle.lists.specs.Lists.{removeAt};
 ghost use Rattle.message.specs.declared.Message.{Message};
 ghost use Rattle.message.specs.Outbox.{message, outboxOf};
 ghost use Rattle.entry.specs.Entry.{Entry, width, toItem, sent, earliest, seenByItem, seenBySession};
-ghost use Rattle.mailbox.specs.Layout.{header, maxCapacity, size, routePlace, bodyPlace, capacityOf, countOf, sized, entryAt, entriesOf, wellFormed, mailBytes, Kept, Stands, Room};
+ghost use Rattle.mailbox.specs.Layout.{header, maxCapacity, size, routePlace, bodyPlace, capacityOf, countOf, sized, entryAt, entriesOf, routeOf, wellFormed, mailBytes, Kept, Stands, Room};
 
 // The two directions: session to item, item to session.
 pub use entry::TO_ITEM;
@@ -116,6 +116,26 @@ const SESSION_SIDE: usize = 1;
 
 const ITEM_SIDE: usize = 2;
 
+// The route of an entry.
+pub struct Route {
+    pub direction: u8,
+    pub session: u8,
+    pub item: u8,
+}
+
+// The route of entry k.
+pub fn route_of(m: &[u8], k: usize) -> Route
+    requires { ⌜ Stands (now m) k ⌝ }
+    ensures { λ r. ⌜ r ≡ routeOf (entryAt (now (m .entry)) k) ⌝ }
+{
+    let at = route_place(k);
+    Route {
+        direction: m[at],
+        session: m[at + SESSION_SIDE],
+        item: m[at + ITEM_SIDE],
+    }
+}
+
 // Entry k as a message from one side of its route.
 fn message(m: &[u8], k: usize, side: usize) -> Message
     requires { ⌜ Stands (now m) k × (side < width) ⌝ }
@@ -153,6 +173,20 @@ pub fn remove(m: &mut [u8], k: usize)
     entry::cut(m, route_place(k), len);
     entry::cut(m, body_place(c, k), len);
     buffer::put16(m, COUNT_PLACE, (n - 1) as u64);
+}
+
+// Takes the first n entries out; the rest close up.
+pub fn remove_first(m: &mut [u8], n: usize)
+    requires { ⌜ Kept (now m) × (n ≤ countOf (now m)) ⌝ }
+    ensures { λ _. ⌜ now (m .exit) ≡ mailBytes (capacityOf (now (m .entry))) (drop n (entriesOf (now (m .entry)))) ⌝ }
+{
+    let c = capacity(m);
+    let count = count(m);
+    let by = WIDTH * n;
+    let len = WIDTH * count;
+    entry::cut_run(m, route_place(0), by, len);
+    entry::cut_run(m, body_place(c, 0), by, len);
+    buffer::put16(m, COUNT_PLACE, (count - n) as u64);
 }
 
 // Adds an entry to the n that a mailbox of capacity c holds.

@@ -1,17 +1,17 @@
--- `cut` meets its contract. The invariant: the first n bytes of what is left are pasted over the buffer.
-use mathlib.Core.Path.{_≡_, refl, ap, _∙_}
-use mathlib.Core.List.{List}
-use Prim.Native.Nat.{ℕ, _+_, _-_, _≤_}
-use native.Mathlib.Numerals.{add-one}
-use lib.ListN.{length, getD, length-set}
-use lib.Seq.{paste, paste-zero, paste-suc}
-use Rattle.entry.proofs.Cuts.{closedUp, closed-length, moved, closed-end}
+-- `cut` meets its contract. The invariant: what is left, moved down now, makes what it would have made at the start.
+use mathlib.Core.Path.{_≡_, refl, sym, _∙_}
+use Prim.Native.Nat.{_+_, _-_, _≤_}
+use native.Mathlib.Nat.{add-zero}
+use lib.ListN.{length, length-set}
+use Rattle.buffer.proofs.Laws.{movedDown, move-none, move-byte, move-more}
+use Rattle.entry.proofs.Cuts.{closed-end}
 use native.Mathlib.Omega.{arith}
 use Rattle.entry.proofs.cut.Statement.{statement}
 use Rattle.entry.proofs.cut.Tie as tie
 
 abbrev Inv-loop : tie.InvT-loop
-Inv-loop m₀ from len end n₀ m n = (n ≤ len - 3) × (length m ≡ length m₀) × (m ≡ paste m₀ from (closedUp m₀ from len) n)
+Inv-loop m₀ from len end n₀ m n =
+    (n ≤ len - 3) × (length m ≡ length m₀) × (movedDown m (from + n) 3 (len - 3 - n) ≡ movedDown m₀ (from + n₀) 3 (len - 3 - n₀))
 
 abbrev μ-loop : tie.MeasureT-loop
 μ-loop m₀ from len end n₀ m n = len - 3 - n
@@ -20,7 +20,7 @@ sub-end : tie.Need-sub-end Inv-loop μ-loop
 sub-end c = omega arith
 
 loop-holds : tie.Need-loop-holds Inv-loop μ-loop
-loop-holds c = (omega arith, refl, paste-zero (c .before .args .m .now) (c .before .args .from) (closedUp (c .before .args .m .now) (c .before .args .from) (c .before .args .len)))
+loop-holds c = (omega arith, refl, refl)
 
 add-m : tie.Need-add-m Inv-loop μ-loop
 add-m c = omega arith
@@ -49,9 +49,7 @@ loop-again c =
     let a = s .args in
     let l = c .before .before .loop in
     let fits = s .pre .0 in
-    let b : getD (l .m) (a .from + l .n + 3) 0 ≡ getD (closedUp (a .m .now) (a .from) (a .len)) (l .n) 0 =
-    ap (λ (r : List ℕ). getD r (a .from + l .n + 3) 0) (l .inv .2) ∙ moved (a .m .now) (a .from) (a .len) fits (l .n) (omega arith) in
-    (omega arith, simp length-set (l .inv .1), rw (b, l .inv .2, add-one) (paste-suc (a .m .now) (a .from) (closedUp (a .m .now) (a .from) (a .len)) (l .n) 0 (omega arith) (omega (arith, closed-length (a .m .now) (a .from) (a .len) fits))))
+    (omega arith, simp length-set (l .inv .1), rw (move-byte (l .m) (a .from + l .n) 3 (omega arith)) (move-more (l .m) (a .from) 3 (a .len - 3) (l .n) 1 (omega arith) (omega arith)) ∙ l .inv .2)
 
 add-put : tie.Need-add-put Inv-loop μ-loop
 add-put c = omega arith
@@ -67,8 +65,10 @@ returns c =
     let s = c .before .before .before .before .before .before .before in
     let a = s .args in
     let l = c .before .before .before .before .before .loop in
-    let all : l .n ≡ a .len - 3 = omega arith in
-    c .before .before .put .ensures ∙ closed-end (a .m .now) (a .from) (a .len) (s .pre .0) (s .pre .1) (l .m) (rw (all) at (l .inv .2))
+    let done : a .len - 3 - l .n ≡ 0 = omega arith in
+    let all : a .len - 3 - 0 ≡ a .len - 3 = omega arith in
+    let down : l .m ≡ movedDown (a .m .now) (a .from) 3 (a .len - 3) = sym (move-none (l .m) (a .from + l .n) 3) ∙ (rw (done, add-zero, all) at (l .inv .2)) in
+    c .before .before .put .ensures ∙ closed-end (a .m .now) (a .from) 3 (a .len) (s .pre .0) (s .pre .1) down
 
 pub cut-spec : {M : Type 1} → statement M
 cut-spec =

@@ -1,7 +1,9 @@
--- `remove` meets its contract, by the law of an entry taken out.
-use mathlib.Core.Path.{_≡_, sym, ap, _∙_}
-use Prim.Native.Nat.{ℕ}
-use Rattle.lists.specs.Lists.{removeAt}
+-- `remove` meets its contract, by the law of entries taken out, for one entry.
+use mathlib.Core.Path.{_≡_, refl, sym, _∙_}
+use Prim.Native.Nat.{_-_, _*_}
+use native.Mathlib.Numerals.{add-one}
+use Rattle.lists.proofs.Laws.{removeAt-split}
+use Rattle.entry.specs.Entry.{width}
 use Rattle.mailbox.specs.Layout.{entriesOf, mailBytes}
 use Rattle.mailbox.proofs.Laws.{kept-length, length-entries}
 use Rattle.mailbox.proofs.Moves.{remove-mail}
@@ -53,8 +55,8 @@ returns c =
     let m = s .args .m .now in
     let same : m ≡ mailBytes (C .result) (entriesOf m) = rw (C .ensures) (s .pre .kept .bytes) in
     c .before .before .put16 .ensures
-    ∙ remove-mail (C .result) (n .result) (s .args .k) (entriesOf m) (length-entries m ∙ sym (n .ensures)) (omega arith) (omega arith) same (rw (routes .before .route-place .ensures) at (routes .cut .ensures)) (rw (bodies .before .body-place .ensures) at (bodies .cut2 .ensures))
-    ∙ ap (λ (k : ℕ). mailBytes k (removeAt (s .args .k) (entriesOf m))) (C .ensures)
+    ∙ remove-mail (C .result) (n .result) (s .args .k) 1 (width * (n .result - s .args .k)) (entriesOf m) (length-entries m ∙ sym (n .ensures)) (omega arith) (omega arith) refl same (rw (routes .before .route-place .ensures) at (routes .cut .ensures)) (rw (bodies .before .body-place .ensures) at (bodies .cut2 .ensures))
+    ∙ rw (C .ensures, removeAt-split (s .args .k) (entriesOf m) (omega (arith, length-entries m)), add-one) refl
 
 pub remove-spec : {M : Type 1} → statement M
 remove-spec =

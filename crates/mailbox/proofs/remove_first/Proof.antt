@@ -1,0 +1,75 @@
+-- `remove_first` meets its contract, by the law of entries taken out, from the first on.
+use mathlib.Core.Path.{_≡_, refl, sym, _∙_}
+use Prim.Native.Nat.{_*_}
+use native.Mathlib.Nat.{zero-add}
+use Rattle.entry.specs.Entry.{width}
+use Rattle.mailbox.specs.Layout.{entriesOf, mailBytes}
+use Rattle.mailbox.proofs.Laws.{kept-length, length-entries}
+use Rattle.mailbox.proofs.Moves.{remove-mail}
+use borrow.Author.Needs.{needs}
+use native.Mathlib.Omega.{arith}
+use Rattle.mailbox.proofs.remove_first.Statement.{statement}
+use Rattle.mailbox.proofs.remove_first.Tie as tie
+
+capacity-requires : tie.Need-capacity-requires
+capacity-requires c κs = let s = c .before .before in omega (arith, kept-length (s .args .m .now) (s .pre .0), s .pre .0)
+
+count-requires : tie.Need-count-requires
+count-requires c κs = let s = c .before .before .before .before in omega (arith, kept-length (s .args .m .now) (s .pre .0), s .pre .0)
+
+mul-by : tie.Need-mul-by
+mul-by c = search needs
+
+mul-len : tie.Need-mul-len
+mul-len c = search needs
+
+route-place-requires : tie.Need-route-place-requires
+route-place-requires c κs = search needs
+
+cut-run-requires : tie.Need-cut-run-requires
+cut-run-requires c κs = let s = c .before .before .before .before .before .before .before in omega (arith, kept-length (s .args .m .now) (s .pre .0), s .pre .0)
+
+body-place-requires : tie.Need-body-place-requires
+body-place-requires c κs = search needs
+
+cut-run-requires-2 : tie.Need-cut-run-requires-2
+cut-run-requires-2 c κs = let s = c .before .before .before .before .before .before .before .before .before .before .before .before in omega (arith, kept-length (s .args .m .now) (s .pre .0), s .pre .0, c .before .before .before .before .cut-run .kept .0)
+
+sub-put16 : tie.Need-sub-put16
+sub-put16 c = search needs
+
+put16-requires : tie.Need-put16-requires
+put16-requires c κs = let s = c .before .before .before .before .before .before .before .before .before .before .before .before .before .before .before .before in omega (arith, kept-length (s .args .m .now) (s .pre .0), s .pre .0, c .before .before .before .cut-run2 .kept .0, c .before .before .before .before .before .before .before .before .cut-run .kept .0)
+
+same-length : tie.Need-same-length
+same-length c = search needs
+
+returns : tie.Need-returns
+returns c =
+    let bodies = c .before .before .before .before .before .before in
+    let routes = bodies .before .before .before .before .before in
+    let n = routes .before .before .before .count in
+    let C = routes .before .before .before .before .before .capacity in
+    let s = routes .before .before .before .before .before .before .before .before in
+    let m = s .args .m .now in
+    let same : m ≡ mailBytes (C .result) (entriesOf m) = rw (C .ensures) (s .pre .0 .bytes) in
+    c .before .before .put16 .ensures
+    ∙ remove-mail (C .result) (n .result) 0 (s .args .n) (width * n .result) (entriesOf m) (length-entries m ∙ sym (n .ensures)) (omega arith) (omega arith) (omega arith) same (rw (routes .before .route-place .ensures) at (routes .cut-run .ensures)) (rw (bodies .before .body-place .ensures) at (bodies .cut-run2 .ensures))
+    ∙ rw (C .ensures, zero-add) refl
+
+pub remove-first-spec : {M : Type 1} → statement M
+remove-first-spec =
+    tie.close
+    (tie.spec
+    capacity-requires
+    count-requires
+    mul-by
+    mul-len
+    route-place-requires
+    cut-run-requires
+    body-place-requires
+    cut-run-requires-2
+    sub-put16
+    put16-requires
+    same-length
+    returns)
