@@ -65,7 +65,7 @@ module _ {R : Rules} (L : Laws R) {w : World} (known : Known R w) {t x : ℕ} (l
   withdraw-stays-victim v h i e = withdraw-stays v (known .victims .victim-on-cycle v h i (withdraw-edge-back v h e) .cycle)
       (λ y. withdraw-leaves (e .item) (e .low) (e .high) (subst (λ (z : ℕ). Queued after z (e .item)) (victim-of-cycle v h i (withdraw-edge-back v h e) y) (e .stands)))
 
-  withdraw-stays-clean : (v : ℕ) → CleanUnderWay w v → CycleStays known (withdrawnItem w t x) lo hi ar v
+  pub withdraw-stays-clean : (v : ℕ) → CleanUnderWay w v → CycleStays known (withdrawnItem w t x) lo hi ar v
   withdraw-stays-clean v s =
       let e = known .victims .victim-waits v s in
       let i : VictimIn w v = omega (arith, s, stage-facts (stageOf w v)) in

@@ -1,0 +1,12 @@
+pub mod Sums
+pub mod Sent
+pub mod Mail
+pub mod Store
+pub mod Bounds
+pub mod Numbers
+pub mod Distance
+pub mod CyclesStay
+pub mod ItemCovers
+pub mod Ranges
+pub mod SessionCovers
+pub mod Theorem

@@ -1,0 +1,81 @@
+-- Laws of sums and counts over 1 to n, and of the lengths of lists of numbers.
+use mathlib.Core.Path.{_∙_, _≡_, ap, refl, sym}
+use mathlib.Core.Bool.{_&&_, Bool, and-false, and-true, false, not, true, true≢false}
+use mathlib.Core.List.{[], _∷_, List}
+use mathlib.Core.Logic.{_≢_}
+use Prim.Native.Nat.{_*_, _+_, _≤_, suc, zero, ℕ}
+use native.Mathlib.Omega.{arith}
+use lib.Dec.{eqb}
+use lib.ListN.{getD, length, length-append}
+use borrow.Author.Tests.{ne-eqb}
+use Rattle.lists.specs.Lists.{between, count, distinct, member}
+use Rattle.lists.proofs.Laws.{all-intro, getD-member}
+use Rattle.lists.proofs.Searches.{count-one-more, distinct-length}
+use Rattle.lists.proofs.Tests.{and-intro, between-intro, by-test, eqb-self, fails, same?}
+use Rattle.deadlock.specs.Lists.{bit, occurs, oneTo, without}
+use Rattle.deadlock.specs.Counts.{sumUpTo}
+use Rattle.deadlock.proofs.Laws.Lists.{member-occurs}
+
+-- ---- sums
+sum-same : (n : ℕ) (f g : ℕ → ℕ) → ((a : ℕ) → a ≤ n → f a ≡ g a) → sumUpTo n f ≡ sumUpTo n g
+unfolding sumUpTo
+sum-same zero f g h = refl
+sum-same (suc n) f g h = omega (arith, h (suc n) (omega arith), sum-same n f g (λ a hi. h a (omega arith)))
+
+-- each term is at most c
+pub sum-le : (n c : ℕ) (f : ℕ → ℕ) → ((a : ℕ) → f a ≤ c) → sumUpTo n f ≤ n * c
+unfolding sumUpTo
+sum-le zero c f h = omega arith
+sum-le (suc n) c f h = omega (arith, h (suc n), sum-le n c f h)
+
+-- one term changes
+pub sum-changed : (n t : ℕ) (f g : ℕ → ℕ) → 1 ≤ t → t ≤ n → ((a : ℕ) → t ≢ a → g a ≡ f a) → sumUpTo n g + f t ≡ sumUpTo n f + g t
+unfolding sumUpTo
+sum-changed zero t f g lo hi h = absurd (omega arith)
+sum-changed (suc n) t f g lo hi h = cases (same? t (suc n)) (λ hi′. sum-changed n t f g lo hi′ h)
+  where
+    cases : Dec (t ≡ suc n) → (t ≤ n → sumUpTo n g + f t ≡ sumUpTo n f + g t) → g (suc n) + sumUpTo n g + f t ≡ f (suc n) + sumUpTo n f + g t
+    cases (yes q) ih = omega (arith, ap f q, ap g q, sum-same n g f (λ a hi′. h a (λ z. absurd (omega arith))))
+    cases (no q) ih = omega (arith, ih (omega arith), h (suc n) q)
+
+-- ---- counts
+-- whatever passes the one test passes the other
+count-more : (n : ℕ) (p q : ℕ → Bool) → ((j : ℕ) → p j ≡ true → q j ≡ true) → count n p ≤ count n q
+unfolding count
+count-more zero p q h = omega arith
+count-more (suc n) p q h =
+    by-test (λ (a : ℕ). a ≤ count (suc n) q) (p (suc n)) (λ e. rw (h (suc n) e) (omega (arith, count-more n p q h)))
+    (λ _. by-test (λ (a : ℕ). count n p ≤ a) (q (suc n)) (λ _. omega (arith, count-more n p q h)) (λ _. count-more n p q h))
+
+-- and k passes only that
+pub count-less : (n : ℕ) (p q : ℕ → Bool) (k : ℕ) → 1 ≤ k → k ≤ n → p k ≡ false → q k ≡ true → ((j : ℕ) → p j ≡ true → q j ≡ true) → count n p + 1 ≤ count n q
+count-less n p q k lo hi f g h =
+    let r : ℕ → Bool = λ j. q j && not (eqb j k) in
+    omega (
+      arith,
+      count-one-more n q r k lo hi g (rw (eqb-self k) (and-false (q k))) (λ j _ _ ne. rw (ne-eqb j k ne) (sym (and-true (q j)))),
+      count-more n p r (λ j e. and-intro (h j e) (ap not (ne-eqb j k (λ z. true≢false (sym e ∙ ap p z ∙ f))))),
+    )
+
+-- ---- lengths
+pub length-without : (a : ℕ) (l : List ℕ) → length (without a l) ≤ length l
+unfolding without
+length-without a [] = omega arith
+length-without a (b ∷ l) = by-test (λ (k : List ℕ). length k ≤ suc (length l)) (eqb b a) (λ _. omega arith) (λ _. omega (arith, length-without a l))
+
+pub length-oneTo : (n : ℕ) → length (oneTo n) ≡ n
+unfolding oneTo
+length-oneTo zero = refl
+length-oneTo (suc n) = omega (arith, length-append (oneTo n) (suc n ∷ []), length-oneTo n)
+
+occurs-distinct : (l : List ℕ) → ((a : ℕ) → occurs a l ≤ 1) → distinct l ≡ true
+unfolding occurs distinct
+occurs-distinct [] h = refl
+occurs-distinct (a ∷ l) h =
+    and-intro (ap not (fails (member a l) (λ e. omega (arith, h a, ap bit (eqb-self a), member-occurs a l e)))) (occurs-distinct l (λ b. omega (arith, h b)))
+
+-- different numbers from 1 to n: at most n of them
+pub length-le : (n : ℕ) (l : List ℕ) → ((a : ℕ) → occurs a l ≤ 1) → ((a : ℕ) → 1 ≤ occurs a l → (1 ≤ a) × (a ≤ n)) → length l ≤ n
+length-le n l one h =
+    distinct-length n l (occurs-distinct l one)
+    (all-intro (between 1 n) l 0 (λ k hi. let r = h (getD l k 0) (member-occurs _ l (getD-member l k hi)) in between-intro 1 n (getD l k 0) (r .0) (r .1)))

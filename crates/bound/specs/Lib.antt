@@ -1,0 +1,3 @@
+pub mod Formula
+pub mod Potential
+pub mod Statement
