@@ -20,6 +20,11 @@ unfolding readEntries
 readEntries-append [] l = refl
 readEntries-append (e ∷ k) l = ap (λ (r : List Machine.Entry). readEntry e ∷ r) (readEntries-append k l)
 
+pub length-readEntries : (l : List Entry) → length (readEntries l) ≡ length l
+unfolding readEntries
+length-readEntries [] = refl
+length-readEntries (e ∷ l) = ap suc (length-readEntries l)
+
 -- what a session sends, and what an item sends
 pub from-session : (t : ℕ) (l : List Message) → readEntries (map (fromSession t) l) ≡ Machine.fromSession t (readSends l)
 unfolding readEntries readSends Machine.fromSession

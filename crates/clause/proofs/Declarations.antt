@@ -77,7 +77,7 @@ module _ (S M C : ℕ) where
   declarations [] table mail l g b cs e = tt
   declarations (c ∷ steps) table mail l g b cs e =
       rw (b) (by-step S M C table l g (c .verb) (c .session) (c .item) (From steps)
-      (λ n. ((λ v. absurd (v refl)), declarations steps table (Mail.mailBytes C l) l g refl cs e))
+      (λ n _. ((λ v. absurd (v refl)), declarations steps table (Mail.mailBytes C l) l g refl cs e))
       (λ r m. (
         (λ v _. declares-truly table l (c .verb) (c .session) r m cs e v),
         declarations steps (r .table) (r .mail) (m .entries) (m .good) (m .mail) (cs ++ (m .call ∷ [])) (run-on table l (c .verb) (c .session) r m cs e),

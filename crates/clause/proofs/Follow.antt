@@ -105,7 +105,7 @@ module _ (S M C : ℕ) (table mail : List ℕ) (l : List Entry) where
   first-step c steps g e same other =
       after-step c steps
       (rw (e) (by-step S M C table l g (c .verb) (c .session) (c .item) (After S M C (c .verb) (c .session) steps table mail l)
-      (refused-after S M C (c .verb) (c .session) steps table (Mail.mailBytes C l) l (rw (e) at same))
+      (λ n _. refused-after S M C (c .verb) (c .session) steps table (Mail.mailBytes C l) l (rw (e) at same) n)
       (λ r m. moved-after S M C (c .verb) (c .session) steps table mail l r m (other r m))))
 
 -- by the list

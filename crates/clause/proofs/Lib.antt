@@ -6,3 +6,4 @@ pub mod Follow
 pub mod Declarations
 pub mod Theorem
 pub mod Replay
+pub mod Drains

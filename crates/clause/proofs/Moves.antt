@@ -24,6 +24,7 @@ use Rattle.step.specs.Step.{Stepped, committed, sessionPlan, itemPlan}
 use Rattle.lockmgr.specs.Run.{rollsBack}
 use Rattle.deadlock.specs.Lists.{bit}
 use Rattle.deadlock.specs.Machine
+use Rattle.bound.specs.Statement as Bound
 use Rattle.agreement.specs.Reading.{readState}
 use Rattle.agreement.proofs.MoveAgrees.{Replaced, StateWellFormed}
 use Rattle.clause.proofs.State
@@ -44,6 +45,7 @@ pub record Moved (S M C : ℕ) (table : List ℕ) (l : List Entry) (verb t : ℕ
   pub declares : r .answer .victim ≢ 0 → event .declared ≡ some (record { victim = r .answer .victim; initiator = r .answer .initiator })
   pub rolls : rollsBack t table (r .table) ≡ event .rolledBack
   pub delivered : between Step.deliverToItem Step.deliverToSession verb && rollsBack t table (r .table) ≡ rollsBack t table (r .table)
+  pub delivers : between Step.deliverToItem Step.deliverToSession verb ≡ true → Bound.delivers (stateOf S M table l) call ≡ true
 
 pub one-is-bit : (b : Bool) → cond b 1 0 ≡ bit b
 one-is-bit true = refl
@@ -75,7 +77,8 @@ module _ (S M C : ℕ) (table : List ℕ) (l : List Entry) (g : Good S M C table
         (happens : (f : ℕ → Session) → Put f → StateWellFormed S M f (locks table) sent
         → Machine.eventOf (machineOf S M) before call (readState S M f (locks table) sent)
         ≡ record { closed = false; declared = none; rolledBack = not (eqb (Table.session table t .stage) Stage.rolledBack) && eqb (f t .stage) Stage.rolledBack })
-        (delivered : between Step.deliverToItem Step.deliverToSession verb && eqb (r .session .stage) Stage.rolledBack ≡ eqb (r .session .stage) Stage.rolledBack) where
+        (delivered : between Step.deliverToItem Step.deliverToSession verb && eqb (r .session .stage) Stage.rolledBack ≡ eqb (r .session .stage) Stage.rolledBack)
+        (delivers : between Step.deliverToItem Step.deliverToSession verb ≡ true → Bound.delivers before call ≡ true) where
       abbrev table-after : List ℕ
       table-after = Table.withSession table t (r .session)
 
@@ -100,6 +103,7 @@ module _ (S M C : ℕ) (table : List ℕ) (l : List Entry) (g : Good S M C table
         rolls = refl;
         delivered = middle (between Step.deliverToItem Step.deliverToSession verb) (not (eqb (Table.session table t .stage) Stage.rolledBack)) (eqb (Table.session table-after t .stage) Stage.rolledBack)
             (rw (put .here) delivered);
+        delivers = delivers;
       }
 
   -- the step of item x
@@ -113,7 +117,8 @@ module _ (S M C : ℕ) (table : List ℕ) (l : List Entry) (g : Good S M C table
 
     module _ (fits : length answered ≤ C) (kept : (f : ℕ → Lock) → PutLock f → StateWellFormed S M (Table.session table) f answered)
         (moves : (f : ℕ → Lock) → PutLock f → readState S M (Table.session table) f answered ≡ Machine.move (machineOf S M) before call)
-        (happens : (after : Machine.State) → Machine.eventOf (machineOf S M) before call after ≡ Machine.itemEvent (r .event) (Machine.onCycle (machineOf S M) after t)) where
+        (happens : (after : Machine.State) → Machine.eventOf (machineOf S M) before call after ≡ Machine.itemEvent (r .event) (Machine.onCycle (machineOf S M) after t))
+        (delivers : Bound.delivers before call ≡ true) where
       abbrev item-after : List ℕ
       item-after = Table.withItem table x (packed (r .lock))
 
@@ -158,4 +163,5 @@ module _ (S M C : ℕ) (table : List ℕ) (l : List Entry) (g : Good S M C table
         declares = declares (r .event) (Machine.onCycle (machineOf S M) (stateOf S M item-after answered) t);
         rolls = same-stage ∙ never-rolls (r .event) (Machine.onCycle (machineOf S M) (stateOf S M item-after answered) t);
         delivered = rw (same-stage) (and-false (between Step.deliverToItem Step.deliverToSession verb));
+        delivers = λ _. delivers;
       }

@@ -17,8 +17,9 @@ use Rattle.lockmgr.specs.Calls.{Config}
 use Rattle.lockmgr.proofs.Judging.{start-zero}
 use Rattle.lockmgr.specs.Run as Run
 use Rattle.lockmgr.specs.Run.{Buffers, buffers, Done, doneOn, leftBy, done, left, tallied, rollsBack}
-use Rattle.lockmgr.specs.History.{Call, step, made, singles}
+use Rattle.lockmgr.specs.History.{made, singles}
 use Rattle.clause.specs.Statement.{opened, closed, rollback, rolledBack}
+use Rattle.clause.specs.Drains.{callOf}
 use Rattle.clause.proofs.State.{Good}
 use Rattle.clause.proofs.Moves.{never-both}
 use Rattle.clause.proofs.Step.{by-step}
@@ -35,7 +36,7 @@ next : (S M C : ℕ) (table mail : List ℕ) (l : List Entry) → Good S M C tab
     → (verb t x : ℕ) → Next S M C verb t table (Calls.step verb t x table mail)
 next S M C table mail l g e verb t x =
     rw (e) (by-step S M C table l g verb t x (Next S M C verb t table)
-    (λ n. record {
+    (λ n _. record {
       delivered = rw (never-both (eqb (Table.session table t .stage) Stage.rolledBack)) (and-false (between Step.deliverToItem Step.deliverToSession verb));
       entries = l;
       good = g;
@@ -66,11 +67,8 @@ replay S M C (c ∷ l) table mail k g e y =
     let d = doneOn (buffers table mail) c in
     one-step y d (done (leftBy d) l) (n .delivered) (replay S M C l (d .result .table) (d .result .mail) (n .entries) (n .good) (n .mail) (Run.counted (c .session) table (d .result) y))
 
--- a list of steps as a list of calls
-abbrev callOf : Run.Step → Call
-callOf c = step (c .verb) (c .session) (c .item)
-
-single-steps : (b : Buffers) (l : List Run.Step) → singles b (map callOf l) ≡ l
+-- the single steps of a list of steps
+pub single-steps : (b : Buffers) (l : List Run.Step) → singles b (map callOf l) ≡ l
 unfolding singles made left
 single-steps b [] = refl
 single-steps b (c ∷ l) = ap (λ (k : List Run.Step). c ∷ k) (single-steps (leftBy (doneOn b c)) l)

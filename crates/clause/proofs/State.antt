@@ -19,9 +19,11 @@ use Rattle.item.proofs.Laws.{unpacked-packed, length-packed}
 use Rattle.mailbox.specs.Entry as Entry
 use Rattle.mailbox.specs.Entry.{Entry}
 use Rattle.mailbox.specs.Layout as Mail
+use Rattle.mailbox.proofs.Laws as MailLaws
 use Rattle.table.specs.Layout as Table
 use Rattle.table.proofs.Laws as TableLaws
 use Rattle.waits.specs.OnTable.{locks}
+use Rattle.step.specs.Step.{Formed}
 use Rattle.deadlock.specs.Machine
 use Rattle.wellformed.specs.Records.{LockWellFormed}
 use Rattle.agreement.specs.Reading.{readSession, readSessions, readState, rules}
@@ -53,6 +55,14 @@ module _ (S M C : ℕ) (table : List ℕ) (l : List Entry) (g : Good S M C table
 
   pub few-items : M ≤ 64
   few-items = omega (arith, TableLaws.sized-facts table (g .sized) .max-items, g .items)
+
+  -- the table and the bytes of the entries are well-formed
+  pub buffers-formed : Formed table (Mail.mailBytes C l)
+  buffers-formed = record {
+    records = record { sized = g .sized; formed = g .formed };
+    mail-sized = MailLaws.sized-mail C l (g .low) (g .high) (g .room);
+    mail-formed = rw (g .sessions, g .items) (MailLaws.wellFormed-mail C l (g .low) (g .high) (g .room) S M (g .entries));
+  }
 
   session-known : (t : ℕ) → between 1 S t ≡ true → (1 ≤ t) × (t ≤ Table.sessionsOf table)
   session-known t r = (within 1 S t r .0, omega (arith, within 1 S t r .1, g .sessions))

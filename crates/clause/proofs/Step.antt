@@ -1,13 +1,14 @@
 -- One step: refused, with both buffers as they were, or one of the machine's moves.
-use mathlib.Core.Path.{_≡_, refl}
-use mathlib.Core.Bool.{Bool, true, false, not, _&&_, _||_}
+use mathlib.Core.Path.{_≡_, refl, ap}
+use mathlib.Core.Bool.{Bool, true, false, not, _&&_, _||_, false≢true}
 use mathlib.Core.List.{List}
+use mathlib.Core.Logic.{_≢_}
 use mathlib.Core.Option.{none}
 use Prim.Native.Nat.{ℕ, _≤_}
 use native.Mathlib.Omega.{arith}
 use lib.Dec.{eqb}
 use lib.ListN.{length}
-use borrow.Author.Tests.{eqb-true, ltb-false, not-false}
+use borrow.Author.Tests.{eqb-true, eqb-false, ltb-false, not-false}
 use Rattle.lists.specs.Lists.{between}
 use Rattle.lists.proofs.Tests.{and-intro, between-intro, by-test, or-neither}
 use Rattle.bitset.specs.Bitset.{has}
@@ -28,6 +29,8 @@ use Rattle.step.proofs.Causes.{unmet}
 use Rattle.lockmgr.proofs.Judging.{judged-zero}
 use Rattle.step.proofs.Acting.{by-verb, request-plan, release-plan}
 use Rattle.deadlock.specs.Machine
+use Rattle.bound.specs.Statement as Bound
+use Rattle.agreement.specs.Reading.{readEntries}
 use Rattle.agreement.proofs.MoveAgrees as Agrees
 use Rattle.agreement.proofs.EventAgrees as Events
 use Rattle.clause.proofs.State
@@ -62,7 +65,7 @@ module _ (verb t x : ℕ) (table mail : List ℕ) where
       }
 
   -- a step is refused or does what is planned
-  pub outcome : (P : Stepped → Type 0) → ((n : ℕ) → P (stepped (refusedAnswer n) table mail))
+  pub outcome : (P : Stepped → Type 0) → ((n : ℕ) → n ≢ 0 → P (stepped (refusedAnswer n) table mail))
       → (judged verb t x table mail ≡ 0 → Unhindered verb t x table mail → P (committed t (Mail.capacityOf mail) (plan verb t x table (Mail.entriesOf mail))))
       → P (step verb t x table mail)
   unfolding step acted
@@ -70,8 +73,8 @@ module _ (verb t x : ℕ) (table mail : List ℕ) where
       by-test P (eqb (judged verb t x table mail) 0)
       (λ e. by-test P (eqb (hindered verb t x table mail) 0)
       (λ f. done (eqb-true (judged verb t x table mail) 0 e) (unhindered (eqb-true (hindered verb t x table mail) 0 f)))
-      (λ _. refused (hindered verb t x table mail)))
-      (λ _. refused (judged verb t x table mail))
+      (λ f. refused (hindered verb t x table mail) (eqb-false (hindered verb t x table mail) 0 f)))
+      (λ e. refused (judged verb t x table mail) (eqb-false (judged verb t x table mail) 0 e))
 
 module _ (S M C : ℕ) (table : List ℕ) (l : List Entry) (g : Good S M C table l) where
   abbrev mail : List ℕ
@@ -100,6 +103,10 @@ module _ (S M C : ℕ) (table : List ℕ) (l : List Entry) (g : Good S M C table
     formed : Agrees.StateWellFormed S M (Table.session table) (locks table) l
     formed = State.all-formed S M C table l g
 
+    -- where an entry is found the machine takes it
+    taken : (d : Bool) → eqb (Agrees.placeOf t x l d) (length l) ≡ false → Bound.isTaken (Machine.take d t x (readEntries l)) ≡ true
+    taken d found = ap Bound.isTaken (Agrees.taken-eq senior nextHolder S M few-sessions few-items (Table.session table) (locks table) l formed t x t-range x-range d found)
+
     request-done : Done Step.request
     unfolding Machine.ofMachine Machine.eventOf Session.requested
     request-done u =
@@ -113,7 +120,8 @@ module _ (S M C : ℕ) (table : List ℕ) (l : List Entry) (g : Good S M C table
         (λ f h. Agrees.request-move-kept senior nextHolder S M few-sessions few-items (Table.session table) (locks table) l formed t x t-range x-range f h)
         (λ f h. Agrees.request-move senior nextHolder S M few-sessions few-items (Table.session table) (locks table) l formed t x t-range x-range allowed f h)
         (λ f h _. rw (h .here) (quiet (not (eqb (s .stage) Stage.rolledBack))))
-        refl)
+        refl
+        (λ e. absurd (false≢true e)))
 
     release-done : Done Step.release
     unfolding Machine.ofMachine Machine.eventOf Session.released
@@ -127,10 +135,11 @@ module _ (S M C : ℕ) (table : List ℕ) (l : List Entry) (g : Good S M C table
         (λ f h. Agrees.release-move-kept senior nextHolder S M few-sessions few-items (Table.session table) (locks table) l formed t x t-range x-range stage f h)
         (λ f h. Agrees.release-move senior nextHolder S M few-sessions few-items (Table.session table) (locks table) l formed t x t-range x-range allowed f h)
         (λ f h _. rw (h .here) (quiet (not (eqb (s .stage) Stage.rolledBack))))
-        refl)
+        refl
+        (λ e. absurd (false≢true e)))
 
     item-done : Done Step.deliverToItem
-    unfolding plan delivered Machine.ofMachine
+    unfolding plan delivered Machine.ofMachine Bound.delivers
     item-done u =
         let found : eqb (Agrees.placeOf t x l true) (length l) ≡ false = rw (entries-are) at (u .route) in
         item-moved S M C table l g Step.deliverToItem t t-range x x-range (Machine.deliverToItem t x) in-range (Agrees.othersOf t x l true) (Agrees.itemStep senior nextHolder (locks table) t x l)
@@ -138,9 +147,10 @@ module _ (S M C : ℕ) (table : List ℕ) (l : List Entry) (g : Good S M C table
         (λ f h. Agrees.item-move-kept senior nextHolder S M few-sessions few-items (Table.session table) (locks table) l formed t x t-range x-range found next-inside f h)
         (λ f h. Agrees.item-move senior nextHolder S M few-sessions few-items (Table.session table) (locks table) l formed t x t-range x-range found next-inside f h)
         (λ after. Events.item-move-event senior nextHolder S M few-sessions few-items (Table.session table) (locks table) l formed t x t-range x-range found next-inside after)
+        (taken true found)
 
     session-done : Done Step.deliverToSession
-    unfolding plan delivered sessionActs Machine.ofMachine
+    unfolding plan delivered sessionActs Machine.ofMachine Bound.delivers
     session-done u =
         let found : eqb (Agrees.placeOf t x l false) (length l) ≡ false = rw (entries-are) at (u .route) in
         session-moved S M C table l g Step.deliverToSession t t-range (Machine.deliverToSession t x) in-range (Agrees.othersOf t x l false) (Agrees.sessionStep senior (Table.session table) t x l)
@@ -149,9 +159,10 @@ module _ (S M C : ℕ) (table : List ℕ) (l : List Entry) (g : Good S M C table
         (λ f h. Agrees.session-move senior nextHolder S M few-sessions few-items (Table.session table) (locks table) l formed t x t-range x-range found f h)
         (λ f h v. Events.session-move-event senior nextHolder S M few-sessions few-items (Table.session table) (locks table) l formed t x t-range x-range f _ v)
         refl
+        (λ _. taken false found)
 
   -- whatever holds of a refused step, and of one that is a move of the machine, holds of a step
-  pub by-step : (verb t x : ℕ) (P : Stepped → Type 0) → ((n : ℕ) → P (stepped (refusedAnswer n) table mail))
+  pub by-step : (verb t x : ℕ) (P : Stepped → Type 0) → ((n : ℕ) → n ≢ 0 → P (stepped (refusedAnswer n) table mail))
       → ((r : Stepped) → Moved S M C table l verb t r → P r) → P (step verb t x table mail)
   by-step verb t x P refused moved =
       outcome verb t x table mail P refused (λ e u.

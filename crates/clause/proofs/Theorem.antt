@@ -29,7 +29,8 @@ use Rattle.agreement.specs.Reading.{readEntries}
 use Rattle.agreement.proofs.MoveAgrees.{start-agrees}
 use Rattle.lockmgr.specs.Run.{Buffers, buffers}
 use Rattle.lockmgr.specs.History.{Call, singles, after}
-use Rattle.clause.specs.Statement.{opened, Settled, WellFormed, Clause}
+use Rattle.clause.specs.Statement.{opened, Settled, WellFormed, Holds, Clause}
+use Rattle.clause.proofs.State
 use Rattle.clause.proofs.State.{machineOf, stateOf, Good}
 use Rattle.clause.proofs.Cycles.{on-cycle-of}
 use Rattle.clause.proofs.Follow.{ran, Followed, follow}
@@ -86,11 +87,7 @@ module _ (S M C : ℕ) (b : Buffers) (calls : List Call) (h : Followed S M C (Ma
   well-formed : WellFormed (config S M C) (after b calls)
   well-formed =
       let g = h .good in record {
-        formed = record {
-          records = record { sized = g .sized; formed = g .formed };
-          mail-sized = rw (h .mail) (MailLaws.sized-mail C (h .entries) (g .low) (g .high) (g .room));
-          mail-formed = rw (h .mail, g .sessions, g .items) (MailLaws.wellFormed-mail C (h .entries) (g .low) (g .high) (g .room) S M (g .entries));
-        };
+        formed = rw (h .mail) (State.buffers-formed S M C table-left (h .entries) g);
         sessions = g .sessions;
         items = g .items;
         capacity = rw (h .mail) (MailLaws.capacity-mail C (h .entries) (g .low) (g .high) (g .room));
@@ -121,17 +118,33 @@ module _ (S M C : ℕ) (b : Buffers) (calls : List Call) (h : Followed S M C (Ma
           rw (report-none t table-left (h .good .sized) (h .good .formed) lo high, no-cycle t lo hi) refl;
     }
 
+-- every list of calls from a start that is not refused is followed by such a run
+module _ (c : Config) (table mail : List ℕ) (e : Calls.start c table mail .refusal ≡ 0) (calls : List Call) where
+  abbrev S : ℕ
+  S = c .sessions
+
+  abbrev M : ℕ
+  M = c .items
+
+  abbrev C : ℕ
+  C = c .capacity
+
+  abbrev b : Buffers
+  b = opened c table mail
+
+  good : Good S M C (begun S M C) []
+  good = begun-good S M C (start-zero c table mail (start-accepted c table mail e))
+
+  pub followed : Followed S M C (Machine.start (machineOf S M)) b (singles b calls) 0 0
+  followed = rw (start-leaves c table mail e, ← begun-state S M C) (follow S M C _ (begun S M C) (Mail.mailBytes C []) [] good refl)
+
+  holds : Holds c b calls
+  unfolding Machine.run
+  holds = record {
+    settled = settled S M C b calls followed;
+    declarations = rw (start-leaves c table mail e) (declarations S M C _ (begun S M C) (Mail.mailBytes C []) [] good refl [] (sym (begun-state S M C)));
+    formed = well-formed S M C b calls followed;
+  }
+
 pub theorem : Clause
-unfolding Machine.run
-theorem c table mail e calls =
-    let S = c .sessions in
-    let M = c .items in
-    let C = c .capacity in
-    let b = buffers (Table.started S M) (Mail.mailBytes C []) in
-    let g = begun-good S M C (start-zero c table mail (start-accepted c table mail e)) in
-    let h = rw (begun-state S M C) at (follow S M C (singles b calls) (Table.started S M) (Mail.mailBytes C []) [] g refl) in
-    rw (start-leaves c table mail e) (record {
-      settled = settled S M C b calls h;
-      declarations = declarations S M C (singles b calls) (Table.started S M) (Mail.mailBytes C []) [] g refl [] (sym (begun-state S M C));
-      formed = well-formed S M C b calls h;
-    })
+theorem c table mail e calls = holds c table mail e calls

@@ -13,7 +13,7 @@ use Rattle.mailbox.specs.Layout as Mail
 use Rattle.table.specs.Layout as Table
 use Rattle.step.specs.Refusal
 use Rattle.step.specs.Refusal.{Cause, cause, first}
-use Rattle.step.specs.Step.{acted, stepped, refusedAnswer}
+use Rattle.step.specs.Step.{acted, stepped, refusedAnswer, Formed}
 use Rattle.step.specs.Parts.{Judged}
 use Rattle.step.proofs.Causes.{first-stops, first-goes-on, unmet-not, one-cause}
 use Rattle.lockmgr.specs.Calls.{Config, bufferCauses, judged, startRefusal, step, reportRefusal}
@@ -91,8 +91,18 @@ module _ (verb t x : ℕ) (table mail : List ℕ) where
           judged-rest ∙ rw (le-leb 1 t a, le-leb t (Table.sessionsOf table) b, le-leb 1 x c, le-leb x (Table.itemsOf table) d) refl
 
 -- what the buffers are where no cause lies in them
-pub buffers-zero : (table mail : List ℕ) → first (bufferCauses table mail) ≡ 0 → (Table.sized table ≡ true) × (Mail.sized mail ≡ true)
-buffers-zero table mail e = let s = unmet-not (Table.sized table && Mail.sized mail) 1 _ e in and-both (Table.sized table) (Mail.sized mail) (s .0)
+pub buffers-zero : (table mail : List ℕ) → first (bufferCauses table mail) ≡ 0 → Formed table mail
+buffers-zero table mail e =
+    let s = unmet-not (Table.sized table && Mail.sized mail) 1 _ e in
+    let f = unmet-not (Table.wellFormed table) 2 _ (s .1) in
+    let g = unmet-not (Mail.wellFormed (Table.sessionsOf table) (Table.itemsOf table) mail) 3 _ (f .1) in
+    let sizes = and-both (Table.sized table) (Mail.sized mail) (s .0) in
+    record { records = record { sized = sizes .0; formed = f .0 }; mail-sized = sizes .1; mail-formed = g .0 }
+
+-- well-formed buffers have no cause
+pub formed-zero : (table mail : List ℕ) → Formed table mail → first (bufferCauses table mail) ≡ 0
+unfolding first
+formed-zero table mail f = rw (f .records .sized, f .mail-sized, f .records .formed, f .mail-formed) refl
 
 -- what a start knows that is not refused
 pub record Startable (c : Config) (table mail : List ℕ) : Type 0 where

@@ -2,16 +2,19 @@
 use Prim.Native.Nat.{ℕ}
 use mathlib.Core.List.{List, [], _∷_, _++_}
 use Rattle.lockmgr.specs.Run.{Step, Buffers, Done, done, left}
+use Rattle.lockmgr.specs.Drain.{drainSteps}
 
--- a call: a step with any verb, session and item, or a report on any session
+-- a call: a step with any verb, session and item, a report on any session, or a drain with any limit
 pub data Call : Type 0 where
   step : ℕ → ℕ → ℕ → Call
   report : ℕ → Call
+  drain : ℕ → Call
 
--- the single steps that a call is made of, in their order; a report changes nothing
+-- the single steps that a call is made of, in their order: a report changes nothing, a drain is its deliveries
 unfoldable pub made : Buffers → Call → List Step
 made b (step verb t x) = record { verb = verb; session = t; item = x } ∷ []
 made b (report t) = []
+made b (drain limit) = drainSteps limit b
 
 -- and those of a list of calls
 unfoldable pub singles : Buffers → List Call → List Step

@@ -1,3 +1,5 @@
 pub mod Calls
 pub mod Run
+pub mod Drain
+pub mod Parts
 pub mod History

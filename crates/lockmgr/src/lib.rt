@@ -1,10 +1,14 @@
-// The lock manager (01: the desk): start, step and report on lent bytes, exported to C.
+// The lock manager (01: the desk): start, step, report and drain on lent bytes, exported to C.
 use message::MAX_ITEMS;
 use message::MAX_SESSIONS;
 ghost use mathlib.Core.Path.{_≡_};
 ghost use Rattle.step.specs.Refusal.{first};
-ghost use Rattle.step.specs.Step.{stepped};
+ghost use Rattle.step.specs.Step.{stepped, Formed};
+ghost use Rattle.drain.specs.Parts.{pending, Spent};
 ghost use Rattle.lockmgr.specs.Calls.{config, startRefusal, startResult, start, bufferCauses, judged, step, reportRefusal, report};
+ghost use Rattle.lockmgr.specs.Run.{buffers};
+ghost use Rattle.lockmgr.specs.Drain.{drainRefusal, drainResult, drain};
+ghost use Rattle.lockmgr.specs.Parts.{turned, turnOf};
 pub use step::Answer;
 
 // The answer of a report.
@@ -166,4 +170,104 @@ pub extern "C" fn lockmgr_report(session: u64, table: &[u8]) -> Cycle
         refusal: 0,
         length: waits::cycle_length(table, session as u8),
     }
+}
+
+// The answer of a drain: how many deliveries it made, and why it ended.
+#[repr(C)]
+pub struct Drained {
+    pub refusal: u8,
+    pub made: u64,
+    pub ending: u8,
+}
+
+impl Drained {
+    // The endings.
+    pub const EMPTY: u8 = 1;
+
+    pub const FULL: u8 = 2;
+
+    pub const LIMITED: u8 = 3;
+}
+
+// Why a drain ends here, or 0 where a delivery was made, how many were made so far, and how many entries are spent.
+struct Turn {
+    ending: u8,
+    made: u64,
+    spent: usize,
+}
+
+// Delivers the oldest entry, if one more is allowed; the first k are spent.
+fn take_turn(limit: u64, made: u64, k: usize, table: &mut [u8], mail: &mut [u8]) -> Turn
+    requires { ⌜ Spent k (now mail) × Formed (now table) (pending k (now mail)) ⌝ }
+    ensures { λ r. ⌜ Spent (r .spent) (now (mail .exit)) × (turned (r .ending) (r .made) (now (table .exit)) (pending (r .spent) (now (mail .exit))) ≡ turnOf limit made (buffers (now (table .entry)) (pending k (now (mail .entry))))) ⌝ }
+{
+    if mailbox::count(mail) <= k {
+        return Turn {
+            ending: Drained::EMPTY,
+            made,
+            spent: k,
+        };
+    }
+    let allowed = made < limit;
+    let d = drain::deliver(k, allowed, table, mail);
+    let spent = d.spent;
+    if d.refusal != 0 {
+        return Turn {
+            ending: Drained::FULL,
+            made,
+            spent,
+        };
+    }
+    if allowed {
+        return Turn {
+            ending: 0,
+            made: made + 1,
+            spent,
+        };
+    }
+    Turn {
+        ending: Drained::LIMITED,
+        made,
+        spent,
+    }
+}
+
+// Delivers the oldest entry again and again, on buffers that were judged. In the end the spent entries go out.
+fn deliver_all(limit: u64, table: &mut [u8], mail: &mut [u8]) -> Drained
+    requires { ⌜ drainRefusal (buffers (now table) (now mail)) ≡ 0 ⌝ }
+    ensures { λ r. ⌜ drainResult r (now (table .exit)) (now (mail .exit)) ≡ drain limit (now (table .entry)) (now (mail .entry)) ⌝ }
+{
+    let mut ending: u8 = 0;
+    let mut made: u64 = 0;
+    let mut spent: usize = 0;
+    while ending == 0 {
+        let turn = take_turn(limit, made, spent, table, mail);
+        ending = turn.ending;
+        made = turn.made;
+        spent = turn.spent;
+    }
+    if spent != 0 {
+        mailbox::remove_first(mail, spent);
+    }
+    Drained {
+        refusal: 0,
+        made,
+        ending,
+    }
+}
+
+// Delivers the oldest entry again and again: until no mail is left, the next delivery would be refused with 9, or so many are made.
+#[no_mangle]
+pub extern "C" fn lockmgr_drain(limit: u64, table: &mut [u8], mail: &mut [u8]) -> Drained
+    ensures { λ r. ⌜ drainResult r (now (table .exit)) (now (mail .exit)) ≡ drain limit (now (table .entry)) (now (mail .entry)) ⌝ }
+{
+    let cause = buffers_refusal(table, mail);
+    if cause != 0 {
+        return Drained {
+            refusal: cause,
+            made: 0,
+            ending: 0,
+        };
+    }
+    deliver_all(limit, table, mail)
 }

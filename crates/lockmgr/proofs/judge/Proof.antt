@@ -18,7 +18,7 @@ unhindered c = sym (c .before .buffers-refusal .ensures) ∙ c .if3 .left
 head : (c : tie.Else3) → header ≤ length (c .before .before .before .before .before .before .args .table .now)
 head c =
     let s = c .before .before .before .before .before .before in
-    TableLaws.header-fits (s .args .table .now) (buffers-zero (s .args .table .now) (s .args .mail .now) (unhindered c) .0)
+    TableLaws.header-fits (s .args .table .now) (buffers-zero (s .args .table .now) (s .args .mail .now) (unhindered c) .records .sized)
 
 returns : tie.Need-returns
 returns c = sym (judged-verb _ _ _ _ _ (λ a b. omega arith))

@@ -1,0 +1,144 @@
+-- A drain is its single deliveries, all of them accepted; from a state that is reached it makes no more than the formula says.
+use mathlib.Core.Path.{_≡_, refl, sym, ap, subst, _∙_}
+use mathlib.Core.Bool.{true}
+use mathlib.Core.List.{List, [], _∷_, append-nil}
+use Prim.Native.Nat.{ℕ, zero, suc, _≤_, _<_}
+use native.Mathlib.Omega.{arith}
+use lib.Dec.{eqb}
+use lib.ListN.{length}
+use borrow.Author.Tests.{eq-eqb, eqb-true, eqb-false}
+use Rattle.lists.specs.Lists.{between, all}
+use Rattle.lists.proofs.Tests.{and-intro, by-test}
+use Rattle.mailbox.specs.Entry.{Entry, toItem}
+use Rattle.mailbox.specs.Layout as Mail
+use Rattle.mailbox.specs.Layout.{countOf, entryAt}
+use Rattle.mailbox.proofs.Laws as MailLaws
+use Rattle.step.specs.Step as Step
+use Rattle.step.specs.Step.{Stepped, Formed}
+use Rattle.drain.specs.Oldest.{verbOf}
+use Rattle.lockmgr.specs.Calls.{config}
+use Rattle.lockmgr.specs.Run as Run
+use Rattle.lockmgr.specs.Run.{Buffers, buffers, doneOn, leftBy, done, left}
+use Rattle.lockmgr.specs.Drain.{oldest, limited, ending, deliveries, drainRefusal, drainSteps, drain}
+use Rattle.lockmgr.specs.History
+use Rattle.lockmgr.specs.History.{made, singles, after}
+use Rattle.lockmgr.proofs.Judging.{formed-zero, buffers-zero, start-zero}
+use Rattle.lockmgr.proofs.Form.{step-keeps-form}
+use Rattle.lockmgr.proofs.Draining.{next-accepted}
+use Rattle.deadlock.specs.Machine
+use Rattle.deadlock.specs.Invariant.{Invariant}
+use Rattle.deadlock.proofs.InvariantKept.{invariant, invariant-move}
+use Rattle.bound.specs.Formula.{deliveryBound}
+use Rattle.bound.specs.Potential.{potential}
+use Rattle.bound.proofs.Theorem as BoundTheorem
+use Rattle.agreement.specs.Reading.{readEntries}
+use Rattle.agreement.proofs.MailboxAgrees.{length-readEntries}
+use Rattle.agreement.proofs.RulesLaws.{rules-laws}
+use Rattle.clause.specs.Statement.{opened}
+use Rattle.clause.specs.Drains.{isAccepted, DrainIsSteps, DrainEnds, DrainsEnd, SmallBound}
+use Rattle.clause.proofs.State
+use Rattle.clause.proofs.State.{machineOf, stateOf, Good}
+use Rattle.clause.proofs.Moves.{Moved}
+use Rattle.clause.proofs.Step.{by-step}
+use Rattle.clause.proofs.Follow.{anything}
+use Rattle.clause.proofs.Theorem.{start-accepted, followed}
+use Rattle.clause.proofs.Replay.{single-steps}
+
+-- the verb of an entry is that of a delivery
+is-delivery : (e : Entry) → between Step.deliverToItem Step.deliverToSession (verbOf e) ≡ true
+is-delivery e = by-test (λ (n : ℕ). between Step.deliverToItem Step.deliverToSession n ≡ true) (eqb (e .direction) toItem) (λ _. refl) (λ _. refl)
+
+-- ---- a drain is its single deliveries
+all-accepted : (n : ℕ) (b : Buffers) → Formed (b .table) (b .mail) → all isAccepted (done b (deliveries n b)) ≡ true
+unfolding deliveries done all
+all-accepted zero b f = refl
+all-accepted (suc n) b f =
+    by-test (λ (l : List Run.Step). all isAccepted (done b l) ≡ true) (eqb (ending b) limited)
+    (λ q. let c = oldest b in
+    and-intro (eq-eqb (doneOn b c .result .answer .refusal) 0 (next-accepted (b .table) (b .mail) f (eqb-true (ending b) limited q)))
+    (all-accepted n (leftBy (doneOn b c)) (step-keeps-form (c .verb) (c .session) (c .item) (b .table) (b .mail) f .formed)))
+    (λ _. refl)
+
+one-call : (limit : ℕ) (b : Buffers) → singles b (History.drain limit ∷ []) ≡ drainSteps limit b
+unfolding singles made
+one-call limit b = append-nil (drainSteps limit b)
+
+pub drain-is-steps : DrainIsSteps
+unfolding drain drainSteps done all
+drain-is-steps limit b = record {
+  made = refl;
+  left = rw (single-steps b (drainSteps limit b)) refl;
+  same-left = rw (single-steps b (drainSteps limit b), one-call limit b) refl;
+  same-steps = rw (single-steps b (drainSteps limit b), one-call limit b) refl;
+  accepted = by-test (λ (l : List Run.Step). all isAccepted (done b l) ≡ true) (eqb (drainRefusal b) 0)
+      (λ q. all-accepted limit b (buffers-zero (b .table) (b .mail) (eqb-true (drainRefusal b) 0 q))) (λ _. refl);
+}
+
+-- ---- how many deliveries there are
+-- a drain that the limit ends has made as many as the limit
+all-made : (n : ℕ) (b : Buffers) → ending (left b (deliveries n b)) ≡ limited → length (deliveries n b) ≡ n
+unfolding deliveries left
+all-made zero b = λ _. refl
+all-made (suc n) b =
+    by-test (λ (l : List Run.Step). ending (left b l) ≡ limited → length l ≡ suc n) (eqb (ending b) limited)
+    (λ _ h. ap suc (all-made n (leftBy (doneOn b (oldest b))) h))
+    (λ q h. absurd (eqb-false (ending b) limited q h))
+
+module _ (S M C : ℕ) where
+  abbrev R : Machine.Rules
+  R = machineOf S M
+
+  -- each makes the potential fall
+  module _ (table : List ℕ) (l : List Entry) (k : Invariant R (stateOf S M table l)) (verb t : ℕ) (r : Stepped) (m : Moved S M C table l verb t r) where
+    kept : Invariant R (stateOf S M (r .table) (m .entries))
+    kept = rw (m .moves) (invariant-move R (rules-laws S M) (stateOf S M table l) k (m .call) (m .of-machine))
+
+    falls : between Step.deliverToItem Step.deliverToSession verb ≡ true → potential R (stateOf S M (r .table) (m .entries)) < potential R (stateOf S M table l)
+    falls d = rw (m .moves) (omega (arith, BoundTheorem.theorem R (rules-laws S M) .falls (stateOf S M table l) k (m .call) (m .of-machine) (m .delivers d)))
+
+  few : (n : ℕ) (table : List ℕ) (l : List Entry) → Good S M C table l → Invariant R (stateOf S M table l)
+      → length (deliveries n (buffers table (Mail.mailBytes C l))) ≤ potential R (stateOf S M table l)
+  unfolding deliveries
+  few zero table l g k = omega arith
+  few (suc n) table l g k =
+      let b = buffers table (Mail.mailBytes C l) in
+      by-test (λ (d : List Run.Step). length d ≤ potential R (stateOf S M table l)) (eqb (ending b) limited)
+      (λ q. by-step S M C table l g (oldest b .verb) (oldest b .session) (oldest b .item)
+      (λ (r : Stepped). r .answer .refusal ≡ 0 → length (oldest b ∷ deliveries n (buffers (r .table) (r .mail))) ≤ potential R (stateOf S M table l))
+      (λ i other z. absurd (other z))
+      (λ r m _. rw (m .mail) (omega (arith, few n (r .table) (m .entries) (m .good) (kept table l k _ _ r m), falls table l k _ _ r m (is-delivery (Mail.entryAt (b .mail) 0)))))
+      (next-accepted table (Mail.mailBytes C l) (State.buffers-formed S M C table l g) (eqb-true (ending b) limited q)))
+      (λ _. omega arith)
+
+  -- as the formula says
+  module _ (table : List ℕ) (l : List Entry) (g : Good S M C table l) (k : Invariant R (stateOf S M table l)) where
+    abbrev at : Buffers
+    at = buffers table (Mail.mailBytes C l)
+
+    bound-of : (n : ℕ) → length (deliveries n at) ≤ deliveryBound S M (countOf (Mail.mailBytes C l))
+    bound-of n =
+        let c : countOf (Mail.mailBytes C l) ≡ length (readEntries l) = MailLaws.count-mail C l (g .low) (g .high) (g .room) ∙ sym (length-readEntries l) in
+        rw (c) (omega (arith, few n table l g k, BoundTheorem.theorem R (rules-laws S M) .bounded (stateOf S M table l)))
+
+    drain-ends : (limit : ℕ) → DrainEnds (config S M C) at limit
+    unfolding drain drainSteps
+    drain-ends limit =
+        let z : drainRefusal at ≡ 0 = formed-zero table (Mail.mailBytes C l) (State.buffers-formed S M C table l g) in
+        record {
+          bounded = rw (z) (bound-of limit);
+          ends = λ h. rw (z) (λ q. omega (arith, bound-of limit, h, all-made limit at q));
+        }
+
+pub drains-end : DrainsEnd
+drains-end c table mail e calls limit =
+    let S = c .sessions in
+    let M = c .items in
+    let b = after (opened c table mail) calls in
+    let h = followed c table mail e calls in
+    let k : Invariant (machineOf S M) (stateOf S M (b .table) (h .entries)) = rw (← h .state) (invariant (machineOf S M) (rules-laws S M) anything (h .run)) in
+    subst (λ (m : List ℕ). DrainEnds c (buffers (b .table) m) limit) (sym (h .mail)) (drain-ends S M (c .capacity) (b .table) (h .entries) (h .good) k limit)
+
+pub bound-small : SmallBound
+bound-small c table mail e n fits =
+    let s = start-zero c table mail (start-accepted c table mail e) in
+    BoundTheorem.small-bound (c .sessions) (c .items) n (s .max-sessions) (s .max-items) (omega (arith, fits, s .max-room))

@@ -1,0 +1,211 @@
+-- The delivery of the oldest entry: only room can hinder it, and the other entries are left.
+use mathlib.Core.Path.{_≡_, refl, sym, ap, _∙_}
+use mathlib.Core.Bool.{Bool, true, false}
+use mathlib.Core.List.{List, _∷_, _++_, map}
+use mathlib.Core.Logic.{_⊎_, inl, inr, ⊎-elim}
+use Prim.Native.Nat.{ℕ, _+_, _≤_, _<_}
+use native.Mathlib.Omega.{arith}
+use lib.Dec.{eqb, leb}
+use lib.ListN.{length, drop}
+use lib.Seq.{drop-cons}
+use borrow.Author.Tests.{eq-eqb, ne-eqb, eqb-true, eqb-false, leb-true, leb-false, lt-ltb, le-ltb}
+use Rattle.lists.specs.Lists.{findIndex, removeAt}
+use Rattle.lists.proofs.Tests.{by-answer}
+use Rattle.message.specs.declared.Message.{Message}
+use Rattle.message.specs.Outbox as Outbox
+use Rattle.session.specs.Seniority.{senior}
+use Rattle.session.specs.Rules as Session
+use Rattle.session.proofs.Laws.{received-length}
+use Rattle.item.specs.NextHolder.{nextHolder}
+use Rattle.item.specs.Rules as Item
+use Rattle.item.specs.Record.{Packed}
+use Rattle.item.specs.declared.Event.{Event}
+use Rattle.item.proofs.Laws.{received-fits, queue-length}
+use Rattle.mailbox.specs.Entry.{Entry, unused, toItem, toSession, onRoute, seenByItem, seenBySession}
+use Rattle.mailbox.specs.Layout.{capacityOf, countOf, entryAt, entriesOf, mailBytes}
+use Rattle.mailbox.proofs.Laws as MailLaws
+use Rattle.mailbox.proofs.EntryLaws.{EntryFacts, entry-facts}
+use Rattle.table.specs.Layout as Table
+use Rattle.waits.specs.OnTable.{locks}
+use Rattle.step.specs.Refusal
+use Rattle.step.specs.Refusal.{first}
+use Rattle.step.specs.Step as Step
+use Rattle.step.specs.Step.{Plan, Formed, delivered, sessionActs, sessionPlan, itemPlan, plan, stepCauses, overfull, stepped, refusedAnswer}
+use Rattle.step.specs.Parts.{Judged, concluded}
+use Rattle.step.proofs.Acting.{acted-concluded, length-sent, deliverable, item-packed, juniors-whole}
+use Rattle.drain.specs.Oldest.{oldestActed}
+use Rattle.drain.specs.Parts.{pending, Due, Outcome, outcome, outcomeOf}
+use Rattle.drain.proofs.Spent.{left, entries-left, oldest-left}
+
+-- what a step comes to that only room can hinder: p is what it plans
+module _ (t : ℕ) (table mail : List ℕ) (p : Plan) where
+  -- it is refused with 9 and changes nothing, or accepted
+  by-room : (concluded t table mail p ≡ stepped (refusedAnswer Refusal.mailFull) table mail) ⊎ (concluded t table mail p .answer .refusal ≡ 0)
+  by-room = by-answer (overfull (capacityOf mail) (p .entries)) (λ e. inl (rw (e) refl)) (λ e. inr (rw (e) refl))
+
+  no-room : overfull (capacityOf mail) (p .entries) ≡ true → (allowed : Bool) → outcome Refusal.mailFull table mail ≡ outcomeOf allowed table mail (concluded t table mail p)
+  no-room e true = rw (e) refl
+  no-room e false = rw (e) refl
+
+  only-judged : overfull (capacityOf mail) (p .entries) ≡ false → outcome 0 table mail ≡ outcomeOf false table mail (concluded t table mail p)
+  only-judged e = rw (e) refl
+
+  made : overfull (capacityOf mail) (p .entries) ≡ false → outcome 0 (p .table) (mailBytes (capacityOf mail) (p .entries)) ≡ outcomeOf true table mail (concluded t table mail p)
+  made e = rw (e) refl
+
+-- the oldest of a list of entries is the earliest of its route
+module _ (e : Entry) (rest : List Entry) (table : List ℕ) where
+  abbrev route-there : ℕ → Type 0
+  route-there d = onRoute d (e .session) (e .item) e ≡ true
+
+  on-route : (d : ℕ) → e .direction ≡ d → route-there d
+  on-route d h = rw (eq-eqb (e .direction) d h, eq-eqb (e .session) (e .session) refl, eq-eqb (e .item) (e .item) refl) refl
+
+  not-none : eqb 0 (length (e ∷ rest)) ≡ false
+  not-none = ne-eqb 0 (length (e ∷ rest)) (λ q. absurd (omega (arith, q)))
+
+  abbrev to-item-plan : Plan
+  to-item-plan = itemPlan (e .item) table rest (Item.received senior nextHolder (locks table (e .item)) (seenByItem e))
+
+  abbrev to-session-plan : Plan
+  to-session-plan = sessionPlan (e .session) table rest (Session.received senior (e .session) (Table.session table (e .session)) (seenBySession e))
+
+  item-plan : e .direction ≡ toItem → plan Step.deliverToItem (e .session) (e .item) table (e ∷ rest) ≡ to-item-plan
+  unfolding plan delivered findIndex removeAt
+  item-plan h = rw (on-route toItem h) refl
+
+  session-plan : e .direction ≡ toSession → plan Step.deliverToSession (e .session) (e .item) table (e ∷ rest) ≡ to-session-plan
+  unfolding plan delivered sessionActs findIndex removeAt
+  session-plan h = rw (on-route toSession h) refl
+
+  item-unhindered : e .direction ≡ toItem → first (stepCauses Step.deliverToItem (e .session) (e .item) table (e ∷ rest)) ≡ 0
+  unfolding first delivered findIndex
+  item-unhindered h = rw (on-route toItem h, not-none) refl
+
+  session-unhindered : e .direction ≡ toSession → first (stepCauses Step.deliverToSession (e .session) (e .item) table (e ∷ rest)) ≡ 0
+  unfolding first delivered findIndex
+  session-unhindered h = rw (on-route toSession h, not-none) refl
+
+-- the oldest entry of well-formed buffers
+module _ (table mail : List ℕ) (f : Formed table mail) (some : 0 < countOf mail) where
+  abbrev oldest : Entry
+  oldest = entryAt mail 0
+
+  abbrev others : List Entry
+  others = drop 1 (entriesOf mail)
+
+  all-entries : entriesOf mail ≡ oldest ∷ others
+  all-entries = drop-cons (entriesOf mail) 0 unused (omega (arith, MailLaws.length-entries mail)) ∙ rw (MailLaws.getD-entries mail 0 some) refl
+
+  pub oldest-facts : EntryFacts (Table.sessionsOf table) (Table.itemsOf table) oldest
+  oldest-facts =
+      entry-facts (Table.sessionsOf table) (Table.itemsOf table) oldest (MailLaws.formed-entry (Table.sessionsOf table) (Table.itemsOf table) mail (f .mail-formed) 0 some)
+
+  pub oldest-judged : Judged (oldest .session) (oldest .item) table mail
+  oldest-judged = let e = oldest-facts in record { formed = f; session-low = e .session-low; session-high = e .session-high; item-low = e .item-low; item-high = e .item-high }
+
+  -- only room can hinder its delivery
+  pub item-acts : oldest .direction ≡ toItem → oldestActed table mail ≡ concluded (oldest .session) table mail (to-item-plan oldest others table)
+  item-acts h =
+      let planned : plan Step.deliverToItem (oldest .session) (oldest .item) table (entriesOf mail) ≡ to-item-plan oldest others table = rw (all-entries) (item-plan oldest others table h) in
+      rw (eq-eqb (oldest .direction) toItem h)
+      (acted-concluded Step.deliverToItem (oldest .session) (oldest .item) table mail (rw (all-entries) (item-unhindered oldest others table h))
+      ∙ ap (concluded (oldest .session) table mail) planned)
+
+  pub session-acts : (oldest .direction ≡ toItem → ⊥) → oldestActed table mail ≡ concluded (oldest .session) table mail (to-session-plan oldest others table)
+  session-acts n =
+      let h : oldest .direction ≡ toSession = ⊎-elim (λ q. absurd (n q)) (λ q. q) (oldest-facts .kinds .direction) in
+      let planned : plan Step.deliverToSession (oldest .session) (oldest .item) table (entriesOf mail) ≡ to-session-plan oldest others table = rw (all-entries) (session-plan oldest others table h) in
+      rw (ne-eqb (oldest .direction) toItem n)
+      (acted-concluded Step.deliverToSession (oldest .session) (oldest .item) table mail (rw (all-entries) (session-unhindered oldest others table h))
+      ∙ ap (concluded (oldest .session) table mail) planned)
+
+  -- it is refused with 9 and changes nothing, or accepted
+  pub refused-or-accepted : (oldestActed table mail ≡ stepped (refusedAnswer Refusal.mailFull) table mail) ⊎ (oldestActed table mail .answer .refusal ≡ 0)
+  refused-or-accepted =
+      by-answer (eqb (oldest .direction) toItem)
+      (λ q. rw (item-acts (eqb-true (oldest .direction) toItem q)) (by-room (oldest .session) table mail (to-item-plan oldest others table)))
+      (λ q. rw (session-acts (eqb-false (oldest .direction) toItem q)) (by-room (oldest .session) table mail (to-session-plan oldest others table)))
+
+-- the oldest entry that is not spent
+module _ (k : ℕ) (table mail : List ℕ) (due : Due k table mail) where
+  abbrev due-entry : Entry
+  due-entry = entryAt mail k
+
+  pub some-left : 0 < countOf (pending k mail)
+  some-left = omega (arith, left k mail (due .kept) .count, due .inside)
+
+  same-entry : entryAt (pending k mail) 0 ≡ due-entry
+  same-entry = oldest-left k mail (due .kept) (due .inside)
+
+  due-facts : EntryFacts (Table.sessionsOf table) (Table.itemsOf table) due-entry
+  due-facts = rw (sym same-entry) (oldest-facts table (pending k mail) (due .formed) some-left)
+
+  due-judged : Judged (due-entry .session) (due-entry .item) table (pending k mail)
+  due-judged = rw (sym same-entry) (oldest-judged table (pending k mail) (due .formed) some-left)
+
+  pub has-session : Table.HasSession table (due-entry .session)
+  has-session = record { sized = due .formed .records .sized; low = due-facts .session-low; high = due-facts .session-high }
+
+  pub has-item : Table.HasItem table (due-entry .item)
+  has-item = record { sized = due .formed .records .sized; low = due-facts .item-low; high = due-facts .item-high }
+
+  pub due-deliverable : Session.Deliverable (seenBySession due-entry)
+  due-deliverable =
+      rw (sym (oldest-left k mail (due .kept) (due .inside)))
+      (deliverable (due-entry .session) (due-entry .item) table (pending k mail) due-judged 0 (omega (arith, left k mail (due .kept) .count, due .inside)))
+
+  pub due-packed : Packed (Table.item table (due-entry .item))
+  due-packed = item-packed (due-entry .session) (due-entry .item) table (pending k mail) due-judged
+
+  -- what the session or the item sends has places in an outbox
+  pub session-sends-few : length (Session.received senior (due-entry .session) (Table.session table (due-entry .session)) (seenBySession due-entry) .sends) ≤ Outbox.room
+  session-sends-few =
+      omega (arith, received-length (Table.session table (due-entry .session)) (juniors-whole (due-entry .session) (due-entry .item) table (pending k mail) due-judged) senior (due-entry .session) (seenBySession due-entry))
+
+  pub item-sends-few : length (Item.received senior nextHolder (locks table (due-entry .item)) (seenByItem due-entry) .sends) ≤ Outbox.room
+  unfolding locks
+  item-sends-few =
+      omega (arith, received-fits senior nextHolder (locks table (due-entry .item)) (seenByItem due-entry) (omega (arith, due-packed .fits, queue-length (Table.item table (due-entry .item)) due-packed)))
+
+  abbrev others-due : List Entry
+  others-due = drop (k + 1) (entriesOf mail)
+
+  same-others : drop 1 (entriesOf (pending k mail)) ≡ others-due
+  same-others = ap (drop 1) (left k mail (due .kept) .entries ∙ entries-left k mail (due .kept) (due .inside))
+
+  pub due-item-acts : due-entry .direction ≡ toItem → oldestActed table (pending k mail) ≡ concluded (due-entry .session) table (pending k mail) (to-item-plan due-entry others-due table)
+  due-item-acts h =
+      item-acts table (pending k mail) (due .formed) some-left (rw (same-entry) h)
+      ∙ ap (λ (e : Entry). concluded (e .session) table (pending k mail) (to-item-plan e (drop 1 (entriesOf (pending k mail))) table)) same-entry
+      ∙ ap (λ (l : List Entry). concluded (due-entry .session) table (pending k mail) (to-item-plan due-entry l table)) same-others
+
+  pub due-session-acts : (due-entry .direction ≡ toItem → ⊥) → oldestActed table (pending k mail) ≡ concluded (due-entry .session) table (pending k mail) (to-session-plan due-entry others-due table)
+  due-session-acts n =
+      session-acts table (pending k mail) (due .formed) some-left (rw (same-entry) n)
+      ∙ ap (λ (e : Entry). concluded (e .session) table (pending k mail) (to-session-plan e (drop 1 (entriesOf (pending k mail))) table)) same-entry
+      ∙ ap (λ (l : List Entry). concluded (due-entry .session) table (pending k mail) (to-session-plan due-entry l table)) same-others
+
+  -- what the delivery comes to, by whether what is sent fits in with the others-due
+  module _ (after : List ℕ) (f : Message → Entry) (l : List Message) (event : Event) (n : ℕ) (few : n ≡ length l) where
+    abbrev planned : Plan
+    planned = record { table = after; entries = others-due ++ map f l; sent = length l; event = event }
+
+    abbrev told : Bool → Outcome
+    told allowed = outcomeOf allowed table (pending k mail) (concluded (due-entry .session) table (pending k mail) planned)
+
+    same-capacity : capacityOf (pending k mail) ≡ capacityOf mail
+    same-capacity = left k mail (due .kept) .capacity
+
+    pub told-full : leb (length others-due + n) (capacityOf mail) ≡ false → (allowed : Bool) → outcome Refusal.mailFull table (pending k mail) ≡ told allowed
+    told-full e = no-room (due-entry .session) table (pending k mail) planned (rw (same-capacity) (lt-ltb (capacityOf mail) (length (others-due ++ map f l)) (omega (arith, length-sent others-due f l, leb-false (length others-due + n) (capacityOf mail) e, few))))
+
+    module _ (e : leb (length others-due + n) (capacityOf mail) ≡ true) where
+      fits : overfull (capacityOf (pending k mail)) (others-due ++ map f l) ≡ false
+      fits = rw (same-capacity) (le-ltb (capacityOf mail) (length (others-due ++ map f l)) (omega (arith, length-sent others-due f l, leb-true (length others-due + n) (capacityOf mail) e, few)))
+
+      pub told-judged : outcome 0 table (pending k mail) ≡ told false
+      told-judged = only-judged (due-entry .session) table (pending k mail) planned fits
+
+      pub told-made : outcome 0 after (mailBytes (capacityOf mail) (others-due ++ map f l)) ≡ told true
+      told-made = ap (λ (C : ℕ). outcome 0 after (mailBytes C (others-due ++ map f l))) (sym same-capacity) ∙ made (due-entry .session) table (pending k mail) planned fits

@@ -1,0 +1,57 @@
+-- The route says who receives the entry.
+use mathlib.Core.Path.{sym, ap, _∙_}
+use Rattle.mailbox.specs.declared.Route.{Route}
+use Rattle.drain.specs.Parts.{outcomeOf, pending}
+use Rattle.drain.proofs.Oldest.{due-item-acts, due-session-acts}
+use borrow.Author.Needs.{needs}
+use Rattle.drain.proofs.deliver.Statement.{statement}
+use Rattle.drain.proofs.deliver.Tie as tie
+
+route-of-requires : tie.Need-route-of-requires
+route-of-requires c κs = let s = c .before .before .before in record { kept = s .pre .kept; inside = s .pre .inside }
+
+deliver-to-item-requires : tie.Need-deliver-to-item-requires
+deliver-to-item-requires c κs = (c .before .before .before .before .before .before .before .before .pre, ap (λ (r : Route). r .item) (c .before .before .before .before .route-of .ensures))
+
+same-length : tie.Need-same-length
+same-length c = search needs
+
+same-length-2 : tie.Need-same-length-2
+same-length-2 c = search needs
+
+returns : tie.Need-returns
+returns c =
+    let s = c .before .before .before .before .before .before .before .before .before .before .before .before .before in
+    let d = c .before .before .before .before .deliver-to-item .ensures in
+    let route = c .before .before .before .before .before .before .before .before .before .route-of .ensures in
+    (d .0, (rw (ap (λ (r : Route). r .item) route) at (d .1)) ∙ ap (outcomeOf (s .args .allowed) (s .args .table .now) (pending (s .args .k) (s .args .mail .now))) (sym (due-item-acts (s .args .k) (s .args .table .now) (s .args .mail .now) (s .pre) (sym (ap (λ (r : Route). r .direction) route) ∙ c .before .before .before .before .before .before .before .if1 .taken))))
+
+deliver-to-session-requires : tie.Need-deliver-to-session-requires
+deliver-to-session-requires c κs = (c .before .before .before .before .before .before .before .before .pre, ap (λ (r : Route). r .session) (c .before .before .before .before .route-of .ensures))
+
+same-length-3 : tie.Need-same-length-3
+same-length-3 c = search needs
+
+same-length-4 : tie.Need-same-length-4
+same-length-4 c = search needs
+
+returns-2 : tie.Need-returns-2
+returns-2 c =
+    let s = c .before .before .before .before .before .before .before .before .before .before .before .before .before in
+    let d = c .before .before .before .before .deliver-to-session .ensures in
+    let route = c .before .before .before .before .before .before .before .before .before .route-of .ensures in
+    (d .0, (rw (ap (λ (r : Route). r .session) route) at (d .1)) ∙ ap (outcomeOf (s .args .allowed) (s .args .table .now) (pending (s .args .k) (s .args .mail .now))) (sym (due-session-acts (s .args .k) (s .args .table .now) (s .args .mail .now) (s .pre) (λ q. c .before .before .before .before .before .before .before .if1 .left (ap (λ (r : Route). r .direction) route ∙ q)))))
+
+pub deliver-spec : {M : Type 1} → statement M
+deliver-spec =
+    tie.close
+    (tie.spec
+    route-of-requires
+    deliver-to-item-requires
+    same-length
+    same-length-2
+    returns
+    deliver-to-session-requires
+    same-length-3
+    same-length-4
+    returns-2)

@@ -1,0 +1,44 @@
+-- What the parts of the code ask of each other and leave. No part of the promise.
+-- Entries that a drain has delivered, spent ones, stand at the front of the mailbox until they go out all at once.
+use Prim.Native.Nat.{ℕ, _+_, _≤_, _<_}
+use mathlib.Core.Path.{_≡_}
+use mathlib.Core.Bool.{Bool, cond}
+use mathlib.Core.List.{List}
+use lib.ListN.{drop}
+use Rattle.mailbox.specs.Layout.{capacityOf, countOf, entriesOf, mailBytes, Kept}
+use Rattle.step.specs.Step.{Stepped, Formed}
+
+-- the mailbox without its first k entries
+abbrev pub pending : ℕ → List ℕ → List ℕ
+pending k mail = mailBytes (capacityOf mail) (drop k (entriesOf mail))
+
+-- the first k entries are spent
+pub record Spent (k : ℕ) (mail : List ℕ) : Type 0 where
+  pub kept : Kept mail
+  pub few : k ≤ countOf mail
+
+-- and one is left to deliver
+pub record Due (k : ℕ) (table mail : List ℕ) : Type 0 where
+  pub kept : Kept mail
+  pub inside : k < countOf mail
+  pub formed : Formed table (pending k mail)
+
+-- n more fit in behind the entries, where k are spent of what had j spent
+pub record Placed (j n k : ℕ) (before after : List ℕ) : Type 0 where
+  pub spent : Spent k after
+  pub capacity : capacityOf after ≡ capacityOf before
+  pub entries : drop k (entriesOf after) ≡ drop j (entriesOf before)
+  pub free : countOf after + n ≤ capacityOf after
+
+-- what a delivery is refused with, or 0, and what it leaves, without the spent entries
+pub record Outcome : Type 0 where
+  pub refusal : ℕ
+  pub table : List ℕ
+  pub mail : List ℕ
+
+abbrev pub outcome : ℕ → List ℕ → List ℕ → Outcome
+outcome n table mail = record { refusal = n; table = table; mail = mail }
+
+-- a delivery that is allowed, or only judged
+abbrev pub outcomeOf : Bool → List ℕ → List ℕ → Stepped → Outcome
+outcomeOf allowed table mail r = outcome (r .answer .refusal) (cond allowed (r .table) table) (cond allowed (r .mail) mail)

@@ -1,0 +1,114 @@
+// One delivery of a drain, on buffers that were judged. Entries that the drain has delivered, spent ones, stand at the front of the mailbox until they go out all at once.
+use step::Answer;
+ghost use mathlib.Core.Path.{_≡_};
+ghost use Prim.Native.Nat.{_+_, _≤_};
+ghost use lib.Dec.{leb};
+ghost use lib.ListN.{length, drop};
+ghost use Rattle.message.specs.Outbox.{room};
+ghost use Rattle.session.specs.Seniority.{senior};
+ghost use Rattle.session.specs.Rules as SessionRules;
+ghost use Rattle.item.specs.NextHolder.{nextHolder};
+ghost use Rattle.item.specs.Rules as ItemRules;
+ghost use Rattle.mailbox.specs.Entry.{seenByItem, seenBySession};
+ghost use Rattle.mailbox.specs.Layout.{capacityOf, entriesOf, entryAt};
+ghost use Rattle.table.specs.Layout.{session};
+ghost use Rattle.waits.specs.OnTable.{locks};
+ghost use Rattle.step.specs.Step.{sessionPlan, itemPlan};
+ghost use Rattle.step.specs.Parts.{concluded};
+ghost use Rattle.drain.specs.Oldest.{oldestActed};
+ghost use Rattle.drain.specs.Parts.{pending, Spent, Due, Placed, outcome, outcomeOf};
+
+// What a delivery is refused with, or 0, and how many entries are spent after it.
+pub struct Delivery {
+    pub refusal: u8,
+    pub spent: usize,
+}
+
+// Whether n entries more have room once the first k are out.
+fn fits(mail: &[u8], k: usize, n: usize) -> bool
+    requires { ⌜ Spent k (now mail) × (n ≤ room) ⌝ }
+    ensures { λ r. ⌜ r ≡ leb (length (drop k (entriesOf (now (mail .entry)))) + n) (capacityOf (now (mail .entry))) ⌝ }
+{
+    mailbox::count(mail) - k + n <= mailbox::capacity(mail)
+}
+
+// Makes places for n entries more: the first k, which are spent, go out where the free places are too few. How many are spent after.
+fn make_places(mail: &mut [u8], k: usize, n: usize) -> usize
+    requires { ⌜ Spent k (now mail) × (n ≤ room) × (length (drop k (entriesOf (now mail))) + n ≤ capacityOf (now mail)) ⌝ }
+    ensures { λ r. ⌜ Placed k n r (now (mail .entry)) (now (mail .exit)) ⌝ }
+{
+    if mailbox::count(mail) + n <= mailbox::capacity(mail) {
+        return k;
+    }
+    mailbox::remove_first(mail, k);
+    0
+}
+
+// Delivers entry k, the oldest that is not spent, to session t.
+fn deliver_to_session(t: u8, k: usize, allowed: bool, table: &mut [u8], mail: &mut [u8]) -> Delivery
+    requires { ⌜ Due k (now table) (now mail) × (t ≡ entryAt (now mail) k .session) ⌝ }
+    ensures { λ r. ⌜ Spent (r .spent) (now (mail .exit)) × (outcome (r .refusal) (now (table .exit)) (pending (r .spent) (now (mail .exit)))
+        ≡ outcomeOf allowed (now (table .entry)) (pending k (now (mail .entry))) (concluded t (now (table .entry)) (pending k (now (mail .entry))) (sessionPlan t (now (table .entry)) (drop (k + 1) (entriesOf (now (mail .entry)))) (SessionRules.received senior t (session (now (table .entry)) t) (seenBySession (entryAt (now (mail .entry)) k)))))) ⌝ }
+{
+    let r = table::session(table, t).receive(t, mailbox::message_to_session(mail, k));
+    let outbox = r.outbox;
+    let session = r.session;
+    let sent = outbox.n;
+    if !fits(mail, k + 1, sent) {
+        return Delivery {
+            refusal: Answer::MAIL_FULL,
+            spent: k,
+        };
+    }
+    if !allowed {
+        return Delivery {
+            refusal: 0,
+            spent: k,
+        };
+    }
+    let spent = make_places(mail, k + 1, sent);
+    mailbox::post(mail, mailbox::TO_ITEM, t, outbox);
+    table::put_session(table, t, session);
+    Delivery { refusal: 0, spent }
+}
+
+// Delivers entry k, the oldest that is not spent, to item x; t is the session that sent it.
+fn deliver_to_item(x: u8, k: usize, allowed: bool, table: &mut [u8], mail: &mut [u8]) -> Delivery
+    requires { ⌜ Due k (now table) (now mail) × (x ≡ entryAt (now mail) k .item) ⌝ }
+    ensures { λ r. ⌜ Spent (r .spent) (now (mail .exit)) × (outcome (r .refusal) (now (table .exit)) (pending (r .spent) (now (mail .exit)))
+        ≡ outcomeOf allowed (now (table .entry)) (pending k (now (mail .entry))) (concluded (entryAt (now (mail .entry)) k .session) (now (table .entry)) (pending k (now (mail .entry))) (itemPlan x (now (table .entry)) (drop (k + 1) (entriesOf (now (mail .entry)))) (ItemRules.received senior nextHolder (locks (now (table .entry)) x) (seenByItem (entryAt (now (mail .entry)) k)))))) ⌝ }
+{
+    let r = table::item(table, x).receive(mailbox::message_to_item(mail, k));
+    let outbox = r.outbox;
+    let item = r.item;
+    let sent = outbox.n;
+    if !fits(mail, k + 1, sent) {
+        return Delivery {
+            refusal: Answer::MAIL_FULL,
+            spent: k,
+        };
+    }
+    if !allowed {
+        return Delivery {
+            refusal: 0,
+            spent: k,
+        };
+    }
+    let spent = make_places(mail, k + 1, sent);
+    mailbox::post(mail, mailbox::TO_SESSION, x, outbox);
+    table::put_item(table, x, item);
+    Delivery { refusal: 0, spent }
+}
+
+// Delivers entry k, the oldest that is not spent. Where it is not allowed, only what it would be refused with is judged.
+pub fn deliver(k: usize, allowed: bool, table: &mut [u8], mail: &mut [u8]) -> Delivery
+    requires { ⌜ Due k (now table) (now mail) ⌝ }
+    ensures { λ r. ⌜ Spent (r .spent) (now (mail .exit)) × (outcome (r .refusal) (now (table .exit)) (pending (r .spent) (now (mail .exit)))
+        ≡ outcomeOf allowed (now (table .entry)) (pending k (now (mail .entry))) (oldestActed (now (table .entry)) (pending k (now (mail .entry))))) ⌝ }
+{
+    let route = mailbox::route_of(mail, k);
+    if route.direction == mailbox::TO_ITEM {
+        return deliver_to_item(route.item, k, allowed, table, mail);
+    }
+    deliver_to_session(route.session, k, allowed, table, mail)
+}
