@@ -1,16 +1,17 @@
-//! The three calls, by whoever answers them.
+//! The four calls, by whoever answers them.
 
 use crate::{fast, library};
-use model::{Answer, Config, Cycle, Misreading};
+use model::{Answer, Config, Cycle, Drained, Misreading};
 
 pub trait Calls {
     fn start(&self, config: Config, table: &mut [u8], mail: &mut [u8]) -> u8;
     fn step(&self, verb: u64, session: u64, item: u64, table: &mut [u8], mail: &mut [u8])
         -> Answer;
     fn report(&self, session: u64, table: &[u8]) -> Cycle;
+    fn drain(&self, limit: u64, table: &mut [u8], mail: &mut [u8]) -> Drained;
 }
 
-/// Calls made of three functions.
+/// Calls made of four functions.
 macro_rules! calls {
     ($name:ident, $module:path) => {
         impl Calls for $name {
@@ -25,6 +26,10 @@ macro_rules! calls {
             fn report(&self, session: u64, table: &[u8]) -> Cycle {
                 use $module as answers;
                 answers::report(session, table)
+            }
+            fn drain(&self, limit: u64, table: &mut [u8], mail: &mut [u8]) -> Drained {
+                use $module as answers;
+                answers::drain(limit, table, mail)
             }
         }
     };
@@ -54,5 +59,8 @@ impl Calls for Misread {
     }
     fn report(&self, session: u64, table: &[u8]) -> Cycle {
         model::report(session, table)
+    }
+    fn drain(&self, limit: u64, table: &mut [u8], mail: &mut [u8]) -> Drained {
+        model::drain_as(self.0, limit, table, mail)
     }
 }

@@ -2,16 +2,16 @@
 //! settled by its seed; the walks over all bytes are the same each time.
 
 use crate::comparison::{held, Buffers, Comparison};
-use crate::forge::{self, well_formed, Filling, BREAKS};
+use crate::forge::{self, circling, well_formed, Beside, Filling, BREAKS};
 use crate::numbers::{
     kind, DELIVER_TO_ITEM, DELIVER_TO_SESSION, GROWING, RELEASE, REQUEST, SHRINKING, TO_ITEM,
 };
+use model::demand3::Demand3;
 use model::layout::{
-    DIRECTION, ITEM_SIZE, JUNIORS, KIND, MAX_SESSIONS, ROUTE_ITEM, ROUTE_SESSION, SESSION_SIZE,
-    STAGE, TABLE_ITEMS, TABLE_SESSIONS,
+    ITEM_SIZE, JUNIORS, KIND, MAX_SESSIONS, SESSION_SIZE, STAGE, TABLE_ITEMS, TABLE_SESSIONS,
 };
 use model::scenario::Random;
-use model::{Config, ACCEPTED};
+use model::{Answer, Config, Drained, Ending, Misreading, ACCEPTED};
 
 type Outcome = Result<(), String>;
 type Case = fn(&mut Comparison, &mut Random) -> Outcome;
@@ -31,6 +31,13 @@ const ROUND: &[(&str, u64, u64, Case)] = &[
     ("forged", 150, 1, forged),
     ("forged, largest", 1, 2, forged_largest),
     ("full mail", 60, 1, full_mail),
+    ("drain", 1, 1, drain_every_fill),
+    ("drain, more room", 1, 20, drain_every_fill_wide),
+    ("drain, largest", 1, 15, drain_largest),
+    ("clean that circles", 6, 1, circles),
+    ("clean that circles, more room", 2, 1, circles_wide),
+    ("clean that circles, largest", 1, 15, circles_largest),
+    ("clean that circles, long", 1, 100, circles_long),
     ("many messages at once", 1, 5, many_sends),
     ("broken form", 2, 1, broken),
     ("broken form, largest", 1, 20, broken_largest),
@@ -65,6 +72,76 @@ fn fresh(comparison: &mut Comparison, config: Config) -> Result<Buffers, String>
     }
 }
 
+/// A lock manager from its start, with the check of demand 3 on all its calls.
+struct Started {
+    buffers: Buffers,
+    demand3: Demand3,
+}
+
+impl Started {
+    fn new(comparison: &mut Comparison, config: Config) -> Result<Started, String> {
+        Ok(Started {
+            buffers: fresh(comparison, config)?,
+            demand3: Demand3::default(),
+        })
+    }
+
+    fn step(
+        &mut self,
+        comparison: &mut Comparison,
+        (verb, session, item): (u64, u64, u64),
+    ) -> Result<Answer, String> {
+        let before = self.buffers.clone();
+        let after = &mut self.buffers;
+        let answer = comparison.step(verb, session, item, after)?;
+        self.demand3.after_step(
+            answer,
+            (&before.table, &before.mail),
+            (&after.table, &after.mail),
+        )?;
+        Ok(answer)
+    }
+
+    fn drain(&mut self, comparison: &mut Comparison, limit: u64) -> Result<Drained, String> {
+        let before = self.buffers.clone();
+        let after = &mut self.buffers;
+        let drained = comparison.drain(limit, after)?;
+        self.demand3.after_drain(
+            Misreading::None,
+            limit,
+            drained,
+            (&before.table, &before.mail),
+            (&after.table, &after.mail),
+        )?;
+        if drained.ending == Ending::Empty as u8 {
+            comparison.coverage.settled();
+        }
+        Ok(drained)
+    }
+}
+
+/// A limit for a drain of any buffers, where deliveries may go on for ever.
+fn limit(random: &mut Random) -> u64 {
+    match random.between(1, 9) {
+        1 => 0,
+        2 => 1,
+        3 => 2,
+        4..=7 => random.between(3, 40),
+        _ => random.between(41, 400),
+    }
+}
+
+/// A limit for a drain of a lock manager from its start.
+fn any_limit(random: &mut Random) -> u64 {
+    match random.between(1, 6) {
+        1 => u64::MAX,
+        2 => u64::MAX - random.between(1, 2),
+        // None but a few if the upper bits were lost.
+        3 => (1 << random.between(8, 63)) + random.between(0, 2),
+        _ => limit(random),
+    }
+}
+
 /// Any well-formed buffers, mostly small.
 fn forged_buffers(random: &mut Random) -> (Config, Buffers) {
     let config = forge::config(random);
@@ -88,14 +165,11 @@ struct Waiting {
 }
 
 fn message(buffers: &Buffers, place: u64) -> Waiting {
-    let route = buffers.route(place as usize);
+    let (verb, session, item) = buffers.delivery(place as usize);
     Waiting {
-        verb: match route[DIRECTION] {
-            TO_ITEM => DELIVER_TO_ITEM,
-            _ => DELIVER_TO_SESSION,
-        },
-        session: route[ROUTE_SESSION].into(),
-        item: route[ROUTE_ITEM].into(),
+        verb,
+        session,
+        item,
         kind: buffers.body(place as usize)[KIND],
     }
 }
@@ -166,28 +240,24 @@ fn odd_number(random: &mut Random, right: u64, max: u64) -> u64 {
     }
 }
 
-/// Any step, most of it refused.
-fn any_step(
-    comparison: &mut Comparison,
-    random: &mut Random,
-    config: Config,
-    buffers: &mut Buffers,
-) -> Outcome {
+/// Any verb, session and item: most such steps are refused.
+fn any_step(random: &mut Random, config: Config) -> (u64, u64, u64) {
     let verb = match random.between(0, 6) {
         6 => odd_number(random, REQUEST, LAST_VERB),
         verb => verb,
     };
     let session = random.between(0, config.sessions + 1);
     let item = random.between(0, config.items + 1);
-    comparison.step(verb, session, item, buffers)?;
-    Ok(())
+    (verb, session, item)
 }
 
-/// A run of steps from start, by bursts, with all mail delivered now and then.
+/// A run of steps and drains from start, by bursts, with all mail delivered now
+/// and then.
 fn run(comparison: &mut Comparison, random: &mut Random, config: Config, steps: u64) -> Outcome {
-    let mut buffers = fresh(comparison, config)?;
+    let mut started = Started::new(comparison, config)?;
     let deliver_in_ten = random.between(2, 9);
     let release_one_in = random.between(3, 40);
+    let drain_one_in = random.between(10, 100);
     let mut schedule = Schedule::draw(random, config);
     let mut draining = false;
     for _ in 0..steps {
@@ -196,14 +266,16 @@ fn run(comparison: &mut Comparison, random: &mut Random, config: Config, steps: 
             draining = random.one_in(3);
         }
         if random.one_in(40) {
-            any_step(comparison, random, config, &mut buffers)?;
+            started.step(comparison, any_step(random, config))?;
         } else if random.one_in(10) {
-            comparison.report(config.any_session(random), &buffers)?;
+            comparison.report(config.any_session(random), &started.buffers)?;
+        } else if random.one_in(drain_one_in) {
+            started.drain(comparison, any_limit(random))?;
         } else if draining || random.between(1, 10) <= deliver_in_ten {
-            match schedule.choose(random, &buffers) {
+            match schedule.choose(random, &started.buffers) {
                 None => draining = false,
                 Some(m) => {
-                    comparison.step(m.verb, m.session, m.item, &mut buffers)?;
+                    started.step(comparison, (m.verb, m.session, m.item))?;
                 }
             }
         } else {
@@ -212,10 +284,11 @@ fn run(comparison: &mut Comparison, random: &mut Random, config: Config, steps: 
             } else {
                 REQUEST
             };
-            let (session, item) = own_step(random, config, &buffers, verb);
-            comparison.step(verb, session, item, &mut buffers)?;
+            let (session, item) = own_step(random, config, &started.buffers, verb);
+            started.step(comparison, (verb, session, item))?;
         }
     }
+    started.drain(comparison, u64::MAX)?;
     Ok(())
 }
 
@@ -273,9 +346,9 @@ fn long_cycle(comparison: &mut Comparison, random: &mut Random) -> Outcome {
         random.between(3, LARGEST.sessions - 1)
     };
     let config = Config::new(sessions, sessions, LARGEST.capacity);
-    let mut buffers = fresh(comparison, config)?;
+    let mut started = Started::new(comparison, config)?;
     let mut accepted = |comparison: &mut Comparison, verb, session, item| {
-        let answer = comparison.step(verb, session, item, &mut buffers)?;
+        let answer = started.step(comparison, (verb, session, item))?;
         match answer.refusal {
             ACCEPTED => Ok(answer),
             refusal => Err(format!(
@@ -300,7 +373,7 @@ fn long_cycle(comparison: &mut Comparison, random: &mut Random) -> Outcome {
         }
     }
     let length = comparison
-        .report(config.any_session(random), &buffers)?
+        .report(config.any_session(random), &started.buffers)?
         .length;
     if u64::from(length) != sessions {
         return Err(format!(
@@ -309,15 +382,21 @@ fn long_cycle(comparison: &mut Comparison, random: &mut Random) -> Outcome {
     }
     // Some of the mail that the cycle brings.
     for _ in 0..200 {
-        let Some(m) = Schedule::Any.choose(random, &buffers) else {
+        let Some(m) = Schedule::Any.choose(random, &started.buffers) else {
             break;
         };
-        comparison.step(m.verb, m.session, m.item, &mut buffers)?;
+        started.step(comparison, (m.verb, m.session, m.item))?;
     }
+    let limit = if random.one_in(3) {
+        u64::MAX
+    } else {
+        random.between(0, 1000)
+    };
+    started.drain(comparison, limit)?;
     Ok(())
 }
 
-/// A few steps and a report on well-formed buffers.
+/// A few steps, a report and drains on well-formed buffers.
 fn some_steps(
     comparison: &mut Comparison,
     random: &mut Random,
@@ -326,8 +405,11 @@ fn some_steps(
     steps: u64,
 ) -> Outcome {
     for _ in 0..steps {
-        match random.between(1, 10) {
-            1 => any_step(comparison, random, config, buffers)?,
+        match random.between(1, 11) {
+            1 => {
+                let (verb, session, item) = any_step(random, config);
+                comparison.step(verb, session, item, buffers)?;
+            }
             2 | 3 => {
                 let verb = if random.one_in(3) { RELEASE } else { REQUEST };
                 let (session, item) = own_step(random, config, buffers, verb);
@@ -338,6 +420,9 @@ fn some_steps(
                 let (session, item) = (config.any_session(random), config.any_item(random));
                 comparison.step(verb, session, item, buffers)?;
             }
+            5 => {
+                comparison.drain(limit(random), buffers)?;
+            }
             _ => {
                 if let Some(m) = Schedule::Any.choose(random, buffers) {
                     comparison.step(m.verb, m.session, m.item, buffers)?;
@@ -346,6 +431,7 @@ fn some_steps(
         }
     }
     comparison.report(config.any_session(random), buffers)?;
+    comparison.drain(limit(random), buffers)?;
     Ok(())
 }
 
@@ -380,9 +466,105 @@ fn full_mail(comparison: &mut Comparison, random: &mut Random) -> Outcome {
     some_steps(comparison, random, config, &mut buffers, steps)
 }
 
+/// A drain of any buffers at each count of messages from none to all.
+fn every_fill(comparison: &mut Comparison, random: &mut Random, config: Config) -> Outcome {
+    for count in 0..=config.capacity {
+        let mut buffers = well_formed(random, config, count);
+        comparison.drain(limit(random), &mut buffers)?;
+    }
+    Ok(())
+}
+
+fn drain_every_fill(comparison: &mut Comparison, random: &mut Random) -> Outcome {
+    let config = forge::config(random);
+    every_fill(comparison, random, config)
+}
+
+/// Small numbers and a wide mail.
+fn wide_config(random: &mut Random) -> Config {
+    Config {
+        capacity: random.between(65, 200),
+        ..forge::config(random)
+    }
+}
+
+fn drain_every_fill_wide(comparison: &mut Comparison, random: &mut Random) -> Outcome {
+    let config = wide_config(random);
+    every_fill(comparison, random, config)
+}
+
+/// A count of messages for the largest mail, often nearly full.
+fn largest_count(random: &mut Random) -> u64 {
+    let room = match random.between(1, 4) {
+        1 => 0,
+        2 => random.between(1, 30),
+        3 => random.between(31, 150),
+        _ => random.between(151, LARGEST.capacity),
+    };
+    LARGEST.capacity - room
+}
+
+fn drain_largest(comparison: &mut Comparison, random: &mut Random) -> Outcome {
+    let count = largest_count(random);
+    let mut buffers = well_formed(random, LARGEST, count);
+    comparison.drain(limit(random), &mut buffers)?;
+    Ok(())
+}
+
+/// Drains, one after the other, of mail in which cleans circle.
+fn circle(
+    comparison: &mut Comparison,
+    random: &mut Random,
+    config: Config,
+    count: u64,
+    most: u64,
+) -> Outcome {
+    let beside = match random.between(1, 4) {
+        1 => Beside::Anything,
+        2 => Beside::Dropped,
+        _ => Beside::Nothing,
+    };
+    let mut buffers = circling(random, config, count, beside);
+    for _ in 0..2 {
+        let limit = random.between(0, most);
+        let drained = comparison.drain(limit, &mut buffers)?;
+        let circles = drained.made == limit && drained.ending == Ending::Limit as u8;
+        if beside == Beside::Nothing && count > 0 && !circles {
+            return Err(format!("no clean circles: {drained:?}"));
+        }
+    }
+    Ok(())
+}
+
+fn circles(comparison: &mut Comparison, random: &mut Random) -> Outcome {
+    let config = forge::config(random);
+    let count = random.between(0, config.capacity);
+    circle(comparison, random, config, count, 5 * config.capacity)
+}
+
+fn circles_wide(comparison: &mut Comparison, random: &mut Random) -> Outcome {
+    let config = wide_config(random);
+    let count = random.between(0, config.capacity);
+    circle(comparison, random, config, count, 5 * config.capacity)
+}
+
+fn circles_largest(comparison: &mut Comparison, random: &mut Random) -> Outcome {
+    let count = largest_count(random);
+    circle(comparison, random, LARGEST, count, 300)
+}
+
+/// More deliveries than two bytes can count.
+fn circles_long(comparison: &mut Comparison, random: &mut Random) -> Outcome {
+    let config = forge::config(random);
+    let count = random.between(1, config.capacity);
+    let mut buffers = circling(random, config, count, Beside::Nothing);
+    comparison.drain(70_000, &mut buffers)?;
+    Ok(())
+}
+
 /// The steps that send most: a request with all 64 probes; a clean, a release
 /// or a rebroadcast at an item where everyone waits, into mail with more or less
-/// room. And a release that finds a queue of 64 and no holder.
+/// room. And a release that finds a queue of 64 and no holder. In a drain too.
 fn many_sends(comparison: &mut Comparison, random: &mut Random) -> Outcome {
     let config = Config {
         capacity: random.between(100, 400),
@@ -421,7 +603,8 @@ fn many_sends(comparison: &mut Comparison, random: &mut Random) -> Outcome {
 }
 
 /// The last message of these buffers, made one of this kind and sender, comes
-/// to an item for which all but its holder wait, in any order.
+/// to an item for which all but its holder wait, in any order; in a drain the
+/// oldest.
 fn everyone_waits(
     comparison: &mut Comparison,
     random: &mut Random,
@@ -436,8 +619,12 @@ fn everyone_waits(
     let record = buffers.item_mut(item as usize);
     forge::set_item(random, LARGEST, record, holder, waiting);
     let ab = u8::from(kind == kind::CLEAN);
+    let (route, body) = ([TO_ITEM, from, item as u8], [kind, ab, ab]);
+    let mut first = buffers.clone();
+    first.set_message(0, route, body);
+    comparison.drain(limit(random), &mut first)?;
     let place = buffers.count() - 1;
-    buffers.set_message(place, [TO_ITEM, from, item as u8], [kind, ab, ab]);
+    buffers.set_message(place, route, body);
     comparison.step(DELIVER_TO_ITEM, from.into(), item, &mut buffers)?;
     Ok(())
 }
@@ -465,8 +652,12 @@ fn broken_forms(
         }
         let (verb, session, item) = any_call(random, config);
         let refusal = comparison.step(verb, session, item, &mut buffers)?.refusal;
-        if refusal != way.refusal as u8 {
-            return Err(format!("{} is refused with {refusal}", way.name));
+        let drained = comparison.drain(limit(random), &mut buffers)?.refusal;
+        if [refusal, drained] != [way.refusal as u8; 2] {
+            return Err(format!(
+                "{} is refused with {refusal} and {drained}",
+                way.name
+            ));
         }
         comparison.coverage.broken(way.name);
         comparison.report(session, &buffers)?;
@@ -474,8 +665,8 @@ fn broken_forms(
     Ok(())
 }
 
-/// One to three changes anywhere, then a step and a report, sometimes with
-/// numbers out of bounds too, so that causes meet each other.
+/// One to three changes anywhere, then a step, a report and a drain, sometimes
+/// with numbers out of bounds too, so that causes meet each other.
 fn damaged(comparison: &mut Comparison, random: &mut Random) -> Outcome {
     let (config, mut buffers) = forged_buffers(random);
     let changes = if random.one_in(3) {
@@ -498,6 +689,7 @@ fn damaged(comparison: &mut Comparison, random: &mut Random) -> Outcome {
     }
     comparison.step(verb, session, item, &mut buffers)?;
     comparison.report(session, &buffers)?;
+    comparison.drain(limit(random), &mut buffers)?;
     Ok(())
 }
 
@@ -567,6 +759,7 @@ fn other_bounds(comparison: &mut Comparison, random: &mut Random) -> Outcome {
     let (_, session, item) = any_call(random, config);
     comparison.step(REQUEST, session, item, &mut buffers)?;
     comparison.report(session, &buffers)?;
+    comparison.drain(limit(random), &mut buffers)?;
     Ok(())
 }
 
@@ -624,12 +817,13 @@ fn starts(comparison: &mut Comparison, random: &mut Random) -> Outcome {
         buffers.set_numbers(config);
         comparison.step(REQUEST, 1, 1, &mut buffers)?;
         comparison.report(1, &buffers)?;
+        comparison.drain(limit(random), &mut buffers)?;
     }
     Ok(())
 }
 
-/// Every byte of small buffers in turn with every value: a step and, for the
-/// table, a report.
+/// Every byte of small buffers in turn with every value: a step, a drain and,
+/// for the table, a report.
 pub fn every_value(comparison: &mut Comparison) -> Outcome {
     let mut random = Random::new(0);
     let config = Config::new(2, 2, 2);
@@ -668,8 +862,8 @@ pub fn every_place(comparison: &mut Comparison) -> Outcome {
     Ok(())
 }
 
-/// A step and, for a byte of the table, a report, with one byte set, counted
-/// through the table and then the mail.
+/// A step, a drain and, for a byte of the table, a report, with one byte set,
+/// counted through the table and then the mail.
 fn one_change(
     comparison: &mut Comparison,
     random: &mut Random,
@@ -688,5 +882,6 @@ fn one_change(
         comparison.report(session, &changed)?;
     }
     comparison.step(verb, session, item, &mut changed)?;
+    comparison.drain(random.between(0, 1), &mut changed)?;
     Ok(())
 }

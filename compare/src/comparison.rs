@@ -3,12 +3,13 @@
 
 use crate::calls::Calls;
 use crate::coverage::Coverage;
+use crate::numbers::{DELIVER_TO_ITEM, DELIVER_TO_SESSION, TO_ITEM};
 use model::layout::{
-    body_at, item_at, read_u16, route_at, session_at, write_u16, BODY_SIZE, HELD, MAIL_CAPACITY,
-    MAIL_COUNT, MAIL_HEADER, QUEUE, QUEUE_LENGTH, ROUTE_SIZE, TABLE_HEADER, TABLE_ITEMS,
-    TABLE_SESSIONS,
+    body_at, item_at, read_u16, route_at, session_at, write_u16, BODY_SIZE, DIRECTION, HELD,
+    MAIL_CAPACITY, MAIL_COUNT, MAIL_HEADER, QUEUE, QUEUE_LENGTH, ROUTE_ITEM, ROUTE_SESSION,
+    ROUTE_SIZE, TABLE_HEADER, TABLE_ITEMS, TABLE_SESSIONS,
 };
-use model::{Answer, Config, Cycle};
+use model::{Answer, Config, Cycle, Drained};
 
 /// The two buffers of a lock manager.
 #[derive(Clone, PartialEq, Eq, Debug, Default)]
@@ -68,6 +69,16 @@ impl Buffers {
 
     pub fn route(&self, place: usize) -> &[u8] {
         &self.mail[route_at(place)]
+    }
+
+    /// The step that delivers a message of well-formed mail: verb, session, item.
+    pub fn delivery(&self, place: usize) -> (u64, u64, u64) {
+        let route = self.route(place);
+        let verb = match route[DIRECTION] {
+            TO_ITEM => DELIVER_TO_ITEM,
+            _ => DELIVER_TO_SESSION,
+        };
+        (verb, route[ROUTE_SESSION].into(), route[ROUTE_ITEM].into())
     }
 
     pub fn body(&self, place: usize) -> &[u8] {
@@ -237,6 +248,25 @@ impl Comparison {
             return Err(format!("report {session} {}: {text}", sizes(buffers)));
         }
         self.coverage.report(session, buffers, expected);
+        Ok(expected)
+    }
+
+    pub fn drain(&mut self, limit: u64, buffers: &mut Buffers) -> Result<Drained, String> {
+        self.load(buffers);
+        let (table, mail) = (self.table.lent(), self.mail.lent());
+        let found = self.subject.drain(limit, table, mail);
+        let after = &mut self.after;
+        let expected = model::drain(limit, &mut after.table, &mut after.mail);
+        let call = format!("drain {limit}");
+        if found != expected {
+            let sizes = sizes(buffers);
+            return Err(format!(
+                "{call} {sizes}: answers {found:?}, not {expected:?}"
+            ));
+        }
+        self.same_bytes(&call, buffers)?;
+        self.coverage.drain(limit, buffers, expected);
+        std::mem::swap(buffers, &mut self.after);
         Ok(expected)
     }
 }

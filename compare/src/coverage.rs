@@ -1,6 +1,7 @@
-//! What the compared calls have met: refusals, pairs of kind and stage, the
-//! branches of every rule, ways to break the form, sizes and numbers. A place
-//! that was never met makes the comparison worthless, so it fails then.
+//! What the compared calls have met: refusals, endings of drains, pairs of kind
+//! and stage, the branches of every rule, ways to break the form, sizes and
+//! numbers. A place that was never met makes the comparison worthless, so it
+//! fails then.
 
 use crate::comparison::{held, queue, Buffers};
 use crate::numbers::{
@@ -10,26 +11,31 @@ use crate::numbers::{
 use model::layout::{
     AWAITED, BODY_A, BODY_B, HOLDER, JUNIORS, KIND, MAX_SESSIONS, STAGE, TABLE_HEADER,
 };
-use model::{Answer, Config, Cycle, Refusal, ACCEPTED};
+use model::{Answer, Config, Cycle, Drained, Ending, Refusal, ACCEPTED};
 use std::collections::BTreeMap;
 use std::fmt::{self, Display, Formatter};
 
-/// Refusals of each call that must be met this often.
-pub const REFUSALS_AT_LEAST: u64 = 1_000;
+/// Refusals of each call and endings of drains must be met this often.
+pub const AT_LEAST: u64 = 1_000;
 
 /// The calls and the refusals that each can give.
-const CALLS: [(&str, &[Refusal]); 3] = [
+const CALLS: [(&str, &[Refusal]); 4] = [
     ("start", &[Refusal::BadSize]),
     ("step", &Refusal::ALL),
     (
         "report",
         &[Refusal::BadSize, Refusal::BadTable, Refusal::BadNumber],
     ),
+    (
+        "drain",
+        &[Refusal::BadSize, Refusal::BadTable, Refusal::BadMail],
+    ),
 ];
 
 const START: usize = 0;
 const STEP: usize = 1;
 const REPORT: usize = 2;
+const DRAIN: usize = 3;
 
 /// Refusals and, first, an accepted call.
 const ANSWERS: usize = Refusal::ALL.len() + 1;
@@ -140,6 +146,38 @@ const SITUATIONS: &[&str] = &[
     "report: cycle of 64",
 ];
 
+/// Drains that are accepted. "More deliveries than C" uses every place of the
+/// mail again.
+const DRAINS: &[&str] = &[
+    "limit 0",
+    "limit 1",
+    "limit 2",
+    "limit 3 to 2^32 - 1",
+    "limit 2^32 to 2^64 - 2",
+    "limit 2^64 - 1",
+    "empty mail at limit 0",
+    "empty mail at another limit",
+    "next refused with 9 at limit 0",
+    "next refused with 9 at another limit",
+    "capacity 1, empty mail after deliveries",
+    "capacity 1, next refused with 9",
+    "capacity 1, limit",
+    "capacity 2, empty mail after deliveries",
+    "capacity 2, next refused with 9",
+    "capacity 2, limit",
+    "capacity 3 to 64, more deliveries than C",
+    "capacity 65 to 200, more deliveries than C",
+    "full mail, more deliveries than C",
+    "256 deliveries or more",
+    "65536 deliveries or more",
+    "64 sessions, 64 items, capacity 4096, empty mail",
+    "64 sessions, 64 items, capacity 4096, next refused with 9",
+    "64 sessions, 64 items, capacity 4096, limit",
+    "64 sessions, 64 items, capacity 4096, 3900 messages or more",
+    "64 sessions, 64 items, capacity 4096, mail full",
+    "empty mail on a list from start, demand 3 checked",
+];
+
 /// Named counts, in the order of their list.
 struct Group {
     title: &'static str,
@@ -164,10 +202,12 @@ impl Group {
 
 pub struct Coverage {
     refusals: [[u64; ANSWERS]; CALLS.len()],
+    endings: [u64; Ending::ALL.len()],
     pairs: [[u64; STAGES.len()]; KINDS.len()],
     items: Group,
     sessions: Group,
     situations: Group,
+    drains: Group,
     breaks: Group,
 }
 
@@ -176,6 +216,7 @@ impl Coverage {
         let breaks: Vec<_> = crate::forge::BREAKS.iter().map(|b| b.name).collect();
         Coverage {
             refusals: Default::default(),
+            endings: Default::default(),
             pairs: Default::default(),
             items: Group::new("Rules of an item, by what it receives", ITEM_RULES),
             sessions: Group::new(
@@ -183,6 +224,7 @@ impl Coverage {
                 SESSION_RULES,
             ),
             situations: Group::new("Sizes, numbers and cycles", SITUATIONS),
+            drains: Group::new("Drains", DRAINS),
             breaks: Group::new("Ways to break the form", &breaks),
         }
     }
@@ -194,6 +236,12 @@ impl Coverage {
     /// A form broken in one way was refused as it must be.
     pub fn broken(&mut self, name: &'static str) {
         self.breaks.hit(name);
+    }
+
+    /// Demand 3 was checked after a drain that emptied the mail.
+    pub fn settled(&mut self) {
+        self.drains
+            .hit("empty mail on a list from start, demand 3 checked");
     }
 
     fn count(&mut self, call: usize, refusal: u8, numbers: &[u64], buffers: &Buffers) {
@@ -230,6 +278,73 @@ impl Coverage {
         }
     }
 
+    pub(crate) fn drain(&mut self, limit: u64, before: &Buffers, drained: Drained) {
+        self.count(DRAIN, drained.refusal, &[], before);
+        let Some(&ending) = Ending::ALL.iter().find(|&&e| e as u8 == drained.ending) else {
+            return;
+        };
+        self.endings[ending as usize - 1] += 1;
+        let made = drained.made;
+        let (capacity, count) = (before.capacity(), before.count());
+        let drains = &mut self.drains;
+        drains.hit(match limit {
+            0 => "limit 0",
+            1 => "limit 1",
+            2 => "limit 2",
+            u64::MAX => "limit 2^64 - 1",
+            _ if limit < 1 << 32 => "limit 3 to 2^32 - 1",
+            _ => "limit 2^32 to 2^64 - 2",
+        });
+        match (ending, limit) {
+            (Ending::Empty, 0) => drains.hit("empty mail at limit 0"),
+            (Ending::Empty, _) if made == limit => drains.hit("empty mail at another limit"),
+            (Ending::Full, 0) => drains.hit("next refused with 9 at limit 0"),
+            (Ending::Full, _) if made == limit => {
+                drains.hit("next refused with 9 at another limit")
+            }
+            _ => {}
+        }
+        match (capacity, ending) {
+            (1 | 2, Ending::Empty) if made == 0 => {}
+            (1, Ending::Empty) => drains.hit("capacity 1, empty mail after deliveries"),
+            (1, Ending::Full) => drains.hit("capacity 1, next refused with 9"),
+            (1, Ending::Limit) => drains.hit("capacity 1, limit"),
+            (2, Ending::Empty) => drains.hit("capacity 2, empty mail after deliveries"),
+            (2, Ending::Full) => drains.hit("capacity 2, next refused with 9"),
+            (2, Ending::Limit) => drains.hit("capacity 2, limit"),
+            _ => {}
+        }
+        if made > capacity as u64 {
+            match capacity {
+                3..=64 => drains.hit("capacity 3 to 64, more deliveries than C"),
+                65..=200 => drains.hit("capacity 65 to 200, more deliveries than C"),
+                _ => {}
+            }
+            if count == capacity {
+                drains.hit("full mail, more deliveries than C");
+            }
+        }
+        if made >= 1 << 8 {
+            drains.hit("256 deliveries or more");
+        }
+        if made >= 1 << 16 {
+            drains.hit("65536 deliveries or more");
+        }
+        if is_largest(before) {
+            drains.hit(match ending {
+                Ending::Empty => "64 sessions, 64 items, capacity 4096, empty mail",
+                Ending::Full => "64 sessions, 64 items, capacity 4096, next refused with 9",
+                Ending::Limit => "64 sessions, 64 items, capacity 4096, limit",
+            });
+            if count >= 3900 {
+                drains.hit("64 sessions, 64 items, capacity 4096, 3900 messages or more");
+            }
+            if count == capacity {
+                drains.hit("64 sessions, 64 items, capacity 4096, mail full");
+            }
+        }
+    }
+
     pub(crate) fn step(&mut self, numbers: [u64; 3], before: &Buffers, answer: Answer) {
         self.count(STEP, answer.refusal, &numbers, before);
         if before.mail.is_empty() {
@@ -258,9 +373,7 @@ impl Coverage {
     fn sizes(&mut self, before: &Buffers, verb: u64, answer: Answer) {
         let (capacity, count) = (before.capacity(), before.count());
         let situations = &mut self.situations;
-        let largest = before.table.len() == Config::LARGEST.table_length()
-            && before.mail.len() == Config::LARGEST.mail_length();
-        if largest {
+        if is_largest(before) {
             situations.hit("64 sessions, 64 items, capacity 4096");
             if count == capacity {
                 situations.hit("64 sessions, 64 items, capacity 4096, mail full");
@@ -443,12 +556,17 @@ impl Coverage {
         let mut missing = Vec::new();
         for (row, (call, refusals)) in CALLS.iter().enumerate() {
             for (refusal, &count) in self.refusals[row].iter().enumerate().skip(1) {
-                if gives(refusals, refusal) && count < REFUSALS_AT_LEAST {
+                if gives(refusals, refusal) && count < AT_LEAST {
                     missing.push(format!("{call} refused with {refusal}: {count} times"));
                 }
                 if !gives(refusals, refusal) && count > 0 {
                     missing.push(format!("{call} is never refused with {refusal}, but was"));
                 }
+            }
+        }
+        for (ending, &count) in Ending::ALL.iter().zip(&self.endings) {
+            if count < AT_LEAST {
+                missing.push(format!("drains that end with {ending:?}: {count} times"));
             }
         }
         for (row, (_, kind)) in KINDS.iter().enumerate() {
@@ -468,9 +586,21 @@ impl Coverage {
         missing
     }
 
-    fn groups(&self) -> [&Group; 4] {
-        [&self.items, &self.sessions, &self.breaks, &self.situations]
+    fn groups(&self) -> [&Group; 5] {
+        [
+            &self.items,
+            &self.sessions,
+            &self.breaks,
+            &self.situations,
+            &self.drains,
+        ]
     }
+}
+
+/// Buffers of accepted calls, with S, M and C as large as can be.
+fn is_largest(buffers: &Buffers) -> bool {
+    buffers.table.len() == Config::LARGEST.table_length()
+        && buffers.mail.len() == Config::LARGEST.mail_length()
 }
 
 impl Default for Coverage {
@@ -500,6 +630,16 @@ impl Display for Coverage {
                 }
             }
             writeln!(out)?;
+        }
+
+        writeln!(out, "\nDrains by ending")?;
+        for (ending, count) in Ending::ALL.iter().zip(self.endings) {
+            writeln!(
+                out,
+                "  {} {:8}{count:>9}",
+                *ending as u8,
+                format!("{ending:?}")
+            )?;
         }
 
         writeln!(out, "\nMessages delivered to a session, by its stage")?;

@@ -1,4 +1,4 @@
-//! The three calls written for speed, as a measure for the library: the form
+//! The four calls written for speed, as a measure for the library: the form
 //! is checked by loops without early exit that the compiler can vectorise, and
 //! the buffers are changed in place. Tested equal to the model.
 
@@ -11,7 +11,8 @@ use model::layout::{
     MAIL_CAPACITY, MAIL_COUNT, MAIL_HEADER, MAX_CAPACITY, MAX_ITEMS, MAX_SESSIONS, QUEUE,
     QUEUE_LENGTH, ROUTE_SIZE, SESSION_SIZE, STAGE, TABLE_HEADER, TABLE_ITEMS, TABLE_SESSIONS,
 };
-use model::{Answer, Config, Cycle, Refusal, Verb, ACCEPTED};
+use model::mailbox::count;
+use model::{Answer, Config, Cycle, Drained, Ending, Refusal, Verb, ACCEPTED};
 
 type SessionBytes = [u8; SESSION_SIZE];
 type ItemBytes = [u8; ITEM_SIZE];
@@ -164,7 +165,7 @@ fn wrong_byte(route: u8, body: u8, kind: u8, place: [u8; 3], most: u8, sessions:
 }
 
 fn mail_well_formed(mail: &[u8], capacity: usize, size: Size) -> bool {
-    let count = usize::from(read_u16(&mail[MAIL_COUNT]));
+    let count = count(mail);
     if count > capacity {
         return false;
     }
@@ -379,18 +380,11 @@ fn try_step(
     mail: &mut [u8],
 ) -> Result<Answer, Refusal> {
     let verb = Verb::decode(verb).ok_or(Refusal::BadVerb)?;
-    let size = size(table).ok_or(Refusal::BadSize)?;
-    let capacity = capacity(mail).ok_or(Refusal::BadSize)?;
-    if !table_well_formed(table, size) {
-        return Err(Refusal::BadTable);
-    }
-    if !mail_well_formed(mail, capacity, size) {
-        return Err(Refusal::BadMail);
-    }
+    let (size, capacity) = judge(table, mail)?;
     let session = within(session, size.sessions).ok_or(Refusal::BadNumber)?;
     let item = within(item, size.items).ok_or(Refusal::BadNumber)?;
     let (t, x) = (session as u8, item as u8);
-    let count = usize::from(read_u16(&mail[MAIL_COUNT]));
+    let count = count(mail);
 
     let mut sends = Sends::new();
     let mut answer = Answer::default();
@@ -426,38 +420,130 @@ fn try_step(
                 return Err(Refusal::MailFull);
             }
             table[session_at(session)].copy_from_slice(&record);
-            append(mail, capacity, count, TO_ITEM, t, x, &sends);
+            append(mail, capacity, count, [TO_ITEM, t, x], &sends);
+            write_u16(&mut mail[MAIL_COUNT], count + sends.count);
         }
-        Verb::DeliverToItem => {
-            let place = find(mail, count, [TO_ITEM, t, x]).ok_or(Refusal::NoMessage)?;
+        Verb::DeliverToItem | Verb::DeliverToSession => {
+            let route = match verb {
+                Verb::DeliverToItem => [TO_ITEM, t, x],
+                _ => [TO_SESSION, t, x],
+            };
+            let place = find(mail, count, route).ok_or(Refusal::NoMessage)?;
             let body = body(mail, capacity, place);
-            let mut record = *item_record(table, size, item);
-            let joined = at_item(&mut record, t, body, &mut sends, &mut answer);
+            let (record, joined) = receive(table, size, route, body, &mut sends, &mut answer);
             if count - 1 + sends.count > capacity {
                 return Err(Refusal::MailFull);
             }
-            table[item_at(size.sessions, item)].copy_from_slice(&record);
+            record.write(table, size, route);
             if joined && cycle_length(table, size, t) != 0 {
                 answer.closed = 1;
             }
-            remove(mail, capacity, count, place);
-            append(mail, capacity, count - 1, TO_SESSION, t, x, &sends);
-        }
-        Verb::DeliverToSession => {
-            let place = find(mail, count, [TO_SESSION, t, x]).ok_or(Refusal::NoMessage)?;
-            let body = body(mail, capacity, place);
-            let mut record = *session_record(table, session);
-            at_session(&mut record, t, x, body, &mut sends);
-            if count - 1 + sends.count > capacity {
-                return Err(Refusal::MailFull);
-            }
-            table[session_at(session)].copy_from_slice(&record);
-            remove(mail, capacity, count, place);
-            append(mail, capacity, count - 1, TO_ITEM, t, x, &sends);
+            remove(mail, capacity, count, place, 1);
+            append(mail, capacity, count - 1, answering(route), &sends);
+            write_u16(&mut mail[MAIL_COUNT], count - 1 + sends.count);
         }
     }
     answer.sent = sends.count as u8;
     Ok(answer)
+}
+
+/// The causes that lie in the buffers; the numbers that these carry.
+fn judge(table: &[u8], mail: &[u8]) -> Result<(Size, usize), Refusal> {
+    let size = size(table).ok_or(Refusal::BadSize)?;
+    let capacity = capacity(mail).ok_or(Refusal::BadSize)?;
+    if !table_well_formed(table, size) {
+        return Err(Refusal::BadTable);
+    }
+    if !mail_well_formed(mail, capacity, size) {
+        return Err(Refusal::BadMail);
+    }
+    Ok((size, capacity))
+}
+
+pub fn drain(limit: u64, table: &mut [u8], mail: &mut [u8]) -> Drained {
+    try_drain(limit, table, mail).unwrap_or_else(|refusal| Drained {
+        refusal: refusal as u8,
+        ..Drained::default()
+    })
+}
+
+/// The buffers are judged once. The messages left are those from `front` on and
+/// before `end`: the delivered ones stay in front of them until the drain ends,
+/// or until what is sent finds no room behind them.
+fn try_drain(limit: u64, table: &mut [u8], mail: &mut [u8]) -> Result<Drained, Refusal> {
+    let (size, capacity) = judge(table, mail)?;
+    let (mut front, mut end) = (0, count(mail));
+    let mut made = 0;
+    let mut sends = Sends::new();
+    let ending = loop {
+        if front == end {
+            break Ending::Empty;
+        }
+        let route = mail[route_at(front)].try_into().unwrap();
+        let body = body(mail, capacity, front);
+        sends.count = 0;
+        let (record, _) = receive(table, size, route, body, &mut sends, &mut Answer::default());
+        if end - front - 1 + sends.count > capacity {
+            break Ending::Full;
+        }
+        if made == limit {
+            break Ending::Limit;
+        }
+        record.write(table, size, route);
+        front += 1;
+        made += 1;
+        if end + sends.count > capacity {
+            remove(mail, capacity, end, 0, front);
+            end -= front;
+            front = 0;
+        }
+        append(mail, capacity, end, answering(route), &sends);
+        end += sends.count;
+    };
+    if front > 0 {
+        remove(mail, capacity, end, 0, front);
+    }
+    write_u16(&mut mail[MAIL_COUNT], end - front);
+    Ok(Drained {
+        refusal: ACCEPTED,
+        made,
+        ending: ending as u8,
+    })
+}
+
+/// The record of a message's receiver after the delivery.
+enum Record {
+    Item(ItemBytes),
+    Session(SessionBytes),
+}
+
+impl Record {
+    fn write(&self, table: &mut [u8], size: Size, [_, t, x]: [u8; ROUTE_SIZE]) {
+        match self {
+            Record::Item(record) => table[item_at(size.sessions, x.into())].copy_from_slice(record),
+            Record::Session(record) => table[session_at(t.into())].copy_from_slice(record),
+        }
+    }
+}
+
+/// A message comes to its receiver; whether its sender joined a queue.
+fn receive(
+    table: &[u8],
+    size: Size,
+    [direction, t, x]: [u8; ROUTE_SIZE],
+    body: [u8; BODY_SIZE],
+    sends: &mut Sends,
+    answer: &mut Answer,
+) -> (Record, bool) {
+    if direction == TO_ITEM {
+        let mut record = *item_record(table, size, x.into());
+        let joined = at_item(&mut record, t, body, sends, answer);
+        (Record::Item(record), joined)
+    } else {
+        let mut record = *session_record(table, t.into());
+        at_session(&mut record, t, x, body, sends);
+        (Record::Session(record), false)
+    }
 }
 
 /// An item receives a message; whether the sender joined its queue.
@@ -588,6 +674,7 @@ fn at_session(
 }
 
 /// The place of the earliest message on a route.
+#[inline(always)]
 fn find(mail: &[u8], count: usize, route: [u8; ROUTE_SIZE]) -> Option<usize> {
     mail[MAIL_HEADER..route_at(count).start]
         .chunks_exact(ROUTE_SIZE)
@@ -598,13 +685,24 @@ fn body(mail: &[u8], capacity: usize, place: usize) -> [u8; BODY_SIZE] {
     mail[body_at(capacity, place)].try_into().unwrap()
 }
 
-/// Takes the message at a place out; those behind it close up.
-fn remove(mail: &mut [u8], capacity: usize, count: usize, place: usize) {
+/// Takes so many messages from a place on out; those behind them close up.
+#[inline(always)]
+fn remove(mail: &mut [u8], capacity: usize, count: usize, place: usize, taken: usize) {
     let (routes, bodies) = mail[MAIL_HEADER..].split_at_mut(ENTRY * capacity);
     for entries in [routes, bodies] {
-        entries.copy_within(ENTRY * (place + 1)..ENTRY * count, ENTRY * place);
-        entries[ENTRY * (count - 1)..ENTRY * count].fill(0);
+        entries.copy_within(ENTRY * (place + taken)..ENTRY * count, ENTRY * place);
+        entries[ENTRY * (count - taken)..ENTRY * count].fill(0);
     }
+}
+
+/// The route back to the sender.
+fn answering([direction, t, x]: [u8; ROUTE_SIZE]) -> [u8; ROUTE_SIZE] {
+    let back = if direction == TO_ITEM {
+        TO_SESSION
+    } else {
+        TO_ITEM
+    };
+    [back, t, x]
 }
 
 /// Appends messages of session t or item x behind `count` others.
@@ -612,13 +710,10 @@ fn append(
     mail: &mut [u8],
     capacity: usize,
     count: usize,
-    direction: u8,
-    t: u8,
-    x: u8,
+    [direction, t, x]: [u8; ROUTE_SIZE],
     sends: &Sends,
 ) {
     let total = count + sends.count;
-    write_u16(&mut mail[MAIL_COUNT], total);
     let (routes, bodies) = mail[MAIL_HEADER..].split_at_mut(ENTRY * capacity);
     let places = routes[ENTRY * count..ENTRY * total]
         .chunks_exact_mut(ENTRY)

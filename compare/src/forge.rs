@@ -190,8 +190,55 @@ fn message(random: &mut Random, config: Config) -> ([u8; ROUTE_SIZE], [u8; BODY_
     ([direction, session, item], body)
 }
 
+/// What goes along with cleans that circle.
+#[derive(Clone, Copy, PartialEq, Eq, Debug)]
+pub enum Beside {
+    /// Each delivery of a clean sends one message.
+    Nothing,
+    /// Messages that are dropped.
+    Dropped,
+    /// Any queues, held items and messages.
+    Anything,
+}
+
+/// Well-formed buffers with cleans that circle for ever: sessions 1 to n wait,
+/// each for an item that the next one holds.
+pub fn circling(random: &mut Random, config: Config, messages: u64, beside: Beside) -> Buffers {
+    let mut buffers = well_formed(random, config, messages);
+    let n = random.between(1, config.sessions.min(config.items)) as u8;
+    let holder = |item| item % n + 1;
+    for k in 1..=n {
+        let record = buffers.session_mut(k.into());
+        record[STAGE] = WAITING;
+        record[AWAITED] = k;
+        if beside == Beside::Anything {
+            let queue = Filling::draw(random).of(random, config.sessions - 1) as usize;
+            set_item(random, config, buffers.item_mut(k.into()), holder(k), queue);
+        } else {
+            record[HELD].fill(0);
+            set_item(random, config, buffers.item_mut(k.into()), holder(k), 0);
+        }
+    }
+    for place in 0..messages as usize {
+        let k = random.between(1, n.into()) as u8;
+        let route = if random.one_in(2) {
+            [TO_ITEM, k, k]
+        } else {
+            [TO_SESSION, holder(k), k]
+        };
+        let [victim, initiator] = [0, 1].map(|_| config.any_session(random) as u8);
+        if beside == Beside::Nothing || !random.one_in(4) {
+            buffers.set_message(place, route, [kind::CLEAN, victim, initiator]);
+        } else if beside == Beside::Dropped {
+            // A session that waits drops it.
+            buffers.set_message(place, [TO_SESSION, k, k], [kind::WITHDRAWN, 0, 0]);
+        }
+    }
+    buffers
+}
+
 /// A way to break the form of well-formed buffers: what must then be answered
-/// to a step whose verb and lengths are right.
+/// to a step whose verb and lengths are right, and to a drain.
 pub struct Break {
     pub name: &'static str,
     pub refusal: Refusal,

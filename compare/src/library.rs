@@ -1,7 +1,7 @@
 //! The C calls of the library, safe on slices. The declarations are those of
 //! include/lockmgr.h.
 
-use model::{Answer, Config, Cycle};
+use model::{Answer, Config, Cycle, Drained};
 use std::ptr;
 
 #[repr(C)]
@@ -17,6 +17,13 @@ struct LockmgrAnswer {
 struct LockmgrCycle {
     refusal: u8,
     length: u8,
+}
+
+#[repr(C)]
+struct LockmgrDrained {
+    refusal: u8,
+    made: u64,
+    ending: u8,
 }
 
 extern "C" {
@@ -41,6 +48,14 @@ extern "C" {
     ) -> LockmgrAnswer;
 
     fn lockmgr_report(session: u64, table: *const u8, table_len: usize) -> LockmgrCycle;
+
+    fn lockmgr_drain(
+        limit: u64,
+        table: *mut u8,
+        table_len: usize,
+        mail: *mut u8,
+        mail_len: usize,
+    ) -> LockmgrDrained;
 }
 
 /// The pointer that C passes for these bytes: null if there are none.
@@ -100,5 +115,23 @@ pub fn report(session: u64, table: &[u8]) -> Cycle {
     Cycle {
         refusal: cycle.refusal,
         length: cycle.length,
+    }
+}
+
+pub fn drain(limit: u64, table: &mut [u8], mail: &mut [u8]) -> Drained {
+    // SAFETY: as for `start`.
+    let drained = unsafe {
+        lockmgr_drain(
+            limit,
+            pointer(table),
+            table.len(),
+            pointer(mail),
+            mail.len(),
+        )
+    };
+    Drained {
+        refusal: drained.refusal,
+        made: drained.made,
+        ending: drained.ending,
     }
 }

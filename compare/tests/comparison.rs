@@ -5,8 +5,9 @@ use compare::calls::{Calls, Fast, Misread, Model};
 use compare::cases::{every_place, round};
 use compare::comparison::Comparison;
 use compare::numbers::DELIVER_TO_ITEM;
-use model::layout::MAX_SESSIONS;
-use model::{Answer, Config, Cycle, Misreading, Refusal, ACCEPTED};
+use model::layout::{body_at, read_u16, KIND, MAIL_CAPACITY, MAX_SESSIONS};
+use model::mailbox::{count, kind};
+use model::{Answer, Config, Cycle, Drained, Misreading, Refusal, ACCEPTED};
 
 #[test]
 fn fast_answers_like_the_model() {
@@ -25,7 +26,8 @@ fn difference(subject: impl Calls + 'static) -> Option<String> {
 
 #[test]
 fn every_misreading_and_replaced_rule_is_found() {
-    for misreading in Misreading::OF_01.into_iter().chain(Misreading::REPLACED) {
+    let misreadings = Misreading::OF_01.into_iter().chain(Misreading::OF_F2);
+    for misreading in misreadings.chain(Misreading::REPLACED) {
         let found = difference(Misread(misreading));
         println!("{misreading:?}: {found:?}");
         assert!(found.is_some(), "{misreading:?}");
@@ -49,6 +51,16 @@ enum Wrong {
     LastByte,
     /// A start leaves the last byte of the mail.
     ShortStart,
+    /// Only the lower half of a limit counts.
+    NarrowLimit,
+    /// Only the lower two bytes of the deliveries made are answered.
+    NarrowMade,
+    /// A refused drain leaves a trace in the table.
+    TraceOfRefusedDrain,
+    /// A drain leaves a kind behind the last message.
+    TraceOfDrain,
+    /// A drain that has used all places again leaves the oldest body twice.
+    TraceOfMove,
 }
 
 impl Calls for Wrong {
@@ -101,6 +113,33 @@ impl Calls for Wrong {
         }
         cycle
     }
+
+    fn drain(&self, limit: u64, table: &mut [u8], mail: &mut [u8]) -> Drained {
+        let limit = if *self == Wrong::NarrowLimit {
+            limit & 0xFFFF_FFFF
+        } else {
+            limit
+        };
+        let mut drained = model::drain(limit, table, mail);
+        if drained.refusal != ACCEPTED {
+            if let (Wrong::TraceOfRefusedDrain, Some(last)) = (self, table.last_mut()) {
+                *last ^= 1;
+            }
+            return drained;
+        }
+        let (capacity, count) = (read_u16(&mail[MAIL_CAPACITY]).into(), count(mail));
+        match self {
+            Wrong::NarrowMade => drained.made &= 0xFFFF,
+            Wrong::TraceOfDrain if drained.made > 0 && count < capacity => {
+                mail[body_at(capacity, count)][KIND] = kind::REQUEST;
+            }
+            Wrong::TraceOfMove if drained.made > capacity as u64 && count > 1 => {
+                mail.copy_within(body_at(capacity, 0), body_at(capacity, 1).start);
+            }
+            _ => {}
+        }
+        drained
+    }
 }
 
 #[test]
@@ -114,6 +153,11 @@ fn every_wrong_byte_is_found() {
         Wrong::ShortWalk,
         Wrong::LastByte,
         Wrong::ShortStart,
+        Wrong::NarrowLimit,
+        Wrong::NarrowMade,
+        Wrong::TraceOfRefusedDrain,
+        Wrong::TraceOfDrain,
+        Wrong::TraceOfMove,
     ] {
         let found = difference(wrong);
         println!("{wrong:?}: {found:?}");

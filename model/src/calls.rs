@@ -1,13 +1,14 @@
-//! The three calls on numbers and byte buffers.
+//! The four calls on numbers and byte buffers.
 
 use crate::config::Config;
 use crate::item::ToSessions;
 use crate::layout::{within, MAX_CAPACITY, MAX_ITEMS, MAX_SESSIONS};
-use crate::mailbox::{Direction, Mailbox, Message, Route};
+use crate::mailbox::{count, route, Direction, Mailbox, Message, Route};
 use crate::misreading::Misreading;
 use crate::session::{Stage, ToItems};
 use crate::table::Table;
 use crate::waits::cycle_members;
+use std::ops::Range;
 
 /// What a step answers.
 #[derive(Clone, Copy, PartialEq, Eq, Debug, Default)]
@@ -24,6 +25,32 @@ pub struct Answer {
 pub struct Cycle {
     pub refusal: u8,
     pub length: u8,
+}
+
+/// What a drain answers. F-2: "the number of deliveries made and which of the
+/// three ended it (1, 2 or 3, the first that applies)".
+#[derive(Clone, Copy, PartialEq, Eq, Debug, Default)]
+pub struct Drained {
+    pub refusal: u8,
+    pub made: u64,
+    /// An `Ending`, or 0 if refused.
+    pub ending: u8,
+}
+
+/// What ends a drain, in the order in which it is judged.
+#[derive(Clone, Copy, PartialEq, Eq, Debug)]
+#[repr(u8)]
+pub enum Ending {
+    /// F-2: "the mail is empty"
+    Empty = 1,
+    /// F-2: "the next delivery would be refused with 9"
+    Full = 2,
+    /// F-2: "as many are made as the caller allows"
+    Limit = 3,
+}
+
+impl Ending {
+    pub const ALL: [Ending; 3] = [Ending::Empty, Ending::Full, Ending::Limit];
 }
 
 /// Why a call is refused (01: turned back), in the order of the causes.
@@ -88,6 +115,14 @@ impl Verb {
     pub fn decode(number: u64) -> Option<Verb> {
         Verb::ALL.into_iter().find(|verb| *verb as u64 == number)
     }
+
+    /// The verb that delivers a message of this direction.
+    pub fn delivers(direction: Direction) -> Verb {
+        match direction {
+            Direction::ToItem => Verb::DeliverToItem,
+            Direction::ToSession => Verb::DeliverToSession,
+        }
+    }
 }
 
 fn number(given: u64, max: usize) -> Result<u8, Refusal> {
@@ -146,12 +181,9 @@ fn try_step(
     mail: &mut [u8],
 ) -> Result<Answer, Refusal> {
     let verb = Verb::decode(verb).ok_or(Refusal::BadVerb)?;
-    let (sessions, items) = Table::size(table).ok_or(Refusal::BadSize)?;
-    Mailbox::capacity(mail).ok_or(Refusal::BadSize)?;
-    let mut records = Table::decode(table).ok_or(Refusal::BadTable)?;
-    let mut mailbox = Mailbox::decode(mail, sessions, items).ok_or(Refusal::BadMail)?;
-    let session = number(session, sessions)?;
-    let item = number(item, items)?;
+    let (mut records, mut mailbox) = judge(table, mail)?;
+    let session = number(session, records.sessions.len())?;
+    let item = number(item, records.items.len())?;
 
     let mut answer = Answer::default();
     let sends = match verb {
@@ -227,6 +259,15 @@ fn try_step(
     Ok(answer)
 }
 
+/// The causes that lie in the two buffers, 2, 3 and 4, in their order.
+fn judge(table: &[u8], mail: &[u8]) -> Result<(Table, Mailbox), Refusal> {
+    let (sessions, items) = Table::size(table).ok_or(Refusal::BadSize)?;
+    Mailbox::capacity(mail).ok_or(Refusal::BadSize)?;
+    let records = Table::decode(table).ok_or(Refusal::BadTable)?;
+    let mailbox = Mailbox::decode(mail, sessions, items).ok_or(Refusal::BadMail)?;
+    Ok((records, mailbox))
+}
+
 fn from_session(session: u8, sends: ToItems) -> Vec<Message> {
     let direction = Direction::ToItem;
     let message = |(item, body)| Message {
@@ -273,4 +314,93 @@ fn try_report(session: u64, table: &[u8]) -> Result<u8, Refusal> {
     let records = Table::decode(table).ok_or(Refusal::BadTable)?;
     let session = number(session, sessions)?;
     Ok(cycle_members(&records, session).len() as u8)
+}
+
+/// F-2: "one call that delivers the oldest entry, again and again, until the
+/// mail is empty, the next delivery would be refused with 9, or as many are made
+/// as the caller allows".
+pub fn drain(limit: u64, table: &mut [u8], mail: &mut [u8]) -> Drained {
+    drain_as(Misreading::None, limit, table, mail)
+}
+
+/// A drain by the rules, or by one misreading of them.
+pub fn drain_as(misreading: Misreading, limit: u64, table: &mut [u8], mail: &mut [u8]) -> Drained {
+    try_drain(misreading, limit, table, mail).unwrap_or_else(|refusal| Drained {
+        refusal: refusal as u8,
+        ..Drained::default()
+    })
+}
+
+/// F-2: "only 2, 3 and 4 of 01 apply to it, before any delivery". Then single
+/// steps, each made on copies of the buffers, which take their place unless one
+/// of the three ends the drain, "the first that applies".
+fn try_drain(
+    misreading: Misreading,
+    limit: u64,
+    table: &mut [u8],
+    mail: &mut [u8],
+) -> Result<Drained, Refusal> {
+    judge(table, mail)?;
+    let mut made = 0;
+    let ending = loop {
+        let at_limit = made == limit;
+        if count(mail) == 0 {
+            if at_limit && misreading == Misreading::LimitBeforeEmpty {
+                break Ending::Limit;
+            }
+            break Ending::Empty;
+        }
+        if at_limit && misreading == Misreading::LimitBeforeFull {
+            break Ending::Limit;
+        }
+        let mut tried = places_tried(misreading, count(mail));
+        let Some((next_table, next_mail)) = tried.find_map(|place| {
+            let (mut table, mut mail) = (table.to_vec(), mail.to_vec());
+            let answer = deliver_as(misreading, place, &mut table, &mut mail)?;
+            // Of the refusals only 9 can come.
+            (answer.refusal == ACCEPTED).then_some((table, mail))
+        }) else {
+            made += u64::from(misreading == Misreading::CountsRefused);
+            break Ending::Full;
+        };
+        if at_limit {
+            break Ending::Limit;
+        }
+        table.copy_from_slice(&next_table);
+        mail.copy_from_slice(&next_mail);
+        made += 1;
+    };
+    Ok(Drained {
+        refusal: ACCEPTED,
+        made,
+        ending: ending as u8,
+    })
+}
+
+/// The places of mail with messages from which a drain tries to deliver next:
+/// the oldest alone.
+fn places_tried(misreading: Misreading, count: usize) -> Range<usize> {
+    match misreading {
+        Misreading::SecondOldest if count > 1 => 1..2,
+        Misreading::PassesOverFull => 0..count,
+        _ => 0..1,
+    }
+}
+
+/// The step that delivers the message at a place of well-formed mail, 0 being
+/// the oldest, if there is one.
+pub fn deliver_as(
+    misreading: Misreading,
+    place: usize,
+    table: &mut [u8],
+    mail: &mut [u8],
+) -> Option<Answer> {
+    let Route {
+        direction,
+        session,
+        item,
+    } = route(mail, place)?;
+    let verb = Verb::delivers(direction) as u64;
+    let (session, item) = (session.into(), item.into());
+    Some(step_as(misreading, verb, session, item, table, mail))
 }

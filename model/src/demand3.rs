@@ -1,7 +1,8 @@
 //! The check of demand 3, as 01's section "What demand 3 counts" says it.
 
-use crate::calls::{report, Answer, Refusal, ACCEPTED};
+use crate::calls::{deliver_as, report, Answer, Drained, Ending, Refusal, ACCEPTED};
 use crate::mailbox::{count, Mailbox};
+use crate::misreading::Misreading;
 use crate::session::senior;
 use crate::table::{rolled_back, Table};
 use crate::waits::{cycle_members, standing_cycles};
@@ -51,6 +52,59 @@ impl Demand3 {
         Ok(())
     }
 
+    /// Takes a drain of the list, with its limit and both buffers before and
+    /// after it. It "counts as those single steps, with their answers": they
+    /// are made again, by the rules or a misreading of them.
+    pub fn after_drain(
+        &mut self,
+        misreading: Misreading,
+        limit: u64,
+        drained: Drained,
+        before: (&[u8], &[u8]),
+        after: (&[u8], &[u8]),
+    ) -> Result<(), String> {
+        let Drained {
+            refusal,
+            made,
+            ending,
+        } = drained;
+        if refusal != ACCEPTED {
+            return Err(format!("a drain is refused with {refusal}"));
+        }
+        let (sessions, items) = Table::size(before.0).ok_or("the table has another length")?;
+        let most = limit.min(drain_bound(sessions, items, count(before.1)));
+        if made > most {
+            return Err(format!("a drain makes {made} deliveries, above {most}"));
+        }
+        let (mut table, mut mail) = (before.0.to_vec(), before.1.to_vec());
+        for _ in 0..made {
+            let (old_table, old_mail) = (table.clone(), mail.clone());
+            let answer = deliver_as(misreading, 0, &mut table, &mut mail)
+                .ok_or("a drain makes more deliveries than it can")?;
+            if answer.refusal != ACCEPTED {
+                let refusal = answer.refusal;
+                return Err(format!("a drain counts a step refused with {refusal}"));
+            }
+            self.after_step(answer, (&old_table, &old_mail), (&table, &mail))?;
+        }
+        if (&*table, &*mail) != after {
+            return Err("a drain leaves other bytes than its single steps".to_string());
+        }
+        let next = deliver_as(misreading, 0, &mut table, &mut mail);
+        let applies = match next.map(|answer| answer.refusal) {
+            None => Ending::Empty,
+            Some(ACCEPTED) => Ending::Limit,
+            Some(_) => Ending::Full,
+        };
+        if ending != applies as u8 {
+            return Err(format!("a drain answers ending {ending}, not {applies:?}"));
+        }
+        if applies == Ending::Limit && made != limit {
+            return Err(format!("a drain stops after {made} of {limit} deliveries"));
+        }
+        Ok(())
+    }
+
     /// With empty mail: as many rolled back as cycles closed, none standing.
     fn check_empty(&self, records: &Table, table: &[u8]) -> Result<(), String> {
         if self.closed != self.rolled_back {
@@ -71,6 +125,17 @@ impl Demand3 {
         }
         Ok(())
     }
+}
+
+/// F-2: after an accepted start a drain "ends within a number of deliveries
+/// given by a formula in S, M and the count at its start". This is the one that
+/// docs/ states.
+pub fn drain_bound(sessions: usize, items: usize, count: usize) -> u64 {
+    let (s, m, n) = (sessions as u64, items as u64, count as u64);
+    let h = 2 * s * s + 2 * s + 2;
+    let c = m * h + 2 * s * s + 4;
+    let k = c + h;
+    s * (k * s + 4 * s * s + m * h) + n * k * (s + 1)
 }
 
 /// "Its ring is read in the table which that step leaves": the initiator lies

@@ -19,7 +19,10 @@ pub mod session;
 pub mod table;
 pub mod waits;
 
-pub use calls::{report, start, step, step_as, Answer, Cycle, Refusal, Verb, ACCEPTED};
+pub use calls::{
+    drain, drain_as, report, start, step, step_as, Answer, Cycle, Drained, Ending, Refusal, Verb,
+    ACCEPTED,
+};
 pub use config::Config;
 pub use misreading::Misreading;
 pub use replay::replay;

@@ -3,8 +3,8 @@
 
 use crate::layout::{
     body_at, mail_length, read_u16, route_at, routes_end, within, write_u16, BODY_A, BODY_B,
-    BODY_SIZE, DIRECTION, KIND, MAIL_CAPACITY, MAIL_COUNT, MAIL_HEADER, MAX_CAPACITY, ROUTE_ITEM,
-    ROUTE_SESSION, ROUTE_SIZE,
+    BODY_SIZE, DIRECTION, KIND, MAIL_CAPACITY, MAIL_COUNT, MAIL_HEADER, MAX_CAPACITY, MAX_ITEMS,
+    MAX_SESSIONS, ROUTE_ITEM, ROUTE_SESSION, ROUTE_SIZE,
 };
 
 /// "Direction 1 runs session to item, 2 item to session."
@@ -147,6 +147,14 @@ pub struct Message {
 /// The number of messages in the mail; "Mail is empty when its count is 0."
 pub fn count(mail: &[u8]) -> usize {
     read_u16(&mail[MAIL_COUNT]).into()
+}
+
+/// The route of the message at a place of well-formed mail, 0 being the oldest.
+pub fn route(mail: &[u8], place: usize) -> Option<Route> {
+    if place >= count(mail) {
+        return None;
+    }
+    Route::decode(&mail[route_at(place)], MAX_SESSIONS, MAX_ITEMS)
 }
 
 #[derive(Clone, PartialEq, Eq, Debug)]

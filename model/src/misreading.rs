@@ -1,5 +1,6 @@
-//! The entries of 01's "Plausible misreadings", and rules that a later request
-//! has replaced. Each can be switched on, to show that the tests would notice.
+//! The entries of 01's "Plausible misreadings", misreadings of a later request,
+//! and rules that a later request has replaced. Each can be switched on, to show
+//! that the tests would notice.
 
 #[derive(Clone, Copy, PartialEq, Eq, Debug, Default)]
 pub enum Misreading {
@@ -18,6 +19,16 @@ pub enum Misreading {
     PassesLateProbe,
     /// 01's rule before F-1, "the first in line, N, becomes holder".
     FirstInLine,
+    /// F-2 with the second-oldest entry delivered before the oldest.
+    SecondOldest,
+    /// F-2 with an oldest entry that does not fit passed over for one that does.
+    PassesOverFull,
+    /// F-2 with the delivery that is refused with 9 counted as made.
+    CountsRefused,
+    /// F-2 with the limit judged before the empty mail.
+    LimitBeforeEmpty,
+    /// F-2 with the limit judged before the next delivery is tried.
+    LimitBeforeFull,
 }
 
 impl Misreading {
@@ -28,6 +39,15 @@ impl Misreading {
         Misreading::ReleasesEarly,
         Misreading::ForwardsUnchanged,
         Misreading::PassesLateProbe,
+    ];
+
+    /// Those of F-2. The check of a drain catches each.
+    pub const OF_F2: [Misreading; 5] = [
+        Misreading::SecondOldest,
+        Misreading::PassesOverFull,
+        Misreading::CountsRefused,
+        Misreading::LimitBeforeEmpty,
+        Misreading::LimitBeforeFull,
     ];
 
     /// Rules that a request has replaced. Demand 3 holds under them too; the

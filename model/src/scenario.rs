@@ -1,10 +1,10 @@
 //! Random runs of the lock manager from its start, each settled by a seed,
-//! with demand 3 checked after every step.
+//! with demand 3 checked after every step and for every step of a drain.
 
-use crate::calls::{start, step_as, Answer, Refusal, Verb, ACCEPTED};
+use crate::calls::{drain_as, start, step_as, Answer, Ending, Refusal, Verb, ACCEPTED};
 use crate::config::Config;
 use crate::demand3::Demand3;
-use crate::mailbox::{count, Body, Direction, Mailbox, Message, Route};
+use crate::mailbox::{count, Body, Mailbox, Message, Route};
 use crate::misreading::Misreading;
 use crate::session::Stage;
 use crate::table::Table;
@@ -107,13 +107,16 @@ impl Schedule {
 #[derive(Clone, Copy, PartialEq, Eq, Debug, Default)]
 pub struct Counts {
     pub runs: u64,
+    /// Single ones and those of drains.
     pub steps: u64,
     pub refused: u64,
     /// Steps refused with 9.
     pub full: u64,
     pub demand3: Demand3,
-    /// Longest run of deliveries alone until the mail was empty.
-    pub longest_drain: u64,
+    /// Most deliveries alone until the mail was empty.
+    pub most_deliveries: u64,
+    /// Drains, in the order of their endings.
+    pub endings: [u64; Ending::ALL.len()],
     /// Runs whose small mail could take no delivery any more.
     pub stuck: u64,
 }
@@ -128,7 +131,10 @@ impl Counts {
         self.demand3.rolled_back += other.demand3.rolled_back;
         self.demand3.declared += other.demand3.declared;
         self.demand3.empty += other.demand3.empty;
-        self.longest_drain = self.longest_drain.max(other.longest_drain);
+        self.most_deliveries = self.most_deliveries.max(other.most_deliveries);
+        for (sum, count) in self.endings.iter_mut().zip(other.endings) {
+            *sum += count;
+        }
         self.stuck += other.stuck;
     }
 }
@@ -143,9 +149,9 @@ const WIDE: u64 = 512;
 const NARROW: u64 = 16;
 
 /// Deliveries alone that must empty a wide mail, in any order drawn here. It is
-/// a generous bound by experience (see the longest drain in the counts), not a
+/// a generous bound by experience (see the most deliveries in the counts), not a
 /// proved one.
-pub const DRAIN_BOUND: u64 = 5_000;
+pub const DELIVERIES_BOUND: u64 = 5_000;
 
 /// One lock manager with its two buffers and the check of its list of steps.
 struct Desk {
@@ -193,18 +199,21 @@ pub fn run(seed: u64, misreading: Misreading) -> Result<Counts, String> {
 }
 
 impl Desk {
-    /// Bursts of mixed steps, now and then all mail delivered, and so at the
-    /// end.
+    /// Bursts of mixed steps and drains, now and then all mail delivered, and so
+    /// at the end.
     fn play(&mut self) -> Result<(), String> {
         let bursts = self.random.between(3, 12);
         let deliver_in_ten = self.random.between(2, 9);
         let release_one_in = self.random.between(3, 40);
-        let drain_one_in = self.random.between(1, 6);
+        let deliver_all_one_in = self.random.between(1, 6);
+        let drain_one_in = self.random.between(40, 200);
         for _ in 0..bursts {
             let schedule = Schedule::draw(&mut self.random, self.config);
             for _ in 0..self.random.between(5, 60) {
                 if self.random.one_in(50) {
                     self.any_step()?;
+                } else if self.random.one_in(drain_one_in) {
+                    self.drain()?;
                 } else if self.random.between(1, 10) <= deliver_in_ten {
                     self.delivery(schedule)?;
                 } else if self.random.one_in(release_one_in) {
@@ -213,11 +222,11 @@ impl Desk {
                     self.request()?;
                 }
             }
-            if self.random.one_in(drain_one_in) {
-                self.drain()?;
+            if self.random.one_in(deliver_all_one_in) {
+                self.deliver_all()?;
             }
         }
-        self.drain()
+        self.deliver_all()
     }
 
     /// One step, then the check.
@@ -300,10 +309,7 @@ impl Desk {
     }
 
     fn deliver(&mut self, route: Route) -> Result<Answer, String> {
-        let verb = match route.direction {
-            Direction::ToItem => Verb::DeliverToItem,
-            Direction::ToSession => Verb::DeliverToSession,
-        };
+        let verb = Verb::delivers(route.direction);
         self.step(verb as u64, route.session.into(), route.item.into())
     }
 
@@ -316,14 +322,46 @@ impl Desk {
         Ok(())
     }
 
-    /// Deliveries alone, in the order of some schedule, until the mail is empty.
+    /// A drain with any limit, then the check.
     fn drain(&mut self) -> Result<(), String> {
+        let limit = match self.random.between(1, 6) {
+            1 => 0,
+            2 => 1,
+            3 | 4 => self.random.between(2, 20),
+            _ if self.misreading == Misreading::None => u64::MAX,
+            // A misreading may deliver for ever.
+            _ => DELIVERIES_BOUND,
+        };
+        let before = (self.table.clone(), self.mail.clone());
+        let drained = drain_as(self.misreading, limit, &mut self.table, &mut self.mail);
+        self.counts.demand3.after_drain(
+            self.misreading,
+            limit,
+            drained,
+            (&before.0, &before.1),
+            (&self.table, &self.mail),
+        )?;
+        self.counts.steps += drained.made;
+        self.counts.endings[usize::from(drained.ending) - 1] += 1;
+        if drained.made == DELIVERIES_BOUND {
+            return Err(format!(
+                "mail not empty after {DELIVERIES_BOUND} deliveries, a drain"
+            ));
+        }
+        if self.wide && drained.ending == Ending::Full as u8 {
+            return Err("a wide mail filled up".to_string());
+        }
+        Ok(())
+    }
+
+    /// Deliveries alone, in the order of some schedule, until the mail is empty.
+    fn deliver_all(&mut self) -> Result<(), String> {
         let schedule = Schedule::draw(&mut self.random, self.config);
         let mut deliveries = 0;
         while count(&self.mail) != 0 {
-            if deliveries == DRAIN_BOUND {
+            if deliveries == DELIVERIES_BOUND {
                 return Err(format!(
-                    "mail not empty after {DRAIN_BOUND} deliveries, {schedule:?}"
+                    "mail not empty after {DELIVERIES_BOUND} deliveries, {schedule:?}"
                 ));
             }
             let heads = self.heads()?;
@@ -338,7 +376,7 @@ impl Desk {
             }
             deliveries += 1;
         }
-        self.counts.longest_drain = self.counts.longest_drain.max(deliveries);
+        self.counts.most_deliveries = self.counts.most_deliveries.max(deliveries);
         Ok(())
     }
 

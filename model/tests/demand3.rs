@@ -6,7 +6,7 @@ use model::demand3::Demand3;
 use model::item::Item;
 use model::layout::{mail_length, table_length};
 use model::mailbox::Mailbox;
-use model::scenario::{run, Counts, DRAIN_BOUND};
+use model::scenario::{run, Counts, DELIVERIES_BOUND};
 use model::table::Table;
 use model::{Misreading, Refusal};
 
@@ -34,7 +34,10 @@ fn holds_after_every_step() {
     assert!(total.full > 10_000);
     assert!(total.stuck > 500);
     // The bound on deliveries alone is far from what the rules need.
-    assert!(total.longest_drain * 10 < DRAIN_BOUND);
+    assert!(total.most_deliveries * 10 < DELIVERIES_BOUND);
+    for ending in total.endings {
+        assert!(ending > 500);
+    }
 }
 
 /// Two sessions, each in the queue of the item that the other holds; session 3

@@ -1,5 +1,8 @@
 //! The printed example of 01, its small cases, and every refusal.
 
+mod desk;
+
+use desk::{Desk, RELEASE, REQUEST, TO_ITEM, TO_SESSION};
 use model::item::Item;
 use model::layout::{
     body_at, item_at, mail_length, route_at, session_at, table_length, write_u16, AWAITED,
@@ -11,12 +14,7 @@ use model::mailbox::{kind, Body, Direction, Mailbox, Message, Route};
 use model::replay::MAX_STEPS;
 use model::session::Stage;
 use model::table::Table;
-use model::{replay, report, start, step, Answer, Config, Cycle, Refusal, Verb, ACCEPTED};
-
-const REQUEST: u64 = Verb::Request as u64;
-const RELEASE: u64 = Verb::Release as u64;
-const TO_ITEM: u64 = Verb::DeliverToItem as u64;
-const TO_SESSION: u64 = Verb::DeliverToSession as u64;
+use model::{replay, report, start, Config, Cycle, Refusal, ACCEPTED};
 
 const PRINTED: &str = "\
 1 1 1 1 0 1 0 0 0
@@ -98,59 +96,6 @@ fn replay_of_bad_input() {
     assert!(output.ends_with("\n4096 9 0 255 1 0 0 0 0\nend 0 0 0 0\n"));
     let too_many = vec![(1, 1, 1); MAX_STEPS + 1];
     assert_eq!(replayed(&input(2, 2, &too_many)), "bad\n");
-}
-
-/// A lock manager with its buffers.
-#[derive(Clone, PartialEq, Debug)]
-struct Desk {
-    table: Vec<u8>,
-    mail: Vec<u8>,
-}
-
-impl Desk {
-    fn new(sessions: u64, items: u64, capacity: u64) -> Desk {
-        let config = Config::new(sessions, items, capacity);
-        let mut desk = Desk {
-            table: vec![0xA5; config.table_length()],
-            mail: vec![0xA5; config.mail_length()],
-        };
-        let refusal = start(config, &mut desk.table, &mut desk.mail);
-        assert_eq!(refusal, ACCEPTED);
-        desk
-    }
-
-    fn step(&mut self, verb: u64, session: u64, item: u64) -> Answer {
-        step(verb, session, item, &mut self.table, &mut self.mail)
-    }
-
-    /// A step that must be accepted, with so many messages sent.
-    fn sends(&mut self, verb: u64, session: u64, item: u64, sent: u8) {
-        let expected = Answer {
-            sent,
-            ..Answer::default()
-        };
-        assert_eq!(self.step(verb, session, item), expected);
-    }
-
-    /// A step that must be refused, with both buffers untouched.
-    fn refuses(&mut self, verb: u64, session: u64, item: u64, refusal: Refusal) {
-        let before = self.clone();
-        let expected = Answer {
-            refusal: refusal as u8,
-            ..Answer::default()
-        };
-        assert_eq!(self.step(verb, session, item), expected);
-        assert_eq!(*self, before);
-    }
-
-    /// The same buffers with some records changed.
-    fn forged(&self, change: impl Fn(&mut Table)) -> Desk {
-        let mut desk = self.clone();
-        let mut table = Table::decode(&self.table).unwrap();
-        change(&mut table);
-        table.encode(&mut desk.table);
-        desk
-    }
 }
 
 #[test]

@@ -1,6 +1,7 @@
 //! Times of one call: the library beside the model, beside one pass over the
-//! bytes, and beside the same rules written for speed. All are measured in
-//! turn in one run, so that the ratios hold where the times do not.
+//! bytes, and beside the same rules written for speed; and of a drain beside the
+//! same single steps. All are measured in turn in one run, so that the ratios
+//! hold where the times do not.
 
 use compare::calls::{Calls, Fast, Library, Model};
 use compare::comparison::Buffers;
@@ -13,12 +14,13 @@ use model::layout::{
     route_at, AWAITED, HELD, HOLDER, JUNIORS, QUEUE, QUEUE_LENGTH, ROUTE_ITEM, STAGE,
 };
 use model::scenario::Random;
-use model::Config;
+use model::{Config, Drained, ACCEPTED};
 use std::hint::black_box;
 use std::time::Instant;
 
 /// Turns of each measurement; the median counts.
 const TURNS: usize = 301;
+const DRAIN_TURNS: usize = 31;
 
 /// Buffers that are measured together, at most this many bytes.
 const TOGETHER: usize = 24 * 1024;
@@ -31,6 +33,9 @@ const FLOOR_SMALL: f64 = 6.0;
 const FLOOR_FULL: f64 = 25.0;
 const MODEL: f64 = 1.0;
 const FAST: f64 = 1.5;
+
+/// Target for the library's drain / the same single steps through the library.
+const STEPS: f64 = 0.2;
 
 #[derive(Clone, Copy)]
 enum Call {
@@ -273,30 +278,38 @@ fn floor(call: Call, buffers: &Buffers) -> u8 {
     }
 }
 
-/// Nanoseconds of one call by library, model, floor, fast. The buffers are
-/// restored before each turn, which is not timed.
-fn measure(row: &Row) -> [f64; 4] {
-    let bytes = row.buffers.table.len() + row.buffers.mail.len();
+/// Nanoseconds of one call by library, model, floor, fast.
+fn measure_call(row: &Row) -> [f64; 4] {
+    let by = |subject: &dyn Calls, copy: &mut Buffers| {
+        refusal(subject, row.call, copy);
+    };
+    let subjects: [&dyn Fn(&mut Buffers); 4] = [
+        &|copy| by(&Library, copy),
+        &|copy| by(&Model, copy),
+        &|copy| {
+            black_box(floor(row.call, copy));
+        },
+        &|copy| by(&Fast, copy),
+    ];
+    measure(&row.buffers, TURNS, subjects)
+}
+
+/// Nanoseconds of what each of four does with these buffers, which are restored
+/// before each turn. That is not timed.
+fn measure(buffers: &Buffers, turns: usize, subjects: [&dyn Fn(&mut Buffers); 4]) -> [f64; 4] {
+    let bytes = buffers.table.len() + buffers.mail.len();
     let together = (TOGETHER / bytes).max(1);
-    let mut copies = vec![row.buffers.clone(); together];
-    let subjects: [Option<&dyn Calls>; 4] = [Some(&Library), Some(&Model), None, Some(&Fast)];
+    let mut copies = vec![buffers.clone(); together];
     let mut times: [Vec<u64>; 5] = Default::default();
-    for _ in 0..TURNS {
+    for _ in 0..turns {
         for (place, subject) in subjects.iter().enumerate() {
             for copy in &mut copies {
-                copy.table.copy_from_slice(&row.buffers.table);
-                copy.mail.copy_from_slice(&row.buffers.mail);
+                copy.table.copy_from_slice(&buffers.table);
+                copy.mail.copy_from_slice(&buffers.mail);
             }
             let begin = Instant::now();
             for copy in &mut copies {
-                match subject {
-                    Some(subject) => {
-                        refusal(*subject, row.call, copy);
-                    }
-                    None => {
-                        black_box(floor(row.call, copy));
-                    }
-                }
+                subject(copy);
             }
             times[place].push(begin.elapsed().as_nanos() as u64);
         }
@@ -305,11 +318,120 @@ fn measure(row: &Row) -> [f64; 4] {
     }
     let medians = times.map(|mut turns| {
         turns.sort_unstable();
-        turns[TURNS / 2] as f64
+        turns[turns.len() / 2] as f64
     });
     // Without the cost of reading the clock.
     let of = |place: usize| (medians[place] - medians[4]).max(1.0) / together as f64;
     [of(0), of(1), of(2), of(3)]
+}
+
+/// A drain with the largest buffers.
+struct DrainRow {
+    name: &'static str,
+    limit: u64,
+    buffers: Buffers,
+}
+
+/// A lock manager from its start: the sessions of each list ask for an item, and
+/// before the next list all mail is delivered.
+fn reached(lists: &[&[(u64, u64)]]) -> Buffers {
+    let mut buffers = Buffers::filled(LARGEST, 0);
+    let Buffers { table, mail } = &mut buffers;
+    assert_eq!(Model.start(LARGEST, table, mail), ACCEPTED);
+    for requests in lists {
+        Model.drain(u64::MAX, table, mail);
+        for &(session, item) in *requests {
+            let answer = Model.step(REQUEST, session, item, table, mail);
+            assert_eq!(answer.refusal, ACCEPTED);
+        }
+    }
+    buffers
+}
+
+fn drain_rows() -> Vec<DrainRow> {
+    let n = LARGEST.sessions;
+    // Each session takes the item of its number, then asks for the next one. The
+    // delivery of these requests closes a cycle of all sessions, and the probes
+    // of each go round it: 8,198 deliveries in all.
+    let own: Vec<_> = (1..=n).map(|session| (session, session)).collect();
+    let next: Vec<_> = (1..=n).map(|session| (session, session % n + 1)).collect();
+    let cycle = reached(&[&own, &next]);
+    // Half of the sessions ask for free items: a request and a grant for each.
+    let free = reached(&[&own[..own.len() / 2]]);
+    // Forged, since hardly any list of steps leaves so many messages: half of the
+    // sessions wait, and the messages are of every kind. In a drain of 1,000 the
+    // places behind the last message run out three times.
+    let many = buffers(LARGEST, 4000, Table::Light);
+    let row = |name, limit, buffers: &Buffers| DrainRow {
+        name,
+        limit,
+        buffers: buffers.clone(),
+    };
+    vec![
+        row("requests and grants to the end", u64::MAX, &free),
+        row("64 of a cycle of 64 sessions", 64, &cycle),
+        row("1,000 of a cycle of 64 sessions", 1000, &cycle),
+        row("64 of a nearly full mail", 64, &many),
+        row("1,000 of a nearly full mail", 1000, &many),
+    ]
+}
+
+fn drain(subject: &dyn Calls, limit: u64, buffers: &mut Buffers) -> Drained {
+    let Buffers { table, mail } = buffers;
+    black_box(subject.drain(black_box(limit), table, mail))
+}
+
+/// The deliveries of a drain, as a caller makes them one by one.
+fn single_steps(made: u64, buffers: &mut Buffers) {
+    for _ in 0..made {
+        let (verb, session, item) = buffers.delivery(0);
+        refusal(&Library, Call::Step(verb, session, item), buffers);
+    }
+}
+
+fn print_drains(missed: &mut usize) {
+    println!("\nNanoseconds of one delivery of a drain, median of {DRAIN_TURNS} turns.");
+    println!("S = M = 64, C = 4096. ending: 1 empty mail, 3 limit.");
+    println!("steps: the same deliveries by single steps of the library.");
+    println!(
+        "{:>6}  {:34}{:>6}{:>8}{:>10}{:>10}{:>10}{:>10}  {:>7}{:13}{:>7}{:13}{:>7}",
+        "mail",
+        "drain",
+        "made",
+        "ending",
+        "library",
+        "steps",
+        "model",
+        "fast",
+        "/steps",
+        "",
+        "/model",
+        "",
+        "/fast",
+    );
+    for row in drain_rows() {
+        let limit = row.limit;
+        let Drained { made, ending, .. } = drain(&Library, limit, &mut row.buffers.clone());
+        let by = |subject: &dyn Calls, copy: &mut Buffers| {
+            drain(subject, limit, copy);
+        };
+        let subjects: [&dyn Fn(&mut Buffers); 4] = [
+            &|copy| by(&Library, copy),
+            &|copy| single_steps(made, copy),
+            &|copy| by(&Model, copy),
+            &|copy| by(&Fast, copy),
+        ];
+        let times = measure(&row.buffers, DRAIN_TURNS, subjects);
+        let [library, steps, model, fast] = times.map(|time| time / made as f64);
+        println!(
+            "{:>6}  {:34}{made:>6}{ending:>8}{library:>10.1}{steps:>10.1}{model:>10.1}{fast:>10.1}  {} {} {}",
+            row.buffers.count(),
+            row.name,
+            beside(library / steps, Some(STEPS), missed),
+            beside(library / model, Some(MODEL), missed),
+            beside(library / fast, Some(FAST), missed),
+        );
+    }
 }
 
 /// A ratio with its target, and whether it is met.
@@ -352,6 +474,7 @@ fn main() {
     }
     header(LONG_QUEUE);
     print(1, long_queue_rows(), &mut missed);
+    print_drains(&mut missed);
     println!("\n{missed} targets missed.");
 }
 
@@ -383,7 +506,7 @@ fn header(config: Config) {
 fn print(count: u64, rows: Vec<Row>, missed: &mut usize) {
     for row in rows {
         let refused = refusal(&Library, row.call, &mut row.buffers.clone());
-        let [library, model, floor, fast] = measure(&row);
+        let [library, model, floor, fast] = measure_call(&row);
         println!(
             "{count:>6}  {:34}{refused:>8}{library:>10.0}{model:>10.0}{floor:>10.0}{fast:>10.0}  {} {} {}",
             row.name,
