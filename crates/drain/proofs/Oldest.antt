@@ -1,6 +1,6 @@
 -- The delivery of the oldest entry: only room can hinder it, and the other entries are left.
 use mathlib.Core.Path.{_≡_, refl, sym, ap, _∙_}
-use mathlib.Core.Bool.{Bool, true, false}
+use mathlib.Core.Bool.{Bool, true, false, cond, not, _||_, false≢true, true≢false}
 use mathlib.Core.List.{List, _∷_, _++_, map}
 use mathlib.Core.Logic.{_⊎_, inl, inr, ⊎-elim}
 use Prim.Native.Nat.{ℕ, _+_, _≤_, _<_}
@@ -127,6 +127,15 @@ module _ (table mail : List ℕ) (f : Formed table mail) (some : 0 < countOf mai
       (λ q. rw (item-acts (eqb-true (oldest .direction) toItem q)) (by-room (oldest .session) table mail (to-item-plan oldest others table)))
       (λ q. rw (session-acts (eqb-false (oldest .direction) toItem q)) (by-room (oldest .session) table mail (to-session-plan oldest others table)))
 
+-- 9 where there is no room, else 0; and both tests are passed where it does not stop
+abbrev pub refusalOf : Bool → ℕ
+refusalOf fit = cond fit 0 Refusal.mailFull
+
+pub goes-on : (fit allowed : Bool) → not (eqb (refusalOf fit) 0) || not allowed ≡ false → (fit ≡ true) × (allowed ≡ true)
+goes-on true true h = (refl, refl)
+goes-on true false h = absurd (true≢false h)
+goes-on false allowed h = absurd (true≢false h)
+
 -- the oldest entry that is not spent
 module _ (k : ℕ) (table mail : List ℕ) (due : Due k table mail) where
   abbrev due-entry : Entry
@@ -197,15 +206,22 @@ module _ (k : ℕ) (table mail : List ℕ) (due : Due k table mail) where
     same-capacity : capacityOf (pending k mail) ≡ capacityOf mail
     same-capacity = left k mail (due .kept) .capacity
 
-    pub told-full : leb (length others-due + n) (capacityOf mail) ≡ false → (allowed : Bool) → outcome Refusal.mailFull table (pending k mail) ≡ told allowed
+    told-full : leb (length others-due + n) (capacityOf mail) ≡ false → (allowed : Bool) → outcome Refusal.mailFull table (pending k mail) ≡ told allowed
     told-full e = no-room (due-entry .session) table (pending k mail) planned (rw (same-capacity) (lt-ltb (capacityOf mail) (length (others-due ++ map f l)) (omega (arith, length-sent others-due f l, leb-false (length others-due + n) (capacityOf mail) e, few))))
 
     module _ (e : leb (length others-due + n) (capacityOf mail) ≡ true) where
       fits : overfull (capacityOf (pending k mail)) (others-due ++ map f l) ≡ false
       fits = rw (same-capacity) (le-ltb (capacityOf mail) (length (others-due ++ map f l)) (omega (arith, length-sent others-due f l, leb-true (length others-due + n) (capacityOf mail) e, few)))
 
-      pub told-judged : outcome 0 table (pending k mail) ≡ told false
+      told-judged : outcome 0 table (pending k mail) ≡ told false
       told-judged = only-judged (due-entry .session) table (pending k mail) planned fits
 
       pub told-made : outcome 0 after (mailBytes (capacityOf mail) (others-due ++ map f l)) ≡ told true
       told-made = ap (λ (C : ℕ). outcome 0 after (mailBytes C (others-due ++ map f l))) (sym same-capacity) ∙ made (due-entry .session) table (pending k mail) planned fits
+
+    -- it stops where there is no room or it is not allowed
+    pub told-stopped : (fit allowed : Bool) → leb (length others-due + n) (capacityOf mail) ≡ fit → not (eqb (refusalOf fit) 0) || not allowed ≡ true
+        → outcome (refusalOf fit) table (pending k mail) ≡ told allowed
+    told-stopped false allowed e h = told-full e allowed
+    told-stopped true false e h = told-judged e
+    told-stopped true true e h = absurd (false≢true h)

@@ -1,6 +1,7 @@
 // One delivery of a drain, on buffers that were judged. Entries that the drain has delivered, spent ones, stand at the front of the mailbox until they go out all at once.
 use step::Answer;
 ghost use mathlib.Core.Path.{_≡_};
+ghost use mathlib.Core.Bool.{cond};
 ghost use Prim.Native.Nat.{_+_, _≤_};
 ghost use lib.Dec.{leb};
 ghost use lib.ListN.{length, drop};
@@ -13,6 +14,7 @@ ghost use Rattle.mailbox.specs.Entry.{seenByItem, seenBySession};
 ghost use Rattle.mailbox.specs.Layout.{capacityOf, entriesOf, entryAt};
 ghost use Rattle.table.specs.Layout.{session};
 ghost use Rattle.waits.specs.OnTable.{locks};
+ghost use Rattle.step.specs.Refusal.{mailFull};
 ghost use Rattle.step.specs.Step.{sessionPlan, itemPlan};
 ghost use Rattle.step.specs.Parts.{concluded};
 ghost use Rattle.drain.specs.Oldest.{oldestActed};
@@ -24,12 +26,15 @@ pub struct Delivery {
     pub spent: usize,
 }
 
-// Whether n entries more have room once the first k are out.
-fn fits(mail: &[u8], k: usize, n: usize) -> bool
+// What is answered where n entries more are to have room once the first k are out: 9, or 0.
+fn room_refusal(mail: &[u8], k: usize, n: usize) -> u8
     requires { ⌜ Spent k (now mail) × (n ≤ room) ⌝ }
-    ensures { λ r. ⌜ r ≡ leb (length (drop k (entriesOf (now (mail .entry)))) + n) (capacityOf (now (mail .entry))) ⌝ }
+    ensures { λ r. ⌜ r ≡ cond (leb (length (drop k (entriesOf (now (mail .entry)))) + n) (capacityOf (now (mail .entry)))) 0 mailFull ⌝ }
 {
-    mailbox::count(mail) - k + n <= mailbox::capacity(mail)
+    if mailbox::count(mail) - k + n <= mailbox::capacity(mail) {
+        return 0;
+    }
+    Answer::MAIL_FULL
 }
 
 // Makes places for n entries more: the first k, which are spent, go out where the free places are too few. How many are spent after.
@@ -51,24 +56,14 @@ fn deliver_to_session(t: u8, k: usize, allowed: bool, table: &mut [u8], mail: &m
         ≡ outcomeOf allowed (now (table .entry)) (pending k (now (mail .entry))) (concluded t (now (table .entry)) (pending k (now (mail .entry))) (sessionPlan t (now (table .entry)) (drop (k + 1) (entriesOf (now (mail .entry)))) (SessionRules.received senior t (session (now (table .entry)) t) (seenBySession (entryAt (now (mail .entry)) k)))))) ⌝ }
 {
     let r = table::session(table, t).receive(t, mailbox::message_to_session(mail, k));
-    let outbox = r.outbox;
-    let session = r.session;
-    let sent = outbox.n;
-    if !fits(mail, k + 1, sent) {
-        return Delivery {
-            refusal: Answer::MAIL_FULL,
-            spent: k,
-        };
-    }
-    if !allowed {
-        return Delivery {
-            refusal: 0,
-            spent: k,
-        };
+    let sent = r.outbox.n;
+    let refusal = room_refusal(mail, k + 1, sent);
+    if (refusal != 0) | !allowed {
+        return Delivery { refusal, spent: k };
     }
     let spent = make_places(mail, k + 1, sent);
-    mailbox::post(mail, mailbox::TO_ITEM, t, outbox);
-    table::put_session(table, t, session);
+    mailbox::post(mail, mailbox::TO_ITEM, t, r.outbox);
+    table::put_session(table, t, r.session);
     Delivery { refusal: 0, spent }
 }
 
@@ -79,24 +74,14 @@ fn deliver_to_item(x: u8, k: usize, allowed: bool, table: &mut [u8], mail: &mut 
         ≡ outcomeOf allowed (now (table .entry)) (pending k (now (mail .entry))) (concluded (entryAt (now (mail .entry)) k .session) (now (table .entry)) (pending k (now (mail .entry))) (itemPlan x (now (table .entry)) (drop (k + 1) (entriesOf (now (mail .entry)))) (ItemRules.received senior nextHolder (locks (now (table .entry)) x) (seenByItem (entryAt (now (mail .entry)) k)))))) ⌝ }
 {
     let r = table::item(table, x).receive(mailbox::message_to_item(mail, k));
-    let outbox = r.outbox;
-    let item = r.item;
-    let sent = outbox.n;
-    if !fits(mail, k + 1, sent) {
-        return Delivery {
-            refusal: Answer::MAIL_FULL,
-            spent: k,
-        };
-    }
-    if !allowed {
-        return Delivery {
-            refusal: 0,
-            spent: k,
-        };
+    let sent = r.outbox.n;
+    let refusal = room_refusal(mail, k + 1, sent);
+    if (refusal != 0) | !allowed {
+        return Delivery { refusal, spent: k };
     }
     let spent = make_places(mail, k + 1, sent);
-    mailbox::post(mail, mailbox::TO_SESSION, x, outbox);
-    table::put_item(table, x, item);
+    mailbox::post(mail, mailbox::TO_SESSION, x, r.outbox);
+    table::put_item(table, x, r.item);
     Delivery { refusal: 0, spent }
 }
 
@@ -111,4 +96,15 @@ pub fn deliver(k: usize, allowed: bool, table: &mut [u8], mail: &mut [u8]) -> De
         return deliver_to_item(route.item, k, allowed, table, mail);
     }
     deliver_to_session(route.session, k, allowed, table, mail)
+}
+
+// Takes out the spent entries, the first k.
+pub fn clear_spent(mail: &mut [u8], k: usize)
+    requires { ⌜ Spent k (now mail) ⌝ }
+    ensures { λ _. ⌜ now (mail .exit) ≡ pending k (now (mail .entry)) ⌝ }
+{
+    if k == 0 {
+        return;
+    }
+    mailbox::remove_first(mail, k);
 }

@@ -18,7 +18,7 @@ use Rattle.drain.specs.Oldest.{verbOf, oldestActed}
 use Rattle.drain.specs.Parts.{Outcome, outcome, outcomeOf}
 use Rattle.drain.proofs.Oldest.{oldest-judged, refused-or-accepted}
 use Rattle.lockmgr.specs.Run.{Buffers, buffers, doneOn, leftBy, left}
-use Rattle.lockmgr.specs.Drain.{oldest, empty, full, limited, ending, deliveries, drainRefusal, drainSteps, drainResult, drain}
+use Rattle.lockmgr.specs.Drain.{oldest, empty, full, limited, ending, deliveries, drainRefusal, drainSteps, drainAnswer, drainResult, drain}
 use Rattle.lockmgr.specs.Parts.{Turned, turned, turnOf, Ahead, Ended}
 use Rattle.lockmgr.proofs.Judging.{judged-none, step-acts, formed-zero}
 use Rattle.lockmgr.proofs.Form.{step-keeps-form}
@@ -206,10 +206,10 @@ module _ (limit : ℕ) (table mail : List ℕ) where
   start = buffers table mail
 
   pub drained : drainRefusal start ≡ 0 → (j n : ℕ) (to : Buffers) → Ended limit j n start to
-      → drainResult (record { refusal = 0; made = j; ending = n }) (to .table) (to .mail) ≡ drain limit table mail
+      → drainResult (drainAnswer 0 j n) (to .table) (to .mail) ≡ drain limit table mail
   unfolding drain drainSteps
   drained z j n to e = rw (z, e .made, e .left, e .ending) refl
 
-  pub drain-refused : (drainRefusal start ≡ 0 → ⊥) → drain limit table mail ≡ drainResult (record { refusal = drainRefusal start; made = 0; ending = 0 }) table mail
+  pub drain-refused : (drainRefusal start ≡ 0 → ⊥) → drain limit table mail ≡ drainResult (drainAnswer (drainRefusal start) 0 0) table mail
   unfolding drain drainSteps left
   drain-refused h = rw (ne-eqb (drainRefusal start) 0 h) refl

@@ -51,6 +51,9 @@ unfoldable pub drainSteps : ℕ → Buffers → List Step
 drainSteps limit b = cond (eqb (drainRefusal b) 0) (deliveries limit b) []
 
 -- what a drain answers, and both buffers after
+abbrev pub drainAnswer : ℕ → ℕ → ℕ → Drained
+drainAnswer refusal made ending = record { refusal = refusal; made = made; ending = ending }
+
 pub record DrainResult : Type 0 where
   pub answer : Drained
   pub table : List ℕ
@@ -64,4 +67,4 @@ drain limit table mail =
     let b = buffers table mail in
     let l = drainSteps limit b in
     let end = left b l in
-    drainResult (record { refusal = drainRefusal b; made = length l; ending = cond (eqb (drainRefusal b) 0) (ending end) 0 }) (end .table) (end .mail)
+    drainResult (drainAnswer (drainRefusal b) (length l) (cond (eqb (drainRefusal b) 0) (ending end) 0)) (end .table) (end .mail)

@@ -7,7 +7,7 @@ ghost use Rattle.step.specs.Step.{stepped, Formed};
 ghost use Rattle.drain.specs.Parts.{pending, Spent};
 ghost use Rattle.lockmgr.specs.Calls.{config, startRefusal, startResult, start, bufferCauses, judged, step, reportRefusal, report};
 ghost use Rattle.lockmgr.specs.Run.{buffers};
-ghost use Rattle.lockmgr.specs.Drain.{drainRefusal, drainResult, drain};
+ghost use Rattle.lockmgr.specs.Drain.{drainRefusal, drainAnswer, drainResult, drain};
 ghost use Rattle.lockmgr.specs.Parts.{turned, turnOf};
 pub use step::Answer;
 
@@ -187,6 +187,26 @@ impl Drained {
     pub const FULL: u8 = 2;
 
     pub const LIMITED: u8 = 3;
+
+    fn refused(refusal: u8) -> Drained
+        ensures { λ r. ⌜ r ≡ drainAnswer refusal 0 0 ⌝ }
+    {
+        Drained {
+            refusal,
+            made: 0,
+            ending: 0,
+        }
+    }
+
+    fn accepted(made: u64, ending: u8) -> Drained
+        ensures { λ r. ⌜ r ≡ drainAnswer 0 made ending ⌝ }
+    {
+        Drained {
+            refusal: 0,
+            made,
+            ending,
+        }
+    }
 }
 
 // Why a drain ends here, or 0 where a delivery was made, how many were made so far, and how many entries are spent.
@@ -246,14 +266,8 @@ fn deliver_all(limit: u64, table: &mut [u8], mail: &mut [u8]) -> Drained
         made = turn.made;
         spent = turn.spent;
     }
-    if spent != 0 {
-        mailbox::remove_first(mail, spent);
-    }
-    Drained {
-        refusal: 0,
-        made,
-        ending,
-    }
+    drain::clear_spent(mail, spent);
+    Drained::accepted(made, ending)
 }
 
 // Delivers the oldest entry again and again: until no mail is left, the next delivery would be refused with 9, or so many are made.
@@ -263,11 +277,7 @@ pub extern "C" fn lockmgr_drain(limit: u64, table: &mut [u8], mail: &mut [u8]) -
 {
     let cause = buffers_refusal(table, mail);
     if cause != 0 {
-        return Drained {
-            refusal: cause,
-            made: 0,
-            ending: 0,
-        };
+        return Drained::refused(cause);
     }
     deliver_all(limit, table, mail)
 }

@@ -13,6 +13,7 @@ use Rattle.lockmgr.specs.Run.{buffers}
 use Rattle.lockmgr.specs.Parts.{Turned, Ahead, Ended}
 use Rattle.lockmgr.proofs.Judging.{buffers-zero}
 use Rattle.lockmgr.proofs.Draining.{turn-formed, ahead-all, turn-taken, turn-nearer, drained}
+use borrow.Author.Needs.{needs}
 use Rattle.lockmgr.proofs.deliver_all.Statement.{statement}
 use Rattle.lockmgr.proofs.deliver_all.Tie as tie
 
@@ -61,33 +62,23 @@ loop-again c =
     let after = turn-taken (s .args .limit) (l .made) (buffers (s .args .table .now) (s .args .mail .now)) b (l .inv .4 (c .before .before .before .before .before .before .before .loop-test .taken)) _ (t .ensures .1) in
     (t .kept .1 .1 .1 .0 ∙ l .inv .0, t .kept .1 .1 .1 .1 .0 ∙ l .inv .1, t .ensures .0, subst (λ (t : Turned). Formed (t .left .table) (t .left .mail)) (sym (t .ensures .1)) (turn-formed (s .args .limit) (l .made) b (l .inv .3)), after .0, after .1, after .2)
 
-remove-first-requires : tie.Need-remove-first-requires Inv-loop μ-loop
-remove-first-requires c κs = let l = c .before .before .before .loop in (l .inv .2 .kept, l .inv .2 .few)
+clear-spent-requires : tie.Need-clear-spent-requires Inv-loop μ-loop
+clear-spent-requires c κs = c .before .before .loop .inv .2
+
+accepted-requires : tie.Need-accepted-requires Inv-loop μ-loop
+accepted-requires c κs = search needs
 
 same-length : tie.Need-same-length Inv-loop μ-loop
 same-length c = c .before .before .before .before .before .before .loop .inv .0
 
 same-length-2 : tie.Need-same-length-2 Inv-loop μ-loop
-same-length-2 c = c .before .before .remove-first .kept .0 ∙ c .before .before .before .before .before .before .loop .inv .1
+same-length-2 c = c .before .before .before .clear-spent .kept .0 ∙ c .before .before .before .before .before .before .loop .inv .1
 
 returns : tie.Need-returns Inv-loop μ-loop
 returns c =
     let s = c .before .before .before .before .before .before .before .before .before in
     let l = c .before .before .before .before .before .before .loop in
-    rw (c .before .before .remove-first .ensures) (drained (s .args .limit) (s .args .table .now) (s .args .mail .now) (s .pre) (l .made) (l .ending) (buffers (l .table) (pending (l .spent) (l .mail))) (l .inv .5 (c .before .before .before .before .before .loop-test .left)))
-
-same-length-3 : tie.Need-same-length-3 Inv-loop μ-loop
-same-length-3 c = c .before .before .loop .inv .0
-
-same-length-4 : tie.Need-same-length-4 Inv-loop μ-loop
-same-length-4 c = c .before .before .loop .inv .1
-
-returns-2 : tie.Need-returns-2 Inv-loop μ-loop
-returns-2 c =
-    let s = c .before .before .before .before .before in
-    let l = c .before .before .loop in
-    let all : pending (l .spent) (l .mail) ≡ l .mail = rw (c .if1 .left) (none-spent (l .mail) (l .inv .2 .kept)) in
-    rw (all) at (drained (s .args .limit) (s .args .table .now) (s .args .mail .now) (s .pre) (l .made) (l .ending) (buffers (l .table) (pending (l .spent) (l .mail))) (l .inv .5 (c .before .loop-test .left)))
+    rw (c .accepted .ensures, c .before .before .before .clear-spent .ensures) (drained (s .args .limit) (s .args .table .now) (s .args .mail .now) (s .pre) (l .made) (l .ending) (buffers (l .table) (pending (l .spent) (l .mail))) (l .inv .5 (c .before .before .before .before .before .loop-test .left)))
 
 pub deliver-all-spec : {M : Type 1} → statement M
 deliver-all-spec =
@@ -99,10 +90,8 @@ deliver-all-spec =
     take-turn-requires
     loop-less
     loop-again
-    remove-first-requires
+    clear-spent-requires
+    accepted-requires
     same-length
     same-length-2
-    returns
-    same-length-3
-    same-length-4
-    returns-2)
+    returns)
