@@ -28,7 +28,7 @@ isAccepted d = eqb (d .result .answer .refusal) 0
 abbrev pub drainOf : ℕ → Buffers → DrainResult
 drainOf limit b = drain limit (b .table) (b .mail)
 
--- on any two buffers a drain is its single deliveries: made one by one, as calls of their own, they leave the same, and all of them are accepted
+-- on any two buffers a drain is its single deliveries: made one by one, as calls of their own, they leave the same, and all of them are accepted: RULES 9.9
 pub record IsSteps (limit : ℕ) (b : Buffers) : Type 0 where
   pub made : drainOf limit b .answer .made ≡ length (drainSteps limit b)
   pub left : buffers (drainOf limit b .table) (drainOf limit b .mail) ≡ after b (map callOf (drainSteps limit b))
@@ -39,7 +39,7 @@ pub record IsSteps (limit : ℕ) (b : Buffers) : Type 0 where
 abbrev pub DrainIsSteps : Type 0
 DrainIsSteps = (limit : ℕ) (b : Buffers) → IsSteps limit b
 
--- whatever its limit, a drain makes at most as many deliveries as the formula says, and a limit above that never ends it: RULES 4.9
+-- whatever its limit, a drain makes at most as many deliveries as the formula says, and a limit above that never ends it: RULES 9.10
 pub record DrainEnds (c : Config) (b : Buffers) (limit : ℕ) : Type 0 where
   pub bounded : drainOf limit b .answer .made ≤ deliveryBound (c .sessions) (c .items) (Mail.countOf (b .mail))
   pub ends : deliveryBound (c .sessions) (c .items) (Mail.countOf (b .mail)) < limit → drainOf limit b .answer .ending ≢ limited

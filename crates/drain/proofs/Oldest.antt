@@ -1,16 +1,16 @@
 -- The delivery of the oldest entry: only room can hinder it, and the other entries are left.
 use mathlib.Core.Path.{_≡_, refl, sym, ap, _∙_}
-use mathlib.Core.Bool.{Bool, true, false, cond, not, _||_, false≢true, true≢false}
+use mathlib.Core.Bool.{Bool, true, false, _&&_, true≢false}
 use mathlib.Core.List.{List, _∷_, _++_, map}
 use mathlib.Core.Logic.{_⊎_, inl, inr, ⊎-elim}
 use Prim.Native.Nat.{ℕ, _+_, _≤_, _<_}
 use native.Mathlib.Omega.{arith}
-use lib.Dec.{eqb, leb}
-use lib.ListN.{length, drop}
+use lib.Dec.{eqb}
+use lib.ListN.{length, drop, length-map}
 use lib.Seq.{drop-cons}
 use borrow.Author.Tests.{eq-eqb, ne-eqb, eqb-true, eqb-false, leb-true, leb-false, lt-ltb, le-ltb}
 use Rattle.lists.specs.Lists.{findIndex, removeAt}
-use Rattle.lists.proofs.Tests.{by-answer}
+use Rattle.lists.proofs.Tests.{by-answer, and-both}
 use Rattle.message.specs.declared.Message.{Message}
 use Rattle.message.specs.Outbox as Outbox
 use Rattle.session.specs.Seniority.{senior}
@@ -34,8 +34,9 @@ use Rattle.step.specs.Step.{Plan, Formed, delivered, sessionActs, sessionPlan, 
 use Rattle.step.specs.Parts.{Judged, concluded}
 use Rattle.step.proofs.Acting.{acted-concluded, length-sent, deliverable, item-packed, juniors-whole}
 use Rattle.drain.specs.Oldest.{oldestActed}
-use Rattle.drain.specs.Parts.{pending, Due, Outcome, outcome, outcomeOf}
-use Rattle.drain.proofs.Spent.{left, entries-left, oldest-left}
+use Rattle.drain.specs.declared.Delivery.{Delivery}
+use Rattle.drain.specs.Parts.{pending, Spent, Due, fits, refusalOf, Way, Outcome, outcome, outcomeOf}
+use Rattle.drain.proofs.Spent.{left, entries-left, oldest-left, filled-spent, filled-left}
 
 -- what a step comes to that only room can hinder: p is what it plans
 module _ (t : ℕ) (table mail : List ℕ) (p : Plan) where
@@ -127,15 +128,6 @@ module _ (table mail : List ℕ) (f : Formed table mail) (some : 0 < countOf mai
       (λ q. rw (item-acts (eqb-true (oldest .direction) toItem q)) (by-room (oldest .session) table mail (to-item-plan oldest others table)))
       (λ q. rw (session-acts (eqb-false (oldest .direction) toItem q)) (by-room (oldest .session) table mail (to-session-plan oldest others table)))
 
--- 9 where there is no room, else 0; and both tests are passed where it does not stop
-abbrev pub refusalOf : Bool → ℕ
-refusalOf fit = cond fit 0 Refusal.mailFull
-
-pub goes-on : (fit allowed : Bool) → not (eqb (refusalOf fit) 0) || not allowed ≡ false → (fit ≡ true) × (allowed ≡ true)
-goes-on true true h = (refl, refl)
-goes-on true false h = absurd (true≢false h)
-goes-on false allowed h = absurd (true≢false h)
-
 -- the oldest entry that is not spent
 module _ (k : ℕ) (table mail : List ℕ) (due : Due k table mail) where
   abbrev due-entry : Entry
@@ -206,22 +198,35 @@ module _ (k : ℕ) (table mail : List ℕ) (due : Due k table mail) where
     same-capacity : capacityOf (pending k mail) ≡ capacityOf mail
     same-capacity = left k mail (due .kept) .capacity
 
-    told-full : leb (length others-due + n) (capacityOf mail) ≡ false → (allowed : Bool) → outcome Refusal.mailFull table (pending k mail) ≡ told allowed
+    -- it stops where there is no room or it is not allowed
+    told-full : fits (k + 1) n mail ≡ false → (allowed : Bool) → outcome Refusal.mailFull table (pending k mail) ≡ told allowed
     told-full e = no-room (due-entry .session) table (pending k mail) planned (rw (same-capacity) (lt-ltb (capacityOf mail) (length (others-due ++ map f l)) (omega (arith, length-sent others-due f l, leb-false (length others-due + n) (capacityOf mail) e, few))))
 
-    module _ (e : leb (length others-due + n) (capacityOf mail) ≡ true) where
-      fits : overfull (capacityOf (pending k mail)) (others-due ++ map f l) ≡ false
-      fits = rw (same-capacity) (le-ltb (capacityOf mail) (length (others-due ++ map f l)) (omega (arith, length-sent others-due f l, leb-true (length others-due + n) (capacityOf mail) e, few)))
+    room-left : fits (k + 1) n mail ≡ true → overfull (capacityOf (pending k mail)) (others-due ++ map f l) ≡ false
+    room-left e = rw (same-capacity) (le-ltb (capacityOf mail) (length (others-due ++ map f l)) (omega (arith, length-sent others-due f l, leb-true (length others-due + n) (capacityOf mail) e, few)))
 
-      told-judged : outcome 0 table (pending k mail) ≡ told false
-      told-judged = only-judged (due-entry .session) table (pending k mail) planned fits
+    by-tests : (fit allowed : Bool) → fits (k + 1) n mail ≡ fit → fit && allowed ≡ false → outcome (refusalOf fit) table (pending k mail) ≡ told allowed
+    by-tests false allowed e h = told-full e allowed
+    by-tests true false e h = only-judged (due-entry .session) table (pending k mail) planned (room-left e)
+    by-tests true true e h = absurd (true≢false h)
 
-      pub told-made : outcome 0 after (mailBytes (capacityOf mail) (others-due ++ map f l)) ≡ told true
-      told-made = ap (λ (C : ℕ). outcome 0 after (mailBytes C (others-due ++ map f l))) (sym same-capacity) ∙ made (due-entry .session) table (pending k mail) planned fits
+    module _ (allowed : Bool) (d : Delivery) (mail′ : List ℕ) (way : Way k n allowed d mail mail′) where
+      pub told-stopped : d .made ≡ false → Spent (d .spent) mail′ × (outcome (d .refusal) table (pending (d .spent) mail′) ≡ told allowed)
+      told-stopped e =
+          let s = way .stays e in
+          rw (way .refusal, s .0, s .1) (record { kept = due .kept; few = omega (arith, due .inside) }, by-tests (fits (k + 1) n mail) allowed refl (sym (way .made) ∙ e))
 
-    -- it stops where there is no room or it is not allowed
-    pub told-stopped : (fit allowed : Bool) → leb (length others-due + n) (capacityOf mail) ≡ fit → not (eqb (refusalOf fit) 0) || not allowed ≡ true
-        → outcome (refusalOf fit) table (pending k mail) ≡ told allowed
-    told-stopped false allowed e h = told-full e allowed
-    told-stopped true false e h = told-judged e
-    told-stopped true true e h = absurd (false≢true h)
+      both : d .made ≡ true → (fits (k + 1) n mail ≡ true) × (allowed ≡ true)
+      both e = and-both (fits (k + 1) n mail) allowed (sym (way .made) ∙ e)
+
+      -- or what is sent is added, and the record written
+      pub told-made : d .made ≡ true → {filled : List ℕ} → filled ≡ mailBytes (capacityOf mail′) (entriesOf mail′ ++ map f l)
+          → Spent (d .spent) filled × (outcome (d .refusal) after (pending (d .spent) filled) ≡ told allowed)
+      told-made e q =
+          let p = way .placed e in
+          let b = both e in
+          let count : length (map f l) ≡ n = length-map l f ∙ sym few in (
+            filled-spent (k + 1) n (d .spent) mail mail′ p (map f l) count q,
+            rw (way .refusal, b .0, b .1, filled-left (k + 1) n (d .spent) mail mail′ p (map f l) count q)
+                (ap (λ (C : ℕ). outcome 0 after (mailBytes C (others-due ++ map f l))) (sym same-capacity) ∙ made (due-entry .session) table (pending k mail) planned (room-left (b .0))),
+          )

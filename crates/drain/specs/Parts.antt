@@ -2,11 +2,14 @@
 -- Entries that a drain has delivered, spent ones, stand at the front of the mailbox until they go out all at once.
 use Prim.Native.Nat.{ℕ, _+_, _≤_, _<_}
 use mathlib.Core.Path.{_≡_}
-use mathlib.Core.Bool.{Bool, cond}
+use mathlib.Core.Bool.{Bool, true, false, cond, _&&_}
 use mathlib.Core.List.{List}
-use lib.ListN.{drop}
+use lib.Dec.{leb}
+use lib.ListN.{length, drop}
 use Rattle.mailbox.specs.Layout.{capacityOf, countOf, entriesOf, mailBytes, Kept}
+use Rattle.step.specs.Refusal.{mailFull}
 use Rattle.step.specs.Step.{Stepped, Formed}
+use Rattle.drain.specs.declared.Delivery.{Delivery}
 
 -- the mailbox without its first k entries
 abbrev pub pending : ℕ → List ℕ → List ℕ
@@ -29,6 +32,21 @@ pub record Placed (j n k : ℕ) (before after : List ℕ) : Type 0 where
   pub capacity : capacityOf after ≡ capacityOf before
   pub entries : drop k (entriesOf after) ≡ drop j (entriesOf before)
   pub free : countOf after + n ≤ capacityOf after
+
+-- n entries more have room without the first k
+abbrev pub fits : ℕ → ℕ → List ℕ → Bool
+fits k n mail = leb (length (drop k (entriesOf mail)) + n) (capacityOf mail)
+
+-- 9 where they have none, else 0
+abbrev pub refusalOf : Bool → ℕ
+refusalOf fit = cond fit 0 mailFull
+
+-- the delivery of entry k, which sends n messages, is made if they have room and it is allowed
+pub record Way (k n : ℕ) (allowed : Bool) (d : Delivery) (before after : List ℕ) : Type 0 where
+  pub refusal : d .refusal ≡ refusalOf (fits (k + 1) n before)
+  pub made : d .made ≡ fits (k + 1) n before && allowed
+  pub stays : d .made ≡ false → (after ≡ before) × (d .spent ≡ k)
+  pub placed : d .made ≡ true → Placed (k + 1) n (d .spent) before after
 
 -- what a delivery is refused with, or 0, and what it leaves, without the spent entries
 pub record Outcome : Type 0 where

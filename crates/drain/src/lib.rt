@@ -1,35 +1,34 @@
 // One delivery of a drain, on buffers that were judged. Entries that the drain has delivered, spent ones, stand at the front of the mailbox until they go out all at once.
 use step::Answer;
 ghost use mathlib.Core.Path.{_≡_};
-ghost use mathlib.Core.Bool.{cond};
+ghost use mathlib.Core.Bool.{true};
 ghost use Prim.Native.Nat.{_+_, _≤_};
-ghost use lib.Dec.{leb};
-ghost use lib.ListN.{length, drop};
+ghost use lib.ListN.{drop};
 ghost use Rattle.message.specs.Outbox.{room};
 ghost use Rattle.session.specs.Seniority.{senior};
 ghost use Rattle.session.specs.Rules as SessionRules;
 ghost use Rattle.item.specs.NextHolder.{nextHolder};
 ghost use Rattle.item.specs.Rules as ItemRules;
 ghost use Rattle.mailbox.specs.Entry.{seenByItem, seenBySession};
-ghost use Rattle.mailbox.specs.Layout.{capacityOf, entriesOf, entryAt};
+ghost use Rattle.mailbox.specs.Layout.{entriesOf, entryAt};
 ghost use Rattle.table.specs.Layout.{session};
 ghost use Rattle.waits.specs.OnTable.{locks};
-ghost use Rattle.step.specs.Refusal.{mailFull};
 ghost use Rattle.step.specs.Step.{sessionPlan, itemPlan};
 ghost use Rattle.step.specs.Parts.{concluded};
 ghost use Rattle.drain.specs.Oldest.{oldestActed};
-ghost use Rattle.drain.specs.Parts.{pending, Spent, Due, Placed, outcome, outcomeOf};
+ghost use Rattle.drain.specs.Parts.{pending, Spent, Due, Placed, fits, refusalOf, Way, outcome, outcomeOf};
 
-// What a delivery is refused with, or 0, and how many entries are spent after it.
+// What a delivery is refused with, or 0, whether it is made, and how many entries are spent after it.
 pub struct Delivery {
     pub refusal: u8,
+    pub made: bool,
     pub spent: usize,
 }
 
 // What is answered where n entries more are to have room once the first k are out: 9, or 0.
 fn room_refusal(mail: &[u8], k: usize, n: usize) -> u8
     requires { ⌜ Spent k (now mail) × (n ≤ room) ⌝ }
-    ensures { λ r. ⌜ r ≡ cond (leb (length (drop k (entriesOf (now (mail .entry)))) + n) (capacityOf (now (mail .entry)))) 0 mailFull ⌝ }
+    ensures { λ r. ⌜ r ≡ refusalOf (fits k n (now (mail .entry))) ⌝ }
 {
     if mailbox::count(mail) - k + n <= mailbox::capacity(mail) {
         return 0;
@@ -39,7 +38,7 @@ fn room_refusal(mail: &[u8], k: usize, n: usize) -> u8
 
 // Makes places for n entries more: the first k, which are spent, go out where the free places are too few. How many are spent after.
 fn make_places(mail: &mut [u8], k: usize, n: usize) -> usize
-    requires { ⌜ Spent k (now mail) × (n ≤ room) × (length (drop k (entriesOf (now mail))) + n ≤ capacityOf (now mail)) ⌝ }
+    requires { ⌜ Spent k (now mail) × (n ≤ room) × (fits k n (now mail) ≡ true) ⌝ }
     ensures { λ r. ⌜ Placed k n r (now (mail .entry)) (now (mail .exit)) ⌝ }
 {
     if mailbox::count(mail) + n <= mailbox::capacity(mail) {
@@ -49,6 +48,27 @@ fn make_places(mail: &mut [u8], k: usize, n: usize) -> usize
     0
 }
 
+// Judges whether the n messages that the delivery of entry k sends have room. If they do and it is allowed, makes places for them.
+fn make_way(mail: &mut [u8], k: usize, n: usize, allowed: bool) -> Delivery
+    requires { ⌜ Spent (k + 1) (now mail) × (n ≤ room) ⌝ }
+    ensures { λ r. ⌜ Way k n allowed r (now (mail .entry)) (now (mail .exit)) ⌝ }
+{
+    let refusal = room_refusal(mail, k + 1, n);
+    if (refusal != 0) | !allowed {
+        return Delivery {
+            refusal,
+            made: false,
+            spent: k,
+        };
+    }
+    let spent = make_places(mail, k + 1, n);
+    Delivery {
+        refusal: 0,
+        made: true,
+        spent,
+    }
+}
+
 // Delivers entry k, the oldest that is not spent, to session t.
 fn deliver_to_session(t: u8, k: usize, allowed: bool, table: &mut [u8], mail: &mut [u8]) -> Delivery
     requires { ⌜ Due k (now table) (now mail) × (t ≡ entryAt (now mail) k .session) ⌝ }
@@ -56,15 +76,13 @@ fn deliver_to_session(t: u8, k: usize, allowed: bool, table: &mut [u8], mail: &m
         ≡ outcomeOf allowed (now (table .entry)) (pending k (now (mail .entry))) (concluded t (now (table .entry)) (pending k (now (mail .entry))) (sessionPlan t (now (table .entry)) (drop (k + 1) (entriesOf (now (mail .entry)))) (SessionRules.received senior t (session (now (table .entry)) t) (seenBySession (entryAt (now (mail .entry)) k)))))) ⌝ }
 {
     let r = table::session(table, t).receive(t, mailbox::message_to_session(mail, k));
-    let sent = r.outbox.n;
-    let refusal = room_refusal(mail, k + 1, sent);
-    if (refusal != 0) | !allowed {
-        return Delivery { refusal, spent: k };
+    let d = make_way(mail, k, r.outbox.n, allowed);
+    if !d.made {
+        return d;
     }
-    let spent = make_places(mail, k + 1, sent);
     mailbox::post(mail, mailbox::TO_ITEM, t, r.outbox);
     table::put_session(table, t, r.session);
-    Delivery { refusal: 0, spent }
+    d
 }
 
 // Delivers entry k, the oldest that is not spent, to item x; t is the session that sent it.
@@ -74,15 +92,13 @@ fn deliver_to_item(x: u8, k: usize, allowed: bool, table: &mut [u8], mail: &mut 
         ≡ outcomeOf allowed (now (table .entry)) (pending k (now (mail .entry))) (concluded (entryAt (now (mail .entry)) k .session) (now (table .entry)) (pending k (now (mail .entry))) (itemPlan x (now (table .entry)) (drop (k + 1) (entriesOf (now (mail .entry)))) (ItemRules.received senior nextHolder (locks (now (table .entry)) x) (seenByItem (entryAt (now (mail .entry)) k)))))) ⌝ }
 {
     let r = table::item(table, x).receive(mailbox::message_to_item(mail, k));
-    let sent = r.outbox.n;
-    let refusal = room_refusal(mail, k + 1, sent);
-    if (refusal != 0) | !allowed {
-        return Delivery { refusal, spent: k };
+    let d = make_way(mail, k, r.outbox.n, allowed);
+    if !d.made {
+        return d;
     }
-    let spent = make_places(mail, k + 1, sent);
     mailbox::post(mail, mailbox::TO_SESSION, x, r.outbox);
     table::put_item(table, x, r.item);
-    Delivery { refusal: 0, spent }
+    d
 }
 
 // Delivers entry k, the oldest that is not spent. Where it is not allowed, only what it would be refused with is judged.

@@ -1,8 +1,10 @@
 -- There are places enough, or the spent entries go out.
 use mathlib.Core.Path.{refl}
 use native.Mathlib.Omega.{arith}
-use lib.ListN.{length-drop}
-use Rattle.mailbox.specs.Layout.{entriesOf}
+use Prim.Native.Nat.{_+_}
+use lib.ListN.{length, drop, length-drop}
+use borrow.Author.Tests.{leb-true}
+use Rattle.mailbox.specs.Layout.{capacityOf, entriesOf}
 use Rattle.mailbox.proofs.Laws.{kept-length, length-entries}
 use Rattle.drain.proofs.Spent.{left}
 use borrow.Author.Needs.{needs}
@@ -48,7 +50,7 @@ returns-2 c =
       spent = record { kept = l .kept; few = omega arith };
       capacity = l .capacity;
       entries = l .entries;
-      free = omega (arith, l .count, l .capacity, s .pre .2, length-drop (s .args .k) (entriesOf m), length-entries m);
+      free = omega (arith, l .count, l .capacity, leb-true (length (drop (s .args .k) (entriesOf m)) + s .args .n) (capacityOf m) (s .pre .2), length-drop (s .args .k) (entriesOf m), length-entries m);
     })
 
 pub make-places-spec : {M : Type 1} → statement M

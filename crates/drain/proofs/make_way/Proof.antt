@@ -1,0 +1,66 @@
+-- The two tests, and the places.
+use mathlib.Core.Path.{_≡_, refl}
+use mathlib.Core.Bool.{Bool, true, false, not, _&&_, _||_, true≢false, false≢true}
+use Prim.Native.Nat.{_+_}
+use native.Mathlib.Omega.{arith}
+use lib.Dec.{eqb}
+use Rattle.drain.specs.Parts.{fits, refusalOf}
+use borrow.Author.Needs.{needs}
+use Rattle.drain.proofs.make_way.Statement.{statement}
+use Rattle.drain.proofs.make_way.Tie as tie
+
+stops : (fit allowed : Bool) → not (eqb (refusalOf fit) 0) || not allowed ≡ true → false ≡ fit && allowed
+stops false allowed h = refl
+stops true false h = refl
+stops true true h = absurd (false≢true h)
+
+goes-on : (fit allowed : Bool) → not (eqb (refusalOf fit) 0) || not allowed ≡ false → (fit ≡ true) × (allowed ≡ true)
+goes-on true true h = (refl, refl)
+goes-on true false h = absurd (true≢false h)
+goes-on false allowed h = absurd (true≢false h)
+
+-- both tests are passed
+passed : (c : tie.Else1) → (fits (c .before .before .before .before .args .k + 1) (c .before .before .before .before .args .n) (c .before .before .before .before .args .mail .now) ≡ true) × (c .before .before .before .before .args .allowed ≡ true)
+passed c = let s = c .before .before .before .before in goes-on (fits (s .args .k + 1) (s .args .n) (s .args .mail .now)) (s .args .allowed) (rw (c .before .room-refusal .ensures) at (c .if1 .left))
+
+add-room-refusal : tie.Need-add-room-refusal
+add-room-refusal c = let s = c .before .before in omega (arith, s .pre .0 .few, s .pre .0 .kept .fits, s .pre .0 .kept .high)
+
+room-refusal-requires : tie.Need-room-refusal-requires
+room-refusal-requires c κs = let s = c .before .before in (s .pre .0, s .pre .1)
+
+same-length : tie.Need-same-length
+same-length c = search needs
+
+returns : tie.Need-returns
+returns c =
+    let s = c .before .before .before .before in
+    let e = c .before .room-refusal .ensures in
+    record {
+      refusal = e;
+      made = stops (fits (s .args .k + 1) (s .args .n) (s .args .mail .now)) (s .args .allowed) (rw (e) at (c .if1 .taken));
+      stays = λ _. (refl, refl);
+      placed = λ q. absurd (false≢true q);
+    }
+
+add-make-places : tie.Need-add-make-places
+add-make-places c = let s = c .before .before .before .before .before in omega (arith, s .pre .0 .few, s .pre .0 .kept .fits, s .pre .0 .kept .high)
+
+make-places-requires : tie.Need-make-places-requires
+make-places-requires c κs = let s = c .before .before .before .before .before in (s .pre .0, s .pre .1, passed (c .before) .0)
+
+same-length-2 : tie.Need-same-length-2
+same-length-2 c = search needs
+
+returns-2 : tie.Need-returns-2
+returns-2 c =
+    let p = passed (c .before .before .before .before) in
+    record {
+      refusal = rw (p .0) refl;
+      made = rw (p .0, p .1) refl;
+      stays = λ q. absurd (true≢false q);
+      placed = λ _. c .before .before .make-places .ensures;
+    }
+
+pub make-way-spec : {M : Type 1} → statement M
+make-way-spec = tie.close (tie.spec add-room-refusal room-refusal-requires same-length returns add-make-places make-places-requires same-length-2 returns-2)
