@@ -1,12 +1,16 @@
 /*
  * Two sessions lock two items in opposite order, come to wait for each other,
- * and are led out of it again. Each edits the items that it is granted; the
- * victim's edit is undone while it withdraws. Every answer is checked; the exit
- * status is 0 if all are as expected.
+ * and are led out of it again. How the cycle closes and is found is shown by
+ * single deliveries; for the rest the mail is drained. Each session edits the
+ * items that it is granted; the victim's edit is undone after the drain that
+ * rolls it back, before the other session goes on. Every answer is checked; the
+ * exit status is 0 if all are as expected.
  */
 #include "lockmgr.h"
 
+#include <inttypes.h>
 #include <stdio.h>
+#include <string.h>
 
 enum { SESSIONS = 2, ITEMS = 2 };
 
@@ -35,10 +39,6 @@ typedef struct {
 static const script_step first_locks[] = {
     {REQUEST, 1, 1, {0, 1, 0, 0, 0}, "Session 1 waits for the answer of item 1."},
     {REQUEST, 2, 2, {0, 1, 0, 0, 0}, "Session 2 waits for the answer of item 2."},
-    {TO_ITEM, 1, 1, {0, 1, 0, 0, 0}, "Item 1 is free: session 1 becomes its holder, a grant goes back."},
-    {TO_ITEM, 2, 2, {0, 1, 0, 0, 0}, "Item 2 is free: session 2 becomes its holder, a grant goes back."},
-    {TO_SESSION, 1, 1, {0, 0, 0, 0, 0}, "Session 1 holds item 1."},
-    {TO_SESSION, 2, 2, {0, 0, 0, 0, 0}, "Session 2 holds item 2."},
 };
 
 static const script_step into_the_cycle[] = {
@@ -60,28 +60,6 @@ static const script_step found[] = {
      "Item 1 declares session 2, the most junior on the way, the victim."},
 };
 
-static const script_step out_of_the_cycle[] = {
-    {TO_SESSION, 2, 1, {0, 1, 0, 0, 0},
-     "Session 2 learns that it is the victim. It sends a clean around the cycle,\n"
-     "which removes the probes that are stored there."},
-    {TO_ITEM, 2, 1, {0, 1, 0, 0, 0}, "Item 1 passes the clean on to its holder, session 1."},
-    {TO_SESSION, 1, 1, {0, 1, 0, 0, 0},
-     "Session 1 drops its stored probes and passes the clean on to item 2."},
-    {TO_ITEM, 1, 2, {0, 2, 0, 0, 0},
-     "Item 2 passes the clean on to its holder, session 2, and probes anew for\n"
-     "session 1, which still waits here."},
-    {TO_SESSION, 2, 2, {0, 1, 0, 0, 0},
-     "The clean is back at the victim, which now withdraws from the wait queue.\n"
-     "This is the moment to undo what it has changed."},
-    {TO_SESSION, 2, 2, {0, 0, 0, 0, 0}, "A victim has no use for the new probe: dropped."},
-    {TO_ITEM, 2, 1, {0, 1, 0, 0, 0}, "Session 2 leaves the wait queue of item 1, which confirms it."},
-    {TO_SESSION, 2, 1, {0, 1, 0, 0, 0},
-     "Session 2 releases all that it holds, item 2, and is rolled back."},
-    {TO_ITEM, 2, 2, {0, 1, 0, 0, 0},
-     "Item 2 goes to the most senior session in its wait queue: session 1 becomes its holder."},
-    {TO_SESSION, 1, 2, {0, 0, 0, 0, 0}, "Session 1 holds both items. The mail is empty."},
-};
-
 /* clang-format on */
 
 #define PLAY(script) play(script, sizeof script / sizeof script[0])
@@ -98,28 +76,15 @@ static unsigned place_of(unsigned direction, unsigned session, unsigned item)
     return place;
 }
 
-/* A delivery, and what follows for the edits. */
 static lockmgr_answer deliver(unsigned direction, unsigned session, unsigned item)
 {
-    unsigned k, place = place_of(direction, session, item);
+    unsigned place = place_of(direction, session, item);
     lockmgr_delivery d = lockmgr_deliver(place, table, sizeof table, mail, sizeof mail);
     const char *kind = lockmgr_kind_text(d.message.kind);
     if (direction == LOCKMGR_TO_ITEM)
         printf("the %s of session %u reaches item %u\n", kind, session, item);
     else
         printf("the %s of item %u reaches session %u\n", kind, item, session);
-    if (d.event == LOCKMGR_EVENT_GRANTED) {
-        catalogue[item] = session;
-        printf("      (session %u edits item %u)\n", session, item);
-    }
-    if (d.event == LOCKMGR_EVENT_UNDO) {
-        for (k = 1; k <= ITEMS; k++) {
-            if (catalogue[k] == session) {
-                catalogue[k] = 0;
-                printf("      (the edit of item %u by session %u is undone)\n", k, session);
-            }
-        }
-    }
     return d.answer;
 }
 
@@ -170,13 +135,19 @@ static int same(lockmgr_answer one, lockmgr_answer other)
            one.victim == other.victim && one.initiator == other.initiator;
 }
 
-static void play(const script_step *script, size_t length)
+/* Steps and drains are numbered as they come. */
+static void print_number(void)
 {
     static unsigned number;
+    printf("%4u  ", ++number);
+}
+
+static void play(const script_step *script, size_t length)
+{
     size_t k;
     for (k = 0; k < length; k++) {
         lockmgr_answer answer;
-        printf("%4u  ", ++number);
+        print_number();
         answer = make(&script[k]);
         print_indented(script[k].meaning);
         printf("      -> ");
@@ -189,12 +160,57 @@ static void play(const script_step *script, size_t length)
     }
 }
 
-static void expect(const char *what, unsigned found_value, unsigned expected)
+static void expect(const char *what, uint64_t found_value, uint64_t expected)
 {
     if (found_value != expected) {
-        printf("      EXPECTED: %s %u, not %u\n", what, expected, found_value);
+        printf("      EXPECTED: %s %" PRIu64 ", not %" PRIu64 "\n", what, expected, found_value);
         differences++;
     }
+}
+
+static void undo_edits(unsigned session)
+{
+    unsigned item;
+    for (item = 1; item <= ITEMS; item++) {
+        if (catalogue[item] == session) {
+            catalogue[item] = 0;
+            printf("      (the edit of item %u by session %u is undone)\n", item, session);
+        }
+    }
+}
+
+static void edit(unsigned session, unsigned item)
+{
+    catalogue[item] = session;
+    printf("      (session %u edits item %u)\n", session, item);
+}
+
+/* Empties the mail. Who was rolled back and who was granted an item is seen by
+ * the stages before and after, and the undoing comes first. */
+static void drain(unsigned deliveries, const char *meaning)
+{
+    uint8_t before[sizeof table];
+    lockmgr_drained drained;
+    unsigned session;
+    memcpy(before, table, sizeof table);
+    drained = lockmgr_drain(UINT64_MAX, table, sizeof table, mail, sizeof mail);
+    print_number();
+    printf("drain\n");
+    print_indented(meaning);
+    printf("      -> %s, %" PRIu64 " delivered, ending: %s\n",
+           lockmgr_refusal_text(drained.refusal), drained.made,
+           lockmgr_ending_text(drained.ending));
+    expect("refusal of the drain", drained.refusal, LOCKMGR_ACCEPTED);
+    expect("deliveries", drained.made, deliveries);
+    expect("ending of the drain", drained.ending, LOCKMGR_DRAIN_EMPTY);
+    for (session = 1; session <= SESSIONS; session++)
+        if (lockmgr_stage(before, session) != LOCKMGR_ROLLED_BACK &&
+            lockmgr_stage(table, session) == LOCKMGR_ROLLED_BACK)
+            undo_edits(session);
+    for (session = 1; session <= SESSIONS; session++)
+        if (lockmgr_stage(before, session) == LOCKMGR_WAITING &&
+            lockmgr_stage(table, session) == LOCKMGR_GROWING)
+            edit(session, lockmgr_awaited(before, session));
 }
 
 /* What the reports say, and where the sessions are. */
@@ -226,6 +242,7 @@ int main(void)
 
     printf("\nEach session locks an item\n\n");
     PLAY(first_locks);
+    drain(4, "Both requests arrive. The items are free: each sends its session a grant.");
     look(0, LOCKMGR_GROWING, LOCKMGR_GROWING);
 
     printf("\nEach wants the other's item: a cycle\n\n");
@@ -236,7 +253,10 @@ int main(void)
     PLAY(found);
 
     printf("\nThe victim is rolled back\n\n");
-    PLAY(out_of_the_cycle);
+    drain(10, "Session 2 learns that it is the victim. It sends a clean around the cycle,\n"
+              "which removes the probes that are stored there. When the clean is back,\n"
+              "session 2 leaves the wait queue of item 1, releases item 2 and is rolled\n"
+              "back. Item 2 goes to session 1, which holds both items now.");
     look(0, LOCKMGR_GROWING, LOCKMGR_ROLLED_BACK);
     expect("messages left:", lockmgr_mail_count(mail), 0);
     expect("session 1 holds item 1:", lockmgr_holds(table, 1, 1) ? 1 : 0, 1);

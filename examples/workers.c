@@ -5,10 +5,12 @@
  *
  *     workers [SECONDS [SEED]]
  *
- * One mutex guards the lock manager. Whoever makes a call holds it, delivers
- * all mail before letting it go, and so finds the mail empty at the next call
- * (rule 1 of the header). A worker that waits for a grant sleeps on a
- * condition. The items themselves are guarded by their locks alone.
+ * One mutex guards the lock manager. Whoever makes a call holds it, drains the
+ * mail and undoes what victims have edited before letting it go. So the mail is
+ * empty at every call (rule 1 of the header), and nobody learns of a grant
+ * before the item is as it should be. A worker that waits sleeps on a condition
+ * and looks at the stage of its session. The items themselves are guarded by
+ * their locks alone.
  *
  * The exit status is 0 if no two sessions ever edited an item at once and the
  * catalogue has in the end exactly what was committed.
@@ -19,6 +21,7 @@
 #include <sched.h>
 #include <stdio.h>
 #include <stdlib.h>
+#include <string.h>
 #include <time.h>
 
 enum { WORKERS = 6, SESSIONS = LOCKMGR_MAX_SESSIONS, ITEMS = 8, LOCKS = 3 };
@@ -28,9 +31,9 @@ static pthread_mutex_t mutex = PTHREAD_MUTEX_INITIALIZER;
 static pthread_cond_t changed = PTHREAD_COND_INITIALIZER;
 static uint8_t table[LOCKMGR_TABLE_SIZE(SESSIONS, ITEMS)];
 static uint8_t mail[LOCKMGR_MAIL_SIZE(LOCKMGR_CAPACITY(SESSIONS, ITEMS))];
-static unsigned news[SESSIONS + 1]; /* enum lockmgr_event of each session */
+static uint8_t before[sizeof table]; /* the table before the last call */
 static unsigned sessions_used, workers_started;
-static unsigned closed, rolled_back, committed, overlaps;
+static unsigned rolled_back, committed, overlaps;
 static unsigned expected[ITEMS + 1]; /* committed edits of each item */
 
 /* The catalogue. An item belongs to the session that holds its lock. */
@@ -39,18 +42,19 @@ static struct {
     unsigned editor; /* the session that edits it, or 0 */
 } catalogue[ITEMS + 1];
 
-static void fail(const char *what, unsigned refusal)
+static void fail(const char *what, const char *why)
 {
-    printf("%s: %s\n", what, lockmgr_refusal_text(refusal));
+    printf("%s: %s\n", what, why);
     exit(1);
 }
 
-/* Takes back what a victim has edited. The items are still its own. */
+/* Takes back what a victim has edited: all that it held before the call. Nobody
+ * who holds these items now knows it yet. */
 static void undo(unsigned session)
 {
     unsigned item;
     for (item = 1; item <= ITEMS; item++) {
-        if (lockmgr_holds(table, session, item)) {
+        if (lockmgr_holds(before, session, item)) {
             if (catalogue[item].editor != session)
                 overlaps++;
             catalogue[item].edits--;
@@ -59,23 +63,27 @@ static void undo(unsigned session)
     }
 }
 
-/* A request or a release, and all deliveries that follow. Holds the mutex. */
+/* A request or a release, and all that follows. Holds the mutex. */
 static void perform(unsigned verb, unsigned session, unsigned item)
 {
-    lockmgr_answer answer =
-        lockmgr_step(verb, session, item, table, sizeof table, mail, sizeof mail);
+    lockmgr_answer answer;
+    lockmgr_drained drained;
+    unsigned other;
+    memcpy(before, table, sizeof table);
+    answer = lockmgr_step(verb, session, item, table, sizeof table, mail, sizeof mail);
     if (answer.refusal != LOCKMGR_ACCEPTED)
-        fail(lockmgr_verb_text(verb), answer.refusal);
-    while (lockmgr_mail_count(mail) > 0) {
-        lockmgr_delivery d = lockmgr_deliver(0, table, sizeof table, mail, sizeof mail);
-        if (d.answer.refusal != LOCKMGR_ACCEPTED)
-            fail("delivery", d.answer.refusal);
-        closed += d.answer.closed;
-        if (d.event == LOCKMGR_EVENT_UNDO)
-            undo(d.message.session);
-        else if (d.event != LOCKMGR_EVENT_NONE)
-            news[d.message.session] = d.event;
-        rolled_back += d.event == LOCKMGR_EVENT_ROLLED_BACK;
+        fail(lockmgr_verb_text(verb), lockmgr_refusal_text(answer.refusal));
+    drained = lockmgr_drain(UINT64_MAX, table, sizeof table, mail, sizeof mail);
+    if (drained.refusal != LOCKMGR_ACCEPTED)
+        fail("drain", lockmgr_refusal_text(drained.refusal));
+    if (drained.ending != LOCKMGR_DRAIN_EMPTY)
+        fail("drain", lockmgr_ending_text(drained.ending));
+    for (other = 1; other <= sessions_used; other++) {
+        if (lockmgr_stage(before, other) != LOCKMGR_ROLLED_BACK &&
+            lockmgr_stage(table, other) == LOCKMGR_ROLLED_BACK) {
+            undo(other);
+            rolled_back++;
+        }
     }
     pthread_cond_broadcast(&changed);
 }
@@ -83,15 +91,13 @@ static void perform(unsigned verb, unsigned session, unsigned item)
 /* Waits for an item: 1 if it was granted, 0 if the session was rolled back. */
 static int lock_item(unsigned session, unsigned item)
 {
-    unsigned event;
+    unsigned stage;
     pthread_mutex_lock(&mutex);
-    news[session] = LOCKMGR_EVENT_NONE;
     perform(LOCKMGR_REQUEST, session, item);
-    while (news[session] == LOCKMGR_EVENT_NONE)
+    while ((stage = lockmgr_stage(table, session)) == LOCKMGR_WAITING)
         pthread_cond_wait(&changed, &mutex);
-    event = news[session];
     pthread_mutex_unlock(&mutex);
-    return event == LOCKMGR_EVENT_GRANTED;
+    return stage == LOCKMGR_GROWING;
 }
 
 /* Edits an item whose lock the session holds; how often another was there. */
@@ -181,7 +187,7 @@ static void run(void)
     unsigned k;
     uint8_t refusal = lockmgr_start_with(&options, table, sizeof table, mail, sizeof mail);
     if (refusal != LOCKMGR_ACCEPTED)
-        fail("start", refusal);
+        fail("start", lockmgr_refusal_text(refusal));
     sessions_used = 0;
     for (k = 0; k < WORKERS; k++) {
         if (pthread_create(&threads[k], NULL, work, NULL) != 0) {
@@ -206,8 +212,8 @@ int main(int argc, char **argv)
         for (item = 1; item <= ITEMS; item++)
             wrong += catalogue[item].edits != expected[item] || catalogue[item].editor != 0;
     } while (wrong == 0 && time(NULL) < end);
-    printf("%u runs of %d workers: %u transactions committed, %u deadlocks, %u rolled back\n", runs,
-           WORKERS, committed, closed, rolled_back);
+    printf("%u runs of %d workers: %u transactions committed, %u rolled back\n", runs, WORKERS,
+           committed, rolled_back);
     printf("%u overlaps, %u wrong items\n", overlaps, wrong);
-    return overlaps || wrong || closed != rolled_back;
+    return overlaps || wrong;
 }

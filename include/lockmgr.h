@@ -6,7 +6,7 @@
  * session there. Sessions and items talk only by messages, which stand in a
  * mailbox until you deliver them. When sessions come to wait for each other in
  * a cycle, probes find it: the most junior session of the cycle, the victim, is
- * rolled back and gives up everything that it holds. You call three functions
+ * rolled back and gives up everything that it holds. You call four functions
  * on numbers and two byte buffers. The library allocates nothing, keeps nothing
  * between calls, does no input or output and starts no threads.
  *
@@ -27,8 +27,10 @@
  *      release, or one message is delivered. Every call names one session and
  *      one item. lockmgr_deliver is a step that delivers and says what that
  *      meant for the session.
- *   4. lockmgr_report tells, at any time, whether a session lies on a cycle.
- *   5. There is no call to end it: drop the buffers, or start again on them.
+ *   4. lockmgr_drain delivers, oldest first, until the mail is empty, in one
+ *      call.
+ *   5. lockmgr_report tells, at any time, whether a session lies on a cycle.
+ *   6. There is no call to end it: drop the buffers, or start again on them.
  *
  * Sessions and items are numbered from 1. Session 1 is the most senior, the
  * session with the highest number the most junior. Seniority decides two
@@ -41,18 +43,17 @@
  *   uint8_t mail[LOCKMGR_MAIL_SIZE(LOCKMGR_CAPACITY(2, 3))];
  *   lockmgr_options options = lockmgr_default_options(2, 3);
  *   lockmgr_answer answer;
- *   lockmgr_delivery delivery;
+ *   lockmgr_drained drained;
  *
  *   if (lockmgr_start_with(&options, table, sizeof table, mail, sizeof mail) != 0)
  *       ...
  *   // Session 1 asks for item 3: the request goes into the mail.
  *   answer = lockmgr_step(LOCKMGR_REQUEST, 1, 3,
  *                         table, sizeof table, mail, sizeof mail);
- *   // The request reaches item 3, which is free and answers with a grant.
- *   delivery = lockmgr_deliver(0, table, sizeof table, mail, sizeof mail);
- *   // The grant reaches session 1, which holds item 3 from now on.
- *   delivery = lockmgr_deliver(0, table, sizeof table, mail, sizeof mail);
- *   if (delivery.event == LOCKMGR_EVENT_GRANTED)
+ *   // The request reaches item 3, which is free and answers with a grant. The
+ *   // grant reaches session 1, which holds item 3 from now on.
+ *   drained = lockmgr_drain(UINT64_MAX, table, sizeof table, mail, sizeof mail);
+ *   if (lockmgr_holds(table, 1, 3))
  *       ...
  *
  *
@@ -97,12 +98,17 @@
  * LOCKMGR_SHRINKING to LOCKMGR_GROWING.
  *
  * When to undo. What a session has changed in the items that it holds is yours
- * to undo if it becomes a victim. Undo it while the session is withdrawing,
- * before you deliver LOCKMGR_MSG_WITHDRAWN to it. That delivery makes it
- * rolled back and sends its releases; from then on others may be granted its
- * items. Undoing when you see LOCKMGR_ROLLED_BACK is too late.
- * lockmgr_deliver answers LOCKMGR_EVENT_UNDO at the right moment: undo then,
- * before the next delivery.
+ * to undo if it becomes a victim, before anybody else works on these items.
+ *
+ *   - With lockmgr_deliver, undo when it answers LOCKMGR_EVENT_UNDO, before the
+ *     next delivery: the session is withdrawing and still holds its items. Once
+ *     it is rolled back, its releases are on their way and its items go to
+ *     others.
+ *   - With lockmgr_drain, the rollback and the grants that follow lie within
+ *     one call. When it returns, first undo for every session that has come to
+ *     LOCKMGR_ROLLED_BACK, and only then let anybody know of a grant. Such a
+ *     session holds nothing any more; a copy of the table from before the
+ *     drain tells what it held.
  *
  *
  * DELIVERING
@@ -110,6 +116,15 @@
  * The mailbox has a route for each direction, session and item. A delivery
  * takes the earliest message of one route. Messages are never lost and never
  * overtake each other on a route. This delivers all there is, oldest first:
+ *
+ *   drained = lockmgr_drain(UINT64_MAX, table, sizeof table, mail, sizeof mail);
+ *   if (drained.refusal != LOCKMGR_ACCEPTED)
+ *       ...
+ *   else if (drained.ending != LOCKMGR_DRAIN_EMPTY)
+ *       ...                                         // see the next section
+ *
+ * What came of it is read from the table. To see each delivery, as a caller
+ * must who logs deadlocks, or to choose the order, deliver one by one:
  *
  *   while (lockmgr_mail_count(mail) > 0) {
  *       delivery = lockmgr_deliver(0, table, sizeof table, mail, sizeof mail);
@@ -133,15 +148,18 @@
  * for which 63 sessions wait would send 63 messages.
  *
  * Proved is what holds when the mail is empty: no cycle stands, and as many
- * sessions have been rolled back as cycles were closed. That the mail gets
- * empty is not proved, and without a rule it is not so. Keep one of two rules
- * from the start on:
+ * sessions have been rolled back as cycles were closed. Proved is also that
+ * deliveries come to an end: lockmgr_drain, with a limit that is high enough,
+ * empties the mail or comes to a message that does not fit. That they all fit
+ * is not proved, and without a rule it is not so. Keep one of two rules from
+ * the start on:
  *
  *   Rule 1. Make a request or a release only while the mail is empty. Then
  *           deliver, in any order, until it is empty again.
  *   Rule 2. Make a request or a release at any time. Always deliver the oldest
  *           message.
  *
+ * lockmgr_drain delivers the oldest message each time and so keeps to both.
  * And give the mailbox at least LOCKMGR_CAPACITY(sessions, items) messages,
  * which is 6 S + M + 1, or 449 for 64 sessions and 64 items. Then no delivery
  * has ever been refused with LOCKMGR_MAIL_FULL: in all states of small lock
@@ -152,11 +170,13 @@
  * carry rebroadcasts. Leaving places free before a call is no substitute for a
  * rule.
  *
- * If every delivery is refused all the same, move the mail into a larger
- * buffer with lockmgr_enlarge_mail and go on there, oldest first. Nothing is
- * lost, and the guarantee still holds: the calls that were accepted would have
- * led a lock manager of that capacity to the same state. If 4096 messages are
- * not enough, only a new start is left.
+ * If every delivery is refused all the same, or a drain ends with
+ * LOCKMGR_DRAIN_FULL, move the mail into a larger buffer with
+ * lockmgr_enlarge_mail and go on there, oldest first. Nothing is lost, and the
+ * guarantee still holds: the steps that were accepted would have led a lock
+ * manager of that capacity to the same state. If 4096 messages are not enough,
+ * only a new start is left. A drain looks at the oldest message alone; one
+ * behind it may still fit and make room, and lockmgr_deliver takes any.
  *
  *
  * VERSIONS
@@ -165,13 +185,15 @@
  * Before 1.0 a new minor number may lengthen an argument list or an answer, or
  * change a rule: recompile. Callers that start with lockmgr_options keep
  * compiling. What is guaranteed is proved for a lock manager that one minor
- * version has served from its start on.
+ * version has served from its start on. For this 0.2 and 0.3 count as one,
+ * since no rule changed between them.
  *
  * LOCKMGR_LAYOUT_VERSION numbers the bytes of table and mail. The buffers do
  * not carry it. If you store or send them, store that number and
  * LOCKMGR_VERSION beside them, and go on only with a library of the same
- * layout, major and minor number. There is no conversion: let the sessions end
- * under the old version and start anew under the new one.
+ * layout, major and minor number, 0.2 and 0.3 again counting as one. There is
+ * no conversion: let the sessions end under the old version and start anew
+ * under the new one.
  * Buffers of another layout are no danger, since every call judges them, and
  * most are refused with LOCKMGR_BAD_SIZE; but do not rely on it.
  */
@@ -188,9 +210,9 @@ extern "C" {
 /* ---- Version ------------------------------------------------------------ */
 
 #define LOCKMGR_VERSION_MAJOR 0
-#define LOCKMGR_VERSION_MINOR 2
+#define LOCKMGR_VERSION_MINOR 3
 #define LOCKMGR_VERSION_PATCH 0
-#define LOCKMGR_VERSION "0.2.0"
+#define LOCKMGR_VERSION "0.3.0"
 
 /* One number that grows with the version. */
 #define LOCKMGR_VERSION_NUMBER \
@@ -314,8 +336,8 @@ enum lockmgr_verb {
  * that holds is answered. All other fields of a refused answer are 0, and the
  * buffers are as they were.
  *
- * lockmgr_start gives only 2; lockmgr_report gives only 2, 3 and 5;
- * lockmgr_step gives any.
+ * lockmgr_start gives only 2; lockmgr_drain gives only 2, 3 and 4;
+ * lockmgr_report gives only 2, 3 and 5; lockmgr_step gives any.
  */
 enum lockmgr_refusal {
     /* The call was accepted. */
@@ -324,12 +346,12 @@ enum lockmgr_refusal {
     LOCKMGR_BAD_VERB = 1,
     /* Start: a number of sessions, items or messages is 0 or above its bound,
      * or a buffer has not the length that belongs to them.
-     * Step: the same of the numbers that the two buffers themselves carry.
-     * Report: the same of the table. */
+     * Step, drain: the same of the numbers that the two buffers themselves
+     * carry. Report: the same of the table. */
     LOCKMGR_BAD_SIZE = 2,
-    /* Step, report: the table is not well-formed. */
+    /* Step, drain, report: the table is not well-formed. */
     LOCKMGR_BAD_TABLE = 3,
-    /* Step: the mail is not well-formed. */
+    /* Step, drain: the mail is not well-formed. */
     LOCKMGR_BAD_MAIL = 4,
     /* Step: the session or the item is 0 or above the number that there are.
      * Report: the same of the session. */
@@ -391,6 +413,17 @@ enum lockmgr_event {
     LOCKMGR_EVENT_ROLLED_BACK = 3
 };
 
+/* Why a drain ended: the first that applies, in this order. */
+enum lockmgr_ending {
+    /* The mail is empty. */
+    LOCKMGR_DRAIN_EMPTY = 1,
+    /* The delivery of the oldest message would be refused with
+     * LOCKMGR_MAIL_FULL. */
+    LOCKMGR_DRAIN_FULL = 2,
+    /* As many deliveries are made as the limit allows. */
+    LOCKMGR_DRAIN_LIMITED = 3
+};
+
 /* ---- Answers ------------------------------------------------------------ */
 
 /* The answer of a step. */
@@ -404,6 +437,13 @@ typedef struct {
     uint8_t initiator; /* if this step declared a deadlock, the session whose
                         * probe came back; else 0 */
 } lockmgr_answer;
+
+/* The answer of a drain. */
+typedef struct {
+    uint8_t refusal; /* enum lockmgr_refusal; 0 if the drain was accepted */
+    uint64_t made;   /* how many deliveries it made */
+    uint8_t ending;  /* enum lockmgr_ending; 0 if the drain was refused */
+} lockmgr_drained;
 
 /* The answer of a report. */
 typedef struct {
@@ -445,6 +485,51 @@ lockmgr_answer lockmgr_step(uint64_t verb, uint64_t session, uint64_t item,
 /* clang-format on */
 
 /*
+ * Delivers the oldest message of the mail, again and again, until one of enum
+ * lockmgr_ending applies. Each delivery is the step on the route of that
+ * message, and the bytes in the end are those that the same steps leave. The
+ * buffers are judged once, before any delivery, and not at each of them.
+ *
+ * After LOCKMGR_DRAIN_LIMITED call again. LOCKMGR_DRAIN_FULL is kept away by
+ * the rules of ROOM IN THE MAIL, where it is also told what to do about it. A
+ * limit of 0 delivers nothing and tells which ending applies.
+ *
+ * What it tells. The answers of its steps (sent, closed, victim, initiator) are
+ * not kept. Stages tell the rest: a session that was LOCKMGR_WAITING before and
+ * is LOCKMGR_GROWING now holds the item that it awaited; one that is
+ * LOCKMGR_ROLLED_BACK now was a victim; one that is LOCKMGR_WAITING still
+ * waits. When to undo is told above.
+ *
+ * When it ends. On a lock manager that was started, whatever the calls since,
+ * a drain makes at most D deliveries, and with a limit above D it does not end
+ * with LOCKMGR_DRAIN_LIMITED. With S sessions, M items and n messages in the
+ * mail when it is called,
+ *
+ *     D = S (K S + 4 S^2 + M H) + n K (S + 1)
+ *     where H = 2 S^2 + 2 S + 2 and K = M H + 2 S^2 + 4 + H
+ *
+ * which is never above 10^15, and 148,483,661,824 for 64 sessions, 64 items and
+ * 4096 messages; lockmgr_drain_bound computes it. This is proved: every
+ * delivery makes a number smaller that weighs the messages on their way, the
+ * waiting sessions, and the probes that would still be news. A probe is passed
+ * on only where it is news, which for each initiator it can be at most S times
+ * at a session; a clean goes once round its cycle, past at most S waits; a
+ * session is made a victim at most once while it waits; releases, rebroadcasts
+ * and resends go to queues of at most S sessions. Real drains are far shorter:
+ * one that closes a cycle of 64 sessions, finds it and dissolves it makes 8198
+ * deliveries.
+ *
+ * Forged buffers, to which no start leads, can hold a clean that circles for
+ * ever. There only the limit ends a drain, so give one if you do not know where
+ * your buffers come from.
+ */
+/* clang-format off */
+lockmgr_drained lockmgr_drain(uint64_t limit,
+                              uint8_t *table, size_t table_len,
+                              uint8_t *mail, size_t mail_len);
+/* clang-format on */
+
+/*
  * The length of the cycle on which the session lies, or 0. A session waits for
  * the holder of the item in whose wait queue it stands (of several such items,
  * the lowest-numbered that is held); it lies on a cycle if these waits lead
@@ -460,7 +545,7 @@ lockmgr_cycle lockmgr_report(uint64_t session, const uint8_t *table, size_t tabl
 /* ---- Helpers ------------------------------------------------------------ */
 
 /*
- * What follows is written in this header, on top of the three calls or beside
+ * What follows is written in this header, on top of the four calls or beside
  * them. It is tested but no part of the proved library.
  */
 
@@ -473,8 +558,8 @@ static inline unsigned lockmgr_version(void)
 
 /*
  * Numbers as text, in lower case: "bad size" for LOCKMGR_BAD_SIZE, "deliver to
- * item", "rolled back", "withdrawn", "granted". "unknown" for a number that is
- * none. The text is constant and needs no freeing.
+ * item", "rolled back", "withdrawn", "granted", "limited". "unknown" for a
+ * number that is none. The text is constant and needs no freeing.
  */
 static inline const char *lockmgr_text_(const char *const *texts, size_t count, uint64_t number)
 {
@@ -519,6 +604,12 @@ static inline const char *lockmgr_event_text(uint64_t event)
 {
     static const char *const texts[] = {"nothing", "granted", "undo", "rolled back"};
     return lockmgr_text_(texts, sizeof texts / sizeof texts[0], event);
+}
+
+static inline const char *lockmgr_ending_text(uint64_t ending)
+{
+    static const char *const texts[] = {"unknown", "empty", "full", "limited"};
+    return lockmgr_text_(texts, sizeof texts / sizeof texts[0], ending);
 }
 
 /*
@@ -721,6 +812,15 @@ static inline lockmgr_delivery lockmgr_deliver(uint64_t place, uint8_t *table, s
     else if (before == LOCKMGR_WITHDRAWING && after == LOCKMGR_ROLLED_BACK)
         delivery.event = LOCKMGR_EVENT_ROLLED_BACK;
     return delivery;
+}
+
+/* The D of lockmgr_drain, for numbers in bounds. */
+static inline uint64_t lockmgr_drain_bound(uint64_t sessions, uint64_t items, uint64_t messages)
+{
+    uint64_t square = sessions * sessions;
+    uint64_t h = 2 * square + 2 * sessions + 2;
+    uint64_t k = items * h + 2 * square + 4 + h;
+    return sessions * (k * sessions + 4 * square + items * h) + messages * k * (sessions + 1);
 }
 
 /*

@@ -167,6 +167,61 @@ static unsigned refusal_of(uint64_t verb, uint64_t session, uint64_t item, manag
     return step(verb, session, item, m).refusal;
 }
 
+/* The step on the oldest message. */
+static lockmgr_answer oldest_step(manager m)
+{
+    lockmgr_message oldest = lockmgr_mail_message(m.mail.bytes, 0);
+    return step(lockmgr_deliver_verb(oldest), oldest.session, oldest.item, m);
+}
+
+/* The ending of a drain that stops here. */
+static unsigned ending_of(manager m)
+{
+    if (lockmgr_mail_count(m.mail.bytes) == 0)
+        return LOCKMGR_DRAIN_EMPTY;
+    manager copy = copied(m);
+    unsigned refusal = oldest_step(copy).refusal;
+    CHECK(refusal == LOCKMGR_ACCEPTED || refusal == LOCKMGR_MAIL_FULL);
+    drop_both(copy);
+    return refusal == LOCKMGR_MAIL_FULL ? LOCKMGR_DRAIN_FULL : LOCKMGR_DRAIN_LIMITED;
+}
+
+/* Drains of more deliveries are not made again step by step. */
+enum { STEPS_MADE_AGAIN = 40 };
+
+static lockmgr_drained drain(uint64_t limit, manager m)
+{
+    manager stepped = copied(m);
+    lockmgr_drained drained =
+        lockmgr_drain(limit, m.table.bytes, m.table.length, m.mail.bytes, m.mail.length);
+    calls++;
+    CHECK(drained.refusal == LOCKMGR_ACCEPTED || drained.refusal == LOCKMGR_BAD_SIZE ||
+          drained.refusal == LOCKMGR_BAD_TABLE || drained.refusal == LOCKMGR_BAD_MAIL);
+    if (drained.refusal != LOCKMGR_ACCEPTED) {
+        CHECK(drained.made == 0 && drained.ending == 0);
+        CHECK(same(m, stepped));
+    } else {
+        accepted++;
+        CHECK(drained.made <= limit);
+        CHECK(drained.ending == ending_of(m));
+        CHECK(drained.ending != LOCKMGR_DRAIN_LIMITED || drained.made == limit);
+        if (drained.made <= STEPS_MADE_AGAIN) {
+            for (uint64_t k = 0; k < drained.made; k++)
+                CHECK(oldest_step(stepped).refusal == LOCKMGR_ACCEPTED);
+            CHECK(same(m, stepped));
+        }
+    }
+    drop_both(stepped);
+    return drained;
+}
+
+/* A drain must answer this. */
+static void drains(uint64_t limit, manager m, unsigned refusal, uint64_t made, unsigned ending)
+{
+    lockmgr_drained drained = drain(limit, m);
+    CHECK(drained.refusal == refusal && drained.made == made && drained.ending == ending);
+}
+
 static lockmgr_cycle report(uint64_t session, buffer table)
 {
     buffer before = resized(table, table.length);
@@ -279,6 +334,87 @@ static void test_runs(config c, unsigned steps)
     drop_both(m);
 }
 
+/* Limits that are judged as 64 bits: none of them is cut off. */
+static const uint64_t limits[] = {0, 1, UINT64_C(1) << 32, UINT64_C(1) << 63, UINT64_MAX};
+
+/* Drains between the steps of a run, the last of them without a limit. */
+static void test_drains(config c, unsigned steps)
+{
+    manager m = fresh(c);
+    uint64_t most = lockmgr_drain_bound(c.sessions, c.items, c.capacity);
+    for (unsigned k = 0; k < steps; k++) {
+        play(c, m);
+        if (k % 16 == 0)
+            drain(between(0, 20), m);
+        if (k % 64 == 0) {
+            lockmgr_drained drained = drain(limits[bits() % LENGTH(limits)], m);
+            CHECK(drained.made <= most);
+        }
+    }
+    lockmgr_drained drained = drain(UINT64_MAX, m);
+    CHECK(drained.ending != LOCKMGR_DRAIN_LIMITED && drained.made <= most);
+    for (size_t k = 0; k < LENGTH(limits); k++)
+        drains(limits[k], m, LOCKMGR_ACCEPTED, 0, drained.ending);
+    drop_both(m);
+}
+
+/* A request, whose grant fits into its place, at each limit. */
+static void test_endings(config c)
+{
+    for (uint64_t limit = 0; limit <= 3; limit++) {
+        manager m = fresh(c);
+        drains(limit, m, LOCKMGR_ACCEPTED, 0, LOCKMGR_DRAIN_EMPTY);
+        CHECK(refusal_of(LOCKMGR_REQUEST, 1, 1, m) == LOCKMGR_ACCEPTED);
+        if (limit < 2)
+            drains(limit, m, LOCKMGR_ACCEPTED, limit, LOCKMGR_DRAIN_LIMITED);
+        else
+            drains(limit, m, LOCKMGR_ACCEPTED, 2, LOCKMGR_DRAIN_EMPTY);
+        CHECK(lockmgr_holds(m.table.bytes, 1, 1) == (limit >= 2));
+        drop_both(m);
+    }
+}
+
+/* A release that sends a grant and resends to all others, which do not fit. */
+static void test_full(void)
+{
+    const config c = {8, 1, 6};
+    manager m = fresh(c);
+    for (unsigned session = 8; session >= 1; session--) {
+        CHECK(refusal_of(LOCKMGR_REQUEST, session, 1, m) == LOCKMGR_ACCEPTED);
+        CHECK(drain(UINT64_MAX, m).ending == LOCKMGR_DRAIN_EMPTY);
+    }
+    CHECK(refusal_of(LOCKMGR_RELEASE, 8, 1, m) == LOCKMGR_ACCEPTED);
+    for (size_t k = 0; k < LENGTH(limits); k++)
+        drains(limits[k], m, LOCKMGR_ACCEPTED, 0, LOCKMGR_DRAIN_FULL);
+    drop_both(m);
+}
+
+/* A clean that circles for ever among two sessions that await each other's
+ * items, for a victim that is a third. */
+static void test_circling(void)
+{
+    static const uint64_t some_limits[] = {0, 1, 2, 3, 4, 5, 1000, 100000, UINT64_C(1) << 20};
+    const config c = {3, 2, 1};
+    for (size_t k = 0; k < LENGTH(some_limits); k++) {
+        manager m = fresh(c);
+        uint8_t *table = m.table.bytes, *mail = m.mail.bytes;
+        for (unsigned n = 1; n <= 2; n++) {
+            table[LOCKMGR_SESSION_PLACE(n) + LOCKMGR_SESSION_STAGE] = LOCKMGR_WAITING;
+            table[LOCKMGR_SESSION_PLACE(n) + LOCKMGR_SESSION_AWAITED] = (uint8_t)n;
+            table[LOCKMGR_ITEM_PLACE(c.sessions, n) + LOCKMGR_ITEM_HOLDER] = (uint8_t)(3 - n);
+        }
+        mail[LOCKMGR_MAIL_COUNT] = 1;
+        mail[LOCKMGR_ROUTE_PLACE(0) + LOCKMGR_ROUTE_DIRECTION] = LOCKMGR_TO_ITEM;
+        mail[LOCKMGR_ROUTE_PLACE(0) + LOCKMGR_ROUTE_SESSION] = 1;
+        mail[LOCKMGR_ROUTE_PLACE(0) + LOCKMGR_ROUTE_ITEM] = 1;
+        mail[LOCKMGR_BODY_PLACE(1, 0) + LOCKMGR_BODY_KIND] = LOCKMGR_MSG_CLEAN;
+        mail[LOCKMGR_BODY_PLACE(1, 0) + LOCKMGR_BODY_A] = 3;
+        mail[LOCKMGR_BODY_PLACE(1, 0) + LOCKMGR_BODY_B] = 1;
+        drains(some_limits[k], m, LOCKMGR_ACCEPTED, some_limits[k], LOCKMGR_DRAIN_LIMITED);
+        drop_both(m);
+    }
+}
+
 /* Each buffer too short or too long, down to nothing. */
 static void test_lengths(config c)
 {
@@ -296,6 +432,11 @@ static void test_lengths(config c)
             CHECK(refusal_of(verb, 1, 1, both) == LOCKMGR_BAD_SIZE);
         }
         CHECK(refusal_of(0, 1, 1, both) == LOCKMGR_BAD_VERB);
+        for (size_t limit = 0; limit < LENGTH(limits); limit++) {
+            drains(limits[limit], table, LOCKMGR_BAD_SIZE, 0, 0);
+            drains(limits[limit], mail, LOCKMGR_BAD_SIZE, 0, 0);
+            drains(limits[limit], both, LOCKMGR_BAD_SIZE, 0, 0);
+        }
         CHECK(report(1, both.table).refusal == LOCKMGR_BAD_SIZE);
         drop_both(both);
     }
@@ -316,6 +457,9 @@ static void test_null(void)
     CHECK(refusal_of(LOCKMGR_REQUEST, 1, 1, no_mail) == LOCKMGR_BAD_SIZE);
     CHECK(refusal_of(LOCKMGR_REQUEST, 1, 1, nothing) == LOCKMGR_BAD_SIZE);
     CHECK(refusal_of(LOCKMGR_DELIVER_TO_SESSION + 1, 1, 1, nothing) == LOCKMGR_BAD_VERB);
+    drains(UINT64_MAX, no_table, LOCKMGR_BAD_SIZE, 0, 0);
+    drains(UINT64_MAX, no_mail, LOCKMGR_BAD_SIZE, 0, 0);
+    drains(0, nothing, LOCKMGR_BAD_SIZE, 0, 0);
     CHECK(report(1, none).refusal == LOCKMGR_BAD_SIZE);
     drop_both(m);
 }
@@ -347,6 +491,43 @@ static void test_numbers(config c)
     CHECK(refusal_of(LOCKMGR_DELIVER_TO_ITEM, c.sessions, c.items, m) == LOCKMGR_NO_MESSAGE);
     CHECK(refusal_of(LOCKMGR_DELIVER_TO_SESSION, c.sessions, c.items, m) == LOCKMGR_NO_MESSAGE);
     drop_both(m);
+}
+
+/* A drain of bytes that are not well-formed delivers nothing, and the cause in
+ * the table comes first. */
+static void test_malformed(config c)
+{
+    manager m = fresh(c);
+    uint8_t *stage = m.table.bytes + LOCKMGR_SESSION_PLACE(c.sessions) + LOCKMGR_SESSION_STAGE;
+    uint8_t *kind = m.mail.bytes + LOCKMGR_BODY_PLACE(c.capacity, 0) + LOCKMGR_BODY_KIND;
+    CHECK(refusal_of(LOCKMGR_REQUEST, 1, 1, m) == LOCKMGR_ACCEPTED);
+    uint8_t right = *stage;
+    for (size_t k = 0; k < LENGTH(limits); k++) {
+        *kind = 0;
+        drains(limits[k], m, LOCKMGR_BAD_MAIL, 0, 0);
+        *stage = 0;
+        drains(limits[k], m, LOCKMGR_BAD_TABLE, 0, 0);
+        *kind = LOCKMGR_MSG_REQUEST;
+        drains(limits[k], m, LOCKMGR_BAD_TABLE, 0, 0);
+        *stage = right;
+    }
+    drains(UINT64_MAX, m, LOCKMGR_ACCEPTED, 2, LOCKMGR_DRAIN_EMPTY);
+    drop_both(m);
+}
+
+/* Drains of any bytes. A clean may circle, so that a drain without a limit is
+ * made only where one with a limit has ended before it. */
+static void drain_any(manager m)
+{
+    enum { MANY = 2000 };
+    manager twin = copied(m);
+    CHECK(drain(0, m).made == 0);
+    lockmgr_drained one = drain(1, m), more = drain(MANY, m);
+    if (more.ending != LOCKMGR_DRAIN_LIMITED) {
+        drains(UINT64_MAX, twin, one.refusal, one.made + more.made, more.ending);
+        CHECK(same(m, twin));
+    }
+    drop_both(twin);
 }
 
 static void fill(buffer b, unsigned highest)
@@ -383,8 +564,87 @@ static void test_garbage(config c)
         for (unsigned verb = 0; verb <= LOCKMGR_DELIVER_TO_SESSION + 1; verb++)
             step(verb, between(0, (unsigned)c.sessions), between(0, (unsigned)c.items), m);
         report(between(0, (unsigned)c.sessions), m.table);
+        drain_any(m);
     }
     drop_both(m);
+}
+
+/* 1 with a chance of so many in eight. */
+static int chance(unsigned eighths)
+{
+    return between(1, 8) <= eighths;
+}
+
+static void forge_session(config c, uint8_t *record, unsigned density)
+{
+    unsigned stage = between(LOCKMGR_GROWING, LOCKMGR_ROLLED_BACK);
+    record[LOCKMGR_SESSION_STAGE] = (uint8_t)stage;
+    if (stage == LOCKMGR_WAITING || stage == LOCKMGR_CLEANING || stage == LOCKMGR_WITHDRAWING)
+        record[LOCKMGR_SESSION_AWAITED] = (uint8_t)any_item(c);
+    for (unsigned item = 1; item <= c.items; item++)
+        if (chance(density))
+            record[LOCKMGR_SESSION_HELD + (item - 1) / 8] |= (uint8_t)(1u << (item - 1) % 8);
+    for (unsigned initiator = 1; initiator <= c.sessions; initiator++)
+        if (chance(density))
+            record[LOCKMGR_SESSION_JUNIORS + initiator - 1] = (uint8_t)any_session(c);
+}
+
+/* The queue begins anywhere among the sessions. */
+static void forge_item(config c, uint8_t *record, unsigned density)
+{
+    unsigned holder = between(0, (unsigned)c.sessions), first = any_session(c), length = 0;
+    record[LOCKMGR_ITEM_HOLDER] = (uint8_t)holder;
+    for (unsigned k = 0; k < c.sessions; k++) {
+        unsigned session = (first + k) % (unsigned)c.sessions + 1;
+        if (session != holder && chance(density))
+            record[LOCKMGR_ITEM_QUEUE + length++] = (uint8_t)session;
+    }
+    record[LOCKMGR_ITEM_QUEUE_LENGTH] = (uint8_t)length;
+}
+
+static void forge_message(config c, uint8_t *route, uint8_t *body)
+{
+    static const uint8_t to_session[] = {LOCKMGR_MSG_PROBE, LOCKMGR_MSG_CLEAN,
+                                         LOCKMGR_MSG_GRANT, LOCKMGR_MSG_RESEND,
+                                         LOCKMGR_MSG_ABORT, LOCKMGR_MSG_WITHDRAWN};
+    unsigned direction = between(LOCKMGR_TO_ITEM, LOCKMGR_TO_SESSION);
+    unsigned kind = direction == LOCKMGR_TO_ITEM
+                        ? between(LOCKMGR_MSG_REQUEST, LOCKMGR_MSG_WITHDRAW)
+                        : to_session[bits() % LENGTH(to_session)];
+    route[LOCKMGR_ROUTE_DIRECTION] = (uint8_t)direction;
+    route[LOCKMGR_ROUTE_SESSION] = (uint8_t)any_session(c);
+    route[LOCKMGR_ROUTE_ITEM] = (uint8_t)any_item(c);
+    body[LOCKMGR_BODY_KIND] = (uint8_t)kind;
+    if (kind == LOCKMGR_MSG_PROBE || kind == LOCKMGR_MSG_CLEAN || kind == LOCKMGR_MSG_ABORT) {
+        body[LOCKMGR_BODY_A] =
+            kind == LOCKMGR_MSG_ABORT ? route[LOCKMGR_ROUTE_SESSION] : (uint8_t)any_session(c);
+        body[LOCKMGR_BODY_B] = (uint8_t)any_session(c);
+    }
+}
+
+/* Forged buffers: any bytes that are well-formed, from sparse to dense. */
+static void test_forged(config c)
+{
+    for (unsigned round = 0; round < 40; round++) {
+        manager m = fresh(c);
+        unsigned density = round % 9;
+        unsigned count = between(0, (unsigned)c.capacity >> round % 4);
+        for (unsigned k = 1; k <= c.sessions; k++)
+            forge_session(c, m.table.bytes + LOCKMGR_SESSION_PLACE(k), density);
+        for (unsigned k = 1; k <= c.items; k++)
+            forge_item(c, m.table.bytes + LOCKMGR_ITEM_PLACE(c.sessions, k), density);
+        m.mail.bytes[LOCKMGR_MAIL_COUNT] = (uint8_t)(count & 255);
+        m.mail.bytes[LOCKMGR_MAIL_COUNT + 1] = (uint8_t)(count >> 8);
+        for (unsigned k = 0; k < count; k++)
+            forge_message(c, m.mail.bytes + LOCKMGR_ROUTE_PLACE(k),
+                          m.mail.bytes + LOCKMGR_BODY_PLACE(c.capacity, k));
+        for (unsigned k = 0; k < 5; k++)
+            play(c, m);
+        CHECK(report(any_session(c), m.table).refusal == LOCKMGR_ACCEPTED);
+        drain_any(m);
+        CHECK(drain(0, m).refusal == LOCKMGR_ACCEPTED);
+        drop_both(m);
+    }
 }
 
 int main(void)
@@ -398,12 +658,18 @@ int main(void)
         unsigned long calls_before = calls, accepted_before = accepted;
         random_state = 1;
         test_null();
+        test_full();
+        test_circling();
         for (size_t k = 0; k < LENGTH(sizes); k++) {
             test_start(sizes[k].config);
             test_runs(sizes[k].config, sizes[k].steps);
+            test_drains(sizes[k].config, sizes[k].steps);
+            test_endings(sizes[k].config);
+            test_malformed(sizes[k].config);
             test_lengths(sizes[k].config);
             test_numbers(sizes[k].config);
             test_garbage(sizes[k].config);
+            test_forged(sizes[k].config);
         }
         printf("%-20s %7lu calls, %7lu accepted\n", names[placed], calls - calls_before,
                accepted - accepted_before);

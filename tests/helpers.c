@@ -1,7 +1,7 @@
 /*
- * The helpers of the header: versions, texts, options, deliveries with their
- * events, a larger mail; and what each answers to null, to wrong lengths and to
- * numbers out of bounds.
+ * The helpers of the header: versions, texts, options, the bound of a drain,
+ * deliveries with their events, a larger mail; and what each answers to null,
+ * to wrong lengths and to numbers out of bounds.
  */
 #include "lockmgr.h"
 
@@ -81,11 +81,24 @@ static void test_texts(void)
     check_texts(lockmgr_stage_text, LOCKMGR_GROWING, LOCKMGR_ROLLED_BACK);
     check_texts(lockmgr_kind_text, LOCKMGR_MSG_REQUEST, LOCKMGR_MSG_WITHDRAWN);
     check_texts(lockmgr_event_text, LOCKMGR_EVENT_NONE, LOCKMGR_EVENT_ROLLED_BACK);
+    check_texts(lockmgr_ending_text, LOCKMGR_DRAIN_EMPTY, LOCKMGR_DRAIN_LIMITED);
     CHECK(strcmp(lockmgr_refusal_text(LOCKMGR_BAD_NUMBER), "bad number") == 0);
     CHECK(strcmp(lockmgr_verb_text(LOCKMGR_DELIVER_TO_ITEM), "deliver to item") == 0);
     CHECK(strcmp(lockmgr_stage_text(LOCKMGR_CLEANING), "cleaning") == 0);
     CHECK(strcmp(lockmgr_kind_text(LOCKMGR_MSG_ABORT), "abort") == 0);
     CHECK(strcmp(lockmgr_event_text(LOCKMGR_EVENT_UNDO), "undo") == 0);
+    CHECK(strcmp(lockmgr_ending_text(LOCKMGR_DRAIN_FULL), "full") == 0);
+}
+
+static void test_drain_bound(void)
+{
+    const uint64_t most = UINT64_C(1000000000000000);
+    CHECK(lockmgr_drain_bound(1, 1, 0) == 28);
+    CHECK(lockmgr_drain_bound(1, 1, 1) == 28 + 2 * 18);
+    CHECK(lockmgr_drain_bound(64, 64, 4096) == UINT64_C(148483661824));
+    for (unsigned sessions = 1; sessions <= LOCKMGR_MAX_SESSIONS; sessions++)
+        for (unsigned items = 1; items <= LOCKMGR_MAX_ITEMS; items++)
+            CHECK(lockmgr_drain_bound(sessions, items, LOCKMGR_MAX_CAPACITY) <= most);
 }
 
 static void test_options(void)
@@ -131,6 +144,47 @@ static void delivers(uint64_t place, unsigned kind, unsigned session, unsigned i
     CHECK(d.answer.refusal == LOCKMGR_ACCEPTED);
     CHECK(d.message.kind == kind && d.message.session == session && d.message.item == item);
     CHECK(d.event == event);
+}
+
+/* A drain leaves what single deliveries of the oldest leave, and the stages
+ * before and after it tell what their events tell. */
+static void test_drain_and_events(void)
+{
+    static uint8_t stepped_table[sizeof table], stepped_mail[sizeof mail];
+    unsigned event[S + 1] = {LOCKMGR_EVENT_NONE}, made = 0;
+    lockmgr_drained drained;
+    fresh();
+    request(1, 1);
+    request(2, 2);
+    drained = lockmgr_drain(4, table, sizeof table, mail, sizeof mail);
+    CHECK(drained.made == 4 && drained.ending == LOCKMGR_DRAIN_EMPTY);
+    request(1, 2);
+    request(2, 1);
+    remember();
+    memcpy(stepped_table, table, sizeof table);
+    memcpy(stepped_mail, mail, sizeof mail);
+    drained = lockmgr_drain(UINT64_MAX, table, sizeof table, mail, sizeof mail);
+    for (; lockmgr_mail_count(stepped_mail) > 0; made++) {
+        lockmgr_delivery d =
+            lockmgr_deliver(0, stepped_table, sizeof table, stepped_mail, sizeof mail);
+        CHECK(d.answer.refusal == LOCKMGR_ACCEPTED);
+        if (d.event != LOCKMGR_EVENT_NONE)
+            event[d.message.session] = d.event;
+    }
+    CHECK(drained.refusal == LOCKMGR_ACCEPTED && drained.made == made);
+    CHECK(drained.ending == LOCKMGR_DRAIN_EMPTY);
+    CHECK(made <= lockmgr_drain_bound(S, M, lockmgr_mail_count(mail_before)));
+    CHECK(memcmp(stepped_table, table, sizeof table) == 0);
+    CHECK(memcmp(stepped_mail, mail, sizeof mail) == 0);
+
+    CHECK(event[1] == LOCKMGR_EVENT_GRANTED);
+    CHECK(lockmgr_stage(table_before, 1) == LOCKMGR_WAITING);
+    CHECK(lockmgr_stage(table, 1) == LOCKMGR_GROWING);
+    CHECK(lockmgr_awaited(table_before, 1) == 2 && lockmgr_holds(table, 1, 2));
+    CHECK(event[2] == LOCKMGR_EVENT_ROLLED_BACK);
+    CHECK(lockmgr_stage(table_before, 2) == LOCKMGR_WAITING);
+    CHECK(lockmgr_stage(table, 2) == LOCKMGR_ROLLED_BACK);
+    CHECK(lockmgr_holds(table_before, 2, 2) && !lockmgr_holds(table, 2, 2));
 }
 
 /* Two sessions into a cycle and out again, with every event. */
@@ -279,7 +333,9 @@ int main(void)
     test_version();
     test_texts();
     test_options();
+    test_drain_bound();
     test_events();
+    test_drain_and_events();
     test_bad_deliveries();
     test_enlarge();
     return verdict();

@@ -7,6 +7,8 @@
 
 #include "check.h"
 
+#include <string.h>
+
 enum { S = LOCKMGR_MAX_SESSIONS, M = LOCKMGR_MAX_ITEMS, ENOUGH = LOCKMGR_CAPACITY(S, M) };
 
 static uint8_t table[LOCKMGR_TABLE_SIZE(S, M)];
@@ -16,6 +18,9 @@ static size_t table_len, mail_len;
 
 /* The greatest count of messages since the start. */
 static unsigned peak;
+
+/* How many deliveries the last drain made, oldest first. */
+static uint64_t delivered;
 
 static unsigned count(void)
 {
@@ -82,9 +87,32 @@ static unsigned spreading_last(void)
     return sooner(spreads);
 }
 
+/* lockmgr_drain on a copy of the buffers, and the same by single deliveries,
+ * which show the greatest count. 1 if the mail gets empty, 0 if it ends with a
+ * message that does not fit. */
+static int drain_oldest(void)
+{
+    static uint8_t drained_table[sizeof table], drained_mail[sizeof mail];
+    uint64_t most =
+        lockmgr_drain_bound(table[LOCKMGR_TABLE_SESSIONS], table[LOCKMGR_TABLE_ITEMS], count());
+    memcpy(drained_table, table, table_len);
+    memcpy(drained_mail, mail, mail_len);
+    lockmgr_drained d = lockmgr_drain(UINT64_MAX, drained_table, table_len, drained_mail, mail_len);
+    delivered = 0;
+    while (count() > 0 && deliver(0) == LOCKMGR_ACCEPTED)
+        delivered++;
+    CHECK(d.refusal == LOCKMGR_ACCEPTED && d.made == delivered && d.made <= most);
+    CHECK(d.ending == (count() == 0 ? LOCKMGR_DRAIN_EMPTY : LOCKMGR_DRAIN_FULL));
+    CHECK(memcmp(drained_table, table, table_len) == 0);
+    CHECK(memcmp(drained_mail, mail, mail_len) == 0);
+    return d.ending == LOCKMGR_DRAIN_EMPTY;
+}
+
 /* Delivers until the mail is empty: 1, or 0 if a delivery is refused. */
 static int drain(order next)
 {
+    if (next == oldest)
+        return drain_oldest();
     while (count() > 0)
         if (deliver(next()) != LOCKMGR_ACCEPTED)
             return 0;
@@ -97,12 +125,23 @@ static int call_and_drain(unsigned verb, unsigned session, unsigned item, order 
     return call(verb, session, item) == LOCKMGR_ACCEPTED && drain(next);
 }
 
+/* Whatever its limit, a drain makes no delivery and ends with this. */
+static void check_stopped(unsigned ending)
+{
+    static const uint64_t limits[] = {0, 1, UINT64_MAX};
+    for (size_t k = 0; k < LENGTH(limits); k++) {
+        lockmgr_drained d = lockmgr_drain(limits[k], table, table_len, mail, mail_len);
+        CHECK(d.refusal == LOCKMGR_ACCEPTED && d.made == 0 && d.ending == ending);
+    }
+}
+
 /* 1 if the mail holds messages and every delivery is refused for lack of room. */
 static int jammed(void)
 {
     for (unsigned k = 0; k < count(); k++)
         if (deliver(k) != LOCKMGR_MAIL_FULL)
             return 0;
+    check_stopped(count() > 0 ? LOCKMGR_DRAIN_FULL : LOCKMGR_DRAIN_EMPTY);
     return count() > 0;
 }
 
@@ -144,6 +183,25 @@ static void test_one_message(void)
     CHECK(release_with_long_queue(63));
     /* The next holder is the most senior, who stood last. */
     CHECK(lockmgr_holder(table, 1) == 1);
+}
+
+/* The oldest message does not fit, but one behind it makes room: a drain looks
+ * at the oldest alone. */
+static void test_not_jammed(void)
+{
+    start(S, 2, S - 2);
+    CHECK(call_and_drain(LOCKMGR_REQUEST, S, 1, oldest));
+    for (unsigned session = S - 1; session >= 2; session--)
+        CHECK(call_and_drain(LOCKMGR_REQUEST, session, 1, oldest));
+    CHECK(call(LOCKMGR_RELEASE, S, 1) == LOCKMGR_ACCEPTED);
+    CHECK(call(LOCKMGR_REQUEST, 1, 2) == LOCKMGR_ACCEPTED);
+    check_stopped(LOCKMGR_DRAIN_FULL);
+    CHECK(!jammed());
+    while (count() > 1)
+        CHECK(deliver(1) == LOCKMGR_ACCEPTED);
+    CHECK(lockmgr_holds(table, 1, 2));
+    CHECK(drain(oldest));
+    CHECK(lockmgr_holder(table, 1) == 2);
 }
 
 /* A pump that leaves alone, as long as there is anything else, the rebroadcasts
@@ -284,6 +342,22 @@ static void test_worst(const char *name, int worst(unsigned capacity), unsigned 
     CHECK(!worst(needed - 1));
 }
 
+/* Every session locks an item and then asks for that of the next: one drain
+ * closes a cycle of all sessions, finds it and dissolves it. Its length is the
+ * one that the header names. */
+static void test_long_drain(void)
+{
+    start(S, M, ENOUGH);
+    for (unsigned turn = 0; turn < 2; turn++) {
+        for (unsigned session = 1; session <= S; session++)
+            CHECK(call(LOCKMGR_REQUEST, session, (session - 1 + turn) % M + 1) == LOCKMGR_ACCEPTED);
+        CHECK(drain(oldest));
+    }
+    CHECK(delivered == 8198);
+    CHECK(lockmgr_stage(table, S) == LOCKMGR_ROLLED_BACK);
+    printf("a cycle of %d sessions: %lu deliveries in one drain\n", S, (unsigned long)delivered);
+}
+
 /* ---- Random runs under the rules ------------------------------------------ */
 
 /* A request or a release at random, of one of so many items. */
@@ -350,11 +424,13 @@ int main(void)
 {
     setvbuf(stdout, NULL, _IOLBF, 0);
     test_one_message();
+    test_not_jammed();
     test_passed_over();
     test_random_pump();
     test_worst("rules 1 and 2, oldest first", worst_oldest_first, 249);
     test_worst("rule 1, any order", worst_any_order, 250);
     test_worst("rule 2, calls at any time", worst_calls_at_any_time, 189);
+    test_long_drain();
     test_rule_1();
     test_rule_2();
     return verdict();
