@@ -60,3 +60,8 @@ outcome n table mail = record { refusal = n; table = table; mail = mail }
 -- a delivery that is allowed, or only judged
 abbrev pub outcomeOf : Bool → List ℕ → List ℕ → Stepped → Outcome
 outcomeOf allowed table mail r = outcome (r .answer .refusal) (cond allowed (r .table) table) (cond allowed (r .mail) mail)
+
+-- a delivery leaves spent entries at the front, and without them what step r leaves or, where it is only judged, what was there
+abbrev pub Delivers : ℕ → Bool → List ℕ → List ℕ → Stepped → Delivery → List ℕ → List ℕ → Type 0
+Delivers k allowed table mail r d table′ mail′ =
+    Spent (d .spent) mail′ × (outcome (d .refusal) table′ (pending (d .spent) mail′) ≡ outcomeOf allowed table (pending k mail) r)

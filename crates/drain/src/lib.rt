@@ -16,7 +16,7 @@ ghost use Rattle.waits.specs.OnTable.{locks};
 ghost use Rattle.step.specs.Step.{sessionPlan, itemPlan};
 ghost use Rattle.step.specs.Parts.{concluded};
 ghost use Rattle.drain.specs.Oldest.{oldestActed};
-ghost use Rattle.drain.specs.Parts.{pending, Spent, Due, Placed, fits, refusalOf, Way, outcome, outcomeOf};
+ghost use Rattle.drain.specs.Parts.{pending, Spent, Due, Placed, fits, refusalOf, Way, Delivers};
 
 // What a delivery is refused with, or 0, whether it is made, and how many entries are spent after it.
 pub struct Delivery {
@@ -72,8 +72,9 @@ fn make_way(mail: &mut [u8], k: usize, n: usize, allowed: bool) -> Delivery
 // Delivers entry k, the oldest that is not spent, to session t.
 fn deliver_to_session(t: u8, k: usize, allowed: bool, table: &mut [u8], mail: &mut [u8]) -> Delivery
     requires { ⌜ Due k (now table) (now mail) × (t ≡ entryAt (now mail) k .session) ⌝ }
-    ensures { λ r. ⌜ Spent (r .spent) (now (mail .exit)) × (outcome (r .refusal) (now (table .exit)) (pending (r .spent) (now (mail .exit)))
-        ≡ outcomeOf allowed (now (table .entry)) (pending k (now (mail .entry))) (concluded t (now (table .entry)) (pending k (now (mail .entry))) (sessionPlan t (now (table .entry)) (drop (k + 1) (entriesOf (now (mail .entry)))) (SessionRules.received senior t (session (now (table .entry)) t) (seenBySession (entryAt (now (mail .entry)) k)))))) ⌝ }
+    ensures { λ d. ⌜ Delivers k allowed (now (table .entry)) (now (mail .entry))
+        (concluded t (now (table .entry)) (pending k (now (mail .entry))) (sessionPlan t (now (table .entry)) (drop (k + 1) (entriesOf (now (mail .entry)))) (SessionRules.received senior t (session (now (table .entry)) t) (seenBySession (entryAt (now (mail .entry)) k)))))
+        d (now (table .exit)) (now (mail .exit)) ⌝ }
 {
     let r = table::session(table, t).receive(t, mailbox::message_to_session(mail, k));
     let d = make_way(mail, k, r.outbox.n, allowed);
@@ -85,11 +86,12 @@ fn deliver_to_session(t: u8, k: usize, allowed: bool, table: &mut [u8], mail: &m
     d
 }
 
-// Delivers entry k, the oldest that is not spent, to item x; t is the session that sent it.
+// Delivers entry k, the oldest that is not spent, to item x.
 fn deliver_to_item(x: u8, k: usize, allowed: bool, table: &mut [u8], mail: &mut [u8]) -> Delivery
     requires { ⌜ Due k (now table) (now mail) × (x ≡ entryAt (now mail) k .item) ⌝ }
-    ensures { λ r. ⌜ Spent (r .spent) (now (mail .exit)) × (outcome (r .refusal) (now (table .exit)) (pending (r .spent) (now (mail .exit)))
-        ≡ outcomeOf allowed (now (table .entry)) (pending k (now (mail .entry))) (concluded (entryAt (now (mail .entry)) k .session) (now (table .entry)) (pending k (now (mail .entry))) (itemPlan x (now (table .entry)) (drop (k + 1) (entriesOf (now (mail .entry)))) (ItemRules.received senior nextHolder (locks (now (table .entry)) x) (seenByItem (entryAt (now (mail .entry)) k)))))) ⌝ }
+    ensures { λ d. ⌜ Delivers k allowed (now (table .entry)) (now (mail .entry))
+        (concluded (entryAt (now (mail .entry)) k .session) (now (table .entry)) (pending k (now (mail .entry))) (itemPlan x (now (table .entry)) (drop (k + 1) (entriesOf (now (mail .entry)))) (ItemRules.received senior nextHolder (locks (now (table .entry)) x) (seenByItem (entryAt (now (mail .entry)) k)))))
+        d (now (table .exit)) (now (mail .exit)) ⌝ }
 {
     let r = table::item(table, x).receive(mailbox::message_to_item(mail, k));
     let d = make_way(mail, k, r.outbox.n, allowed);
@@ -104,8 +106,9 @@ fn deliver_to_item(x: u8, k: usize, allowed: bool, table: &mut [u8], mail: &mut 
 // Delivers entry k, the oldest that is not spent. Where it is not allowed, only what it would be refused with is judged.
 pub fn deliver(k: usize, allowed: bool, table: &mut [u8], mail: &mut [u8]) -> Delivery
     requires { ⌜ Due k (now table) (now mail) ⌝ }
-    ensures { λ r. ⌜ Spent (r .spent) (now (mail .exit)) × (outcome (r .refusal) (now (table .exit)) (pending (r .spent) (now (mail .exit)))
-        ≡ outcomeOf allowed (now (table .entry)) (pending k (now (mail .entry))) (oldestActed (now (table .entry)) (pending k (now (mail .entry))))) ⌝ }
+    ensures { λ d. ⌜ Delivers k allowed (now (table .entry)) (now (mail .entry))
+        (oldestActed (now (table .entry)) (pending k (now (mail .entry))))
+        d (now (table .exit)) (now (mail .exit)) ⌝ }
 {
     let route = mailbox::route_of(mail, k);
     if route.direction == mailbox::TO_ITEM {
