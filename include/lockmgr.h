@@ -24,7 +24,7 @@
  *      holds all sessions and items, and the mail, which is the mailbox.
  *   2. lockmgr_start fills both.
  *   3. lockmgr_step does one thing at a time: a session sends a request or a
- *      release, or one message is delivered. Every call names one session and
+ *      release, or one message is delivered. Every step names one session and
  *      one item. lockmgr_deliver is a step that delivers and says what that
  *      meant for the session.
  *   4. lockmgr_drain delivers, oldest first, until the mail is empty, in one
@@ -109,6 +109,10 @@
  *     LOCKMGR_ROLLED_BACK, and only then let anybody know of a grant. Such a
  *     session holds nothing any more; a copy of the table from before the
  *     drain tells what it held.
+ *   - With both, undo each victim once: one that a drain leaves at
+ *     LOCKMGR_WITHDRAWING has passed its LOCKMGR_EVENT_UNDO, so undo it before
+ *     the next delivery; one that you have undone at that event is not undone
+ *     again after a drain.
  *
  *
  * DELIVERING
@@ -159,7 +163,10 @@
  *   Rule 2. Make a request or a release at any time. Always deliver the oldest
  *           message.
  *
- * lockmgr_drain delivers the oldest message each time and so keeps to both.
+ * Who delivers by lockmgr_drain alone keeps Rule 2, whenever the requests and
+ * releases are made, and Rule 1 too if each is made only after a drain that
+ * ended with LOCKMGR_DRAIN_EMPTY.
+ *
  * And give the mailbox at least LOCKMGR_CAPACITY(sessions, items) messages,
  * which is 6 S + M + 1, or 449 for 64 sessions and 64 items. Then no delivery
  * has ever been refused with LOCKMGR_MAIL_FULL: in all states of small lock
@@ -176,7 +183,8 @@
  * guarantee still holds: the steps that were accepted would have led a lock
  * manager of that capacity to the same state. If 4096 messages are not enough,
  * only a new start is left. A drain looks at the oldest message alone; one
- * behind it may still fit and make room, and lockmgr_deliver takes any.
+ * behind it may still fit and make room. Under Rule 1 you may deliver that one
+ * with lockmgr_deliver; under Rule 2 enlarge the mail.
  *
  *
  * VERSIONS
@@ -498,7 +506,10 @@ lockmgr_answer lockmgr_step(uint64_t verb, uint64_t session, uint64_t item,
  * not kept. Stages tell the rest: a session that was LOCKMGR_WAITING before and
  * is LOCKMGR_GROWING now holds the item that it awaited; one that is
  * LOCKMGR_ROLLED_BACK now was a victim; one that is LOCKMGR_WAITING still
- * waits. When to undo is told above.
+ * waits. After LOCKMGR_DRAIN_FULL or LOCKMGR_DRAIN_LIMITED a session may also
+ * be LOCKMGR_CLEANING or LOCKMGR_WITHDRAWING: a victim that is not rolled back
+ * yet. How many cycles were closed, and who declared them, cannot be read
+ * afterwards; deliver one by one for that. When to undo is told above.
  *
  * When it ends. On a lock manager that was started, whatever the calls since,
  * a drain makes at most D deliveries, and with a limit above D it does not end
@@ -514,10 +525,10 @@ lockmgr_answer lockmgr_step(uint64_t verb, uint64_t session, uint64_t item,
  * waiting sessions, and the probes that would still be news. A probe is passed
  * on only where it is news, which for each initiator it can be at most S times
  * at a session; a clean goes once round its cycle, past at most S waits; a
- * session is made a victim at most once while it waits; releases, rebroadcasts
- * and resends go to queues of at most S sessions. Real drains are far shorter:
- * one that closes a cycle of 64 sessions, finds it and dissolves it makes 8198
- * deliveries.
+ * session is made a victim at most once while it waits; a release, a
+ * rebroadcast or a clean at an item reaches a queue of at most S sessions, with
+ * a probe and a resend for each. Real drains are far shorter: one that closes a
+ * cycle of 64 sessions, finds it and dissolves it makes 8198 deliveries.
  *
  * Forged buffers, to which no start leads, can hold a clean that circles for
  * ever. There only the limit ends a drain, so give one if you do not know where
@@ -832,7 +843,7 @@ static inline uint64_t lockmgr_drain_bound(uint64_t sessions, uint64_t items, ui
  * length of its capacity or has more messages than that, the new capacity is
  * below the old one or above LOCKMGR_MAX_CAPACITY, or
  *     larger_len != LOCKMGR_MAIL_SIZE(capacity).
- * Then nothing is written. The messages are not judged; the next step does.
+ * Then nothing is written. The messages are not judged; the next step or drain does.
  */
 static inline uint8_t lockmgr_enlarge_mail(const uint8_t *mail, size_t mail_len, uint64_t capacity,
                                            uint8_t *larger, size_t larger_len)

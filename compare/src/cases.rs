@@ -259,11 +259,11 @@ fn run(comparison: &mut Comparison, random: &mut Random, config: Config, steps: 
     let release_one_in = random.between(3, 40);
     let drain_one_in = random.between(10, 100);
     let mut schedule = Schedule::draw(random, config);
-    let mut draining = false;
+    let mut delivering_all = false;
     for _ in 0..steps {
         if random.one_in(30) {
             schedule = Schedule::draw(random, config);
-            draining = random.one_in(3);
+            delivering_all = random.one_in(3);
         }
         if random.one_in(40) {
             started.step(comparison, any_step(random, config))?;
@@ -271,9 +271,9 @@ fn run(comparison: &mut Comparison, random: &mut Random, config: Config, steps: 
             comparison.report(config.any_session(random), &started.buffers)?;
         } else if random.one_in(drain_one_in) {
             started.drain(comparison, any_limit(random))?;
-        } else if draining || random.between(1, 10) <= deliver_in_ten {
+        } else if delivering_all || random.between(1, 10) <= deliver_in_ten {
             match schedule.choose(random, &started.buffers) {
-                None => draining = false,
+                None => delivering_all = false,
                 Some(m) => {
                     started.step(comparison, (m.verb, m.session, m.item))?;
                 }

@@ -99,10 +99,17 @@ impl Demand3 {
         if ending != applies as u8 {
             return Err(format!("a drain answers ending {ending}, not {applies:?}"));
         }
-        if applies == Ending::Limit && made != limit {
-            return Err(format!("a drain stops after {made} of {limit} deliveries"));
+        match applies {
+            Ending::Limit if made != limit => {
+                Err(format!("a drain stops after {made} of {limit} deliveries"))
+            }
+            // Also where the mail was empty before.
+            Ending::Empty => {
+                let records = Table::decode(after.0).ok_or("the table is not well-formed")?;
+                self.check_empty(&records, after.0)
+            }
+            _ => Ok(()),
         }
-        Ok(())
     }
 
     /// With empty mail: as many rolled back as cycles closed, none standing.

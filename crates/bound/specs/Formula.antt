@@ -17,7 +17,7 @@ storeCost S = S * (2 * S)
 unfoldable pub itemsCost : ℕ → ℕ → ℕ
 itemsCost S M = M * queueCost S
 
--- a clean at a session: the rebroadcasts, the probes that the session can store again, and its own delivery, a withdraw and the answer
+-- a clean at a session: the rebroadcasts, the probes that the session can store again, and its own delivery, a withdraw and the answer, with one to spare
 unfoldable pub cleanCost : ℕ → ℕ → ℕ
 cleanCost S M = itemsCost S M + storeCost S + 4
 

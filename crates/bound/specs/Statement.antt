@@ -27,7 +27,7 @@ Falls R = (s : State) → Invariant R s → (c : Call) → ofMachine R c ≡ tru
 abbrev pub Bounded : Rules → Type 0
 Bounded R = (s : State) → potential R s ≤ deliveryBound (R .S) (R .M) (length (s .mailbox))
 
--- so a list of deliveries from such a state, in any order, is at most as long as the formula says
+-- together these bound every list of deliveries from such a state, in any order
 pub record DeliveriesEnd (R : Rules) : Type 0 where
   pub falls : Falls R
   pub bounded : Bounded R

@@ -21,7 +21,7 @@ use Rattle.lockmgr.specs.Run as Run
 use Rattle.lockmgr.specs.Run.{Buffers, buffers, doneOn, leftBy, done, left}
 use Rattle.lockmgr.specs.Drain.{oldest, limited, ending, deliveries, drainRefusal, drainSteps, drain}
 use Rattle.lockmgr.specs.History
-use Rattle.lockmgr.specs.History.{made, singles, after}
+use Rattle.lockmgr.specs.History.{stepsOf, singles, after}
 use Rattle.lockmgr.proofs.Judging.{formed-zero, buffers-zero, start-zero}
 use Rattle.lockmgr.proofs.Form.{step-keeps-form}
 use Rattle.lockmgr.proofs.Draining.{next-accepted}
@@ -35,7 +35,7 @@ use Rattle.agreement.specs.Reading.{readEntries}
 use Rattle.agreement.proofs.MailboxAgrees.{length-readEntries}
 use Rattle.agreement.proofs.RulesLaws.{rules-laws}
 use Rattle.clause.specs.Statement.{opened}
-use Rattle.clause.specs.Drains.{isAccepted, DrainIsSteps, DrainEnds, DrainsEnd, SmallBound}
+use Rattle.clause.specs.Drains.{isAccepted, DrainIsSteps, DrainEnds, DrainsEnd, BoundSmall}
 use Rattle.clause.proofs.State
 use Rattle.clause.proofs.State.{machineOf, stateOf, Good}
 use Rattle.clause.proofs.Moves.{Moved}
@@ -60,7 +60,7 @@ all-accepted (suc n) b f =
     (λ _. refl)
 
 one-call : (limit : ℕ) (b : Buffers) → singles b (History.drain limit ∷ []) ≡ drainSteps limit b
-unfolding singles made
+unfolding singles stepsOf
 one-call limit b = append-nil (drainSteps limit b)
 
 pub drain-is-steps : DrainIsSteps
@@ -138,7 +138,7 @@ drains-end c table mail e calls limit =
     let k : Invariant (machineOf S M) (stateOf S M (b .table) (h .entries)) = rw (← h .state) (invariant (machineOf S M) (rules-laws S M) anything (h .run)) in
     subst (λ (m : List ℕ). DrainEnds c (buffers (b .table) m) limit) (sym (h .mail)) (drain-ends S M (c .capacity) (b .table) (h .entries) (h .good) k limit)
 
-pub bound-small : SmallBound
+pub bound-small : BoundSmall
 bound-small c table mail e n fits =
     let s = start-zero c table mail (start-accepted c table mail e) in
     BoundTheorem.small-bound (c .sessions) (c .items) n (s .max-sessions) (s .max-items) (omega (arith, fits, s .max-room))

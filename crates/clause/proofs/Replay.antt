@@ -17,7 +17,7 @@ use Rattle.lockmgr.specs.Calls.{Config}
 use Rattle.lockmgr.proofs.Judging.{start-zero}
 use Rattle.lockmgr.specs.Run as Run
 use Rattle.lockmgr.specs.Run.{Buffers, buffers, Done, doneOn, leftBy, done, left, tallied, rollsBack}
-use Rattle.lockmgr.specs.History.{made, singles}
+use Rattle.lockmgr.specs.History.{stepsOf, singles}
 use Rattle.clause.specs.Statement.{opened, closed, rollback, rolledBack}
 use Rattle.clause.specs.Drains.{callOf}
 use Rattle.clause.proofs.State.{Good}
@@ -69,7 +69,7 @@ replay S M C (c ∷ l) table mail k g e y =
 
 -- the single steps of a list of steps
 pub single-steps : (b : Buffers) (l : List Run.Step) → singles b (map callOf l) ≡ l
-unfolding singles made left
+unfolding singles stepsOf left
 single-steps b [] = refl
 single-steps b (c ∷ l) = ap (λ (k : List Run.Step). c ∷ k) (single-steps (leftBy (doneOn b c)) l)
 

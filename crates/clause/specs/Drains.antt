@@ -49,5 +49,5 @@ abbrev pub DrainsEnd : Type 0
 DrainsEnd = (c : Config) (table mail : List ℕ) → Calls.start c table mail .refusal ≡ 0 → (calls : List Call) (limit : ℕ) → DrainEnds c (after (opened c table mail) calls) limit
 
 -- the formula in numbers: at most 10^15 for any mail that fits
-abbrev pub SmallBound : Type 0
-SmallBound = (c : Config) (table mail : List ℕ) → Calls.start c table mail .refusal ≡ 0 → (n : ℕ) → n ≤ c .capacity → deliveryBound (c .sessions) (c .items) n ≤ 1000000000000000
+abbrev pub BoundSmall : Type 0
+BoundSmall = (c : Config) (table mail : List ℕ) → Calls.start c table mail .refusal ≡ 0 → (n : ℕ) → n ≤ c .capacity → deliveryBound (c .sessions) (c .items) n ≤ 1000000000000000

@@ -35,7 +35,7 @@ use Rattle.step.specs.Parts.{Judged, concluded}
 use Rattle.step.proofs.Acting.{acted-concluded, length-sent, deliverable, item-packed, juniors-whole}
 use Rattle.drain.specs.Oldest.{oldestActed}
 use Rattle.drain.specs.declared.Delivery.{Delivery}
-use Rattle.drain.specs.Parts.{pending, Spent, Due, fits, refusalOf, Way, Outcome, outcome, outcomeOf}
+use Rattle.drain.specs.Parts.{pending, Spent, Due, fits, refusalOf, Admitted, Outcome, outcome, outcomeOf}
 use Rattle.drain.proofs.Spent.{left, entries-left, oldest-left, filled-spent, filled-left}
 
 -- what a step comes to that only room can hinder: p is what it plans
@@ -98,7 +98,7 @@ module _ (table mail : List ℕ) (f : Formed table mail) (some : 0 < countOf mai
   all-entries : entriesOf mail ≡ oldest ∷ others
   all-entries = drop-cons (entriesOf mail) 0 unused (omega (arith, MailLaws.length-entries mail)) ∙ rw (MailLaws.getD-entries mail 0 some) refl
 
-  pub oldest-facts : EntryFacts (Table.sessionsOf table) (Table.itemsOf table) oldest
+  oldest-facts : EntryFacts (Table.sessionsOf table) (Table.itemsOf table) oldest
   oldest-facts =
       entry-facts (Table.sessionsOf table) (Table.itemsOf table) oldest (MailLaws.formed-entry (Table.sessionsOf table) (Table.itemsOf table) mail (f .mail-formed) 0 some)
 
@@ -106,14 +106,14 @@ module _ (table mail : List ℕ) (f : Formed table mail) (some : 0 < countOf mai
   oldest-judged = let e = oldest-facts in record { formed = f; session-low = e .session-low; session-high = e .session-high; item-low = e .item-low; item-high = e .item-high }
 
   -- only room can hinder its delivery
-  pub item-acts : oldest .direction ≡ toItem → oldestActed table mail ≡ concluded (oldest .session) table mail (to-item-plan oldest others table)
+  item-acts : oldest .direction ≡ toItem → oldestActed table mail ≡ concluded (oldest .session) table mail (to-item-plan oldest others table)
   item-acts h =
       let planned : plan Step.deliverToItem (oldest .session) (oldest .item) table (entriesOf mail) ≡ to-item-plan oldest others table = rw (all-entries) (item-plan oldest others table h) in
       rw (eq-eqb (oldest .direction) toItem h)
       (acted-concluded Step.deliverToItem (oldest .session) (oldest .item) table mail (rw (all-entries) (item-unhindered oldest others table h))
       ∙ ap (concluded (oldest .session) table mail) planned)
 
-  pub session-acts : (oldest .direction ≡ toItem → ⊥) → oldestActed table mail ≡ concluded (oldest .session) table mail (to-session-plan oldest others table)
+  session-acts : (oldest .direction ≡ toItem → ⊥) → oldestActed table mail ≡ concluded (oldest .session) table mail (to-session-plan oldest others table)
   session-acts n =
       let h : oldest .direction ≡ toSession = ⊎-elim (λ q. absurd (n q)) (λ q. q) (oldest-facts .kinds .direction) in
       let planned : plan Step.deliverToSession (oldest .session) (oldest .item) table (entriesOf mail) ≡ to-session-plan oldest others table = rw (all-entries) (session-plan oldest others table h) in
@@ -210,7 +210,7 @@ module _ (k : ℕ) (table mail : List ℕ) (due : Due k table mail) where
     by-tests true false e h = only-judged (due-entry .session) table (pending k mail) planned (room-left e)
     by-tests true true e h = absurd (true≢false h)
 
-    module _ (allowed : Bool) (d : Delivery) (mail′ : List ℕ) (way : Way k n allowed d mail mail′) where
+    module _ (allowed : Bool) (d : Delivery) (mail′ : List ℕ) (way : Admitted k n allowed d mail mail′) where
       pub told-stopped : d .made ≡ false → Spent (d .spent) mail′ × (outcome (d .refusal) table (pending (d .spent) mail′) ≡ told allowed)
       told-stopped e =
           let s = way .stays e in

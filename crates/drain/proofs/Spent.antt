@@ -5,8 +5,7 @@ use Prim.Native.Nat.{ℕ, _+_, _-_, _≤_, _<_}
 use native.Mathlib.Numerals.{add-one}
 use native.Mathlib.Omega.{arith}
 use lib.ListN.{length, drop, getD, length-append, length-drop}
-use lib.Seq.{drop-cons}
-use Rattle.lists.proofs.Laws.{drop-append}
+use lib.Seq.{drop-cons, drop-append-le}
 use Rattle.mailbox.specs.Entry.{Entry, unused}
 use Rattle.mailbox.specs.Layout.{Kept, capacityOf, countOf, entryAt, entriesOf, mailBytes}
 use Rattle.mailbox.proofs.Laws as MailLaws
@@ -69,4 +68,4 @@ module _ (j n k : ℕ) (before after : List ℕ) (p : Placed j n k before after)
   pub filled-left : pending k filled ≡ mailBytes (capacityOf before) (drop j (entriesOf before) ++ l)
   filled-left =
       let h = p .spent .kept in
-      rw (e, MailLaws.capacity-mail (capacityOf after) all (h .low) (h .high) fits, MailLaws.entries-mail (capacityOf after) all (h .low) (h .high) fits, drop-append k (entriesOf after) l (omega (arith, MailLaws.length-entries after, p .spent .few)), p .capacity, p .entries) refl
+      rw (e, MailLaws.capacity-mail (capacityOf after) all (h .low) (h .high) fits, MailLaws.entries-mail (capacityOf after) all (h .low) (h .high) fits, drop-append-le k (entriesOf after) l (omega (arith, MailLaws.length-entries after, p .spent .few)), p .capacity, p .entries) refl

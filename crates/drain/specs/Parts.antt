@@ -26,14 +26,14 @@ pub record Due (k : ℕ) (table mail : List ℕ) : Type 0 where
   pub inside : k < countOf mail
   pub formed : Formed table (pending k mail)
 
--- n more fit in behind the entries, where k are spent of what had j spent
+-- j entries were spent before and k are after; the others are the same, and n places are free behind them
 pub record Placed (j n k : ℕ) (before after : List ℕ) : Type 0 where
   pub spent : Spent k after
   pub capacity : capacityOf after ≡ capacityOf before
   pub entries : drop k (entriesOf after) ≡ drop j (entriesOf before)
   pub free : countOf after + n ≤ capacityOf after
 
--- n entries more have room without the first k
+-- n entries more have room without the first k: the test of `overfull`, by numbers
 abbrev pub fits : ℕ → ℕ → List ℕ → Bool
 fits k n mail = leb (length (drop k (entriesOf mail)) + n) (capacityOf mail)
 
@@ -42,7 +42,7 @@ abbrev pub refusalOf : Bool → ℕ
 refusalOf fit = cond fit 0 mailFull
 
 -- the delivery of entry k, which sends n messages, is made if they have room and it is allowed
-pub record Way (k n : ℕ) (allowed : Bool) (d : Delivery) (before after : List ℕ) : Type 0 where
+pub record Admitted (k n : ℕ) (allowed : Bool) (d : Delivery) (before after : List ℕ) : Type 0 where
   pub refusal : d .refusal ≡ refusalOf (fits (k + 1) n before)
   pub made : d .made ≡ fits (k + 1) n before && allowed
   pub stays : d .made ≡ false → (after ≡ before) × (d .spent ≡ k)

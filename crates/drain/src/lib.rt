@@ -16,7 +16,7 @@ ghost use Rattle.waits.specs.OnTable.{locks};
 ghost use Rattle.step.specs.Step.{sessionPlan, itemPlan};
 ghost use Rattle.step.specs.Parts.{concluded};
 ghost use Rattle.drain.specs.Oldest.{oldestActed};
-ghost use Rattle.drain.specs.Parts.{pending, Spent, Due, Placed, fits, refusalOf, Way, Delivers};
+ghost use Rattle.drain.specs.Parts.{pending, Spent, Due, Placed, fits, refusalOf, Admitted, Delivers};
 
 // What a delivery is refused with, or 0, whether it is made, and how many entries are spent after it.
 pub struct Delivery {
@@ -49,9 +49,9 @@ fn make_places(mail: &mut [u8], k: usize, n: usize) -> usize
 }
 
 // Judges whether the n messages that the delivery of entry k sends have room. If they do and it is allowed, makes places for them.
-fn make_way(mail: &mut [u8], k: usize, n: usize, allowed: bool) -> Delivery
+fn admit(mail: &mut [u8], k: usize, n: usize, allowed: bool) -> Delivery
     requires { ⌜ Spent (k + 1) (now mail) × (n ≤ room) ⌝ }
-    ensures { λ r. ⌜ Way k n allowed r (now (mail .entry)) (now (mail .exit)) ⌝ }
+    ensures { λ r. ⌜ Admitted k n allowed r (now (mail .entry)) (now (mail .exit)) ⌝ }
 {
     let refusal = room_refusal(mail, k + 1, n);
     if (refusal != 0) | !allowed {
@@ -77,7 +77,7 @@ fn deliver_to_session(t: u8, k: usize, allowed: bool, table: &mut [u8], mail: &m
         d (now (table .exit)) (now (mail .exit)) ⌝ }
 {
     let r = table::session(table, t).receive(t, mailbox::message_to_session(mail, k));
-    let d = make_way(mail, k, r.outbox.n, allowed);
+    let d = admit(mail, k, r.outbox.n, allowed);
     if !d.made {
         return d;
     }
@@ -94,7 +94,7 @@ fn deliver_to_item(x: u8, k: usize, allowed: bool, table: &mut [u8], mail: &mut 
         d (now (table .exit)) (now (mail .exit)) ⌝ }
 {
     let r = table::item(table, x).receive(mailbox::message_to_item(mail, k));
-    let d = make_way(mail, k, r.outbox.n, allowed);
+    let d = admit(mail, k, r.outbox.n, allowed);
     if !d.made {
         return d;
     }

@@ -70,12 +70,6 @@ module _ {A : Type 0} where
   filter-none p (a ∷ l) e =
       let h = and-both (not (p a)) (all (λ a. not (p a)) l) e in rw (not-true (p a) (h .0)) (filter-none p l (h .1))
 
-  -- what goes lies in the first of two lists
-  pub drop-append : (k : ℕ) (l r : List A) → k ≤ length l → drop k (l ++ r) ≡ drop k l ++ r
-  drop-append zero l r h = refl
-  drop-append (suc k) [] r h = absurd (omega arith)
-  drop-append (suc k) (a ∷ l) r h = drop-append k l r (omega arith)
-
   -- without an element the list is what stands before it and what stands behind it
   pub removeAt-split : (k : ℕ) (l : List A) → k < length l → removeAt k l ≡ take k l ++ drop (suc k) l
   unfolding removeAt

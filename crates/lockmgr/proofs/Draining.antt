@@ -140,7 +140,7 @@ module _ (b : Buffers) where
 
 module _ (limit j : ℕ) (from to : Buffers) (a : Ahead limit j from to) where
   -- a delivery is made
-  pub turn-delivers : j < limit → ending to ≡ limited → Ahead limit (j + 1) from (leftBy (doneOn to (oldest to)))
+  turn-delivers : j < limit → ending to ≡ limited → Ahead limit (j + 1) from (leftBy (doneOn to (oldest to)))
   unfolding left
   turn-delivers h e =
       let m = limit - (j + 1) in
@@ -153,14 +153,14 @@ module _ (limit j : ℕ) (from to : Buffers) (a : Ahead limit j from to) where
       }
 
   -- the drain ends
-  pub turn-ends : deliveries (limit - j) to ≡ [] → Ended limit j (ending to) from to
+  turn-ends : deliveries (limit - j) to ≡ [] → Ended limit j (ending to) from to
   unfolding left
   turn-ends e = record { made = omega (arith, a .made, ap length e); left = a .left ∙ ap (left to) e; ending = refl }
 
-  pub ends-limited : limit ≤ j → Ended limit j (ending to) from to
+  ends-limited : limit ≤ j → Ended limit j (ending to) from to
   ends-limited h = let n : limit - j ≡ 0 = omega arith in turn-ends (rw (n) (none-allowed to))
 
-  pub ends-early : (ending to ≡ limited → ⊥) → Ended limit j (ending to) from to
+  ends-early : (ending to ≡ limited → ⊥) → Ended limit j (ending to) from to
   ends-early h = turn-ends (none-possible to (limit - j) h)
 
   -- a turn is one or the other

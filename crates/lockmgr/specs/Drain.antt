@@ -31,7 +31,7 @@ full = 2
 abbrev pub limited : ℕ
 limited = 3
 
--- why a drain ends here, the first that applies: no mail, the next delivery would be refused with 9, no more are allowed: RULES 4.9
+-- why a drain that stops here ends: no mail is left; else the next delivery would be refused with 9; else the limit is reached: RULES 4.9
 unfoldable pub ending : Buffers → ℕ
 ending b =
     cond (eqb (Mail.countOf (b .mail)) 0) empty

@@ -11,15 +11,15 @@ pub data Call : Type 0 where
   drain : ℕ → Call
 
 -- the single steps that a call is made of, in their order: a report changes nothing, a drain is its deliveries
-unfoldable pub made : Buffers → Call → List Step
-made b (step verb t x) = record { verb = verb; session = t; item = x } ∷ []
-made b (report t) = []
-made b (drain limit) = drainSteps limit b
+unfoldable pub stepsOf : Buffers → Call → List Step
+stepsOf b (step verb t x) = record { verb = verb; session = t; item = x } ∷ []
+stepsOf b (report t) = []
+stepsOf b (drain limit) = drainSteps limit b
 
 -- and those of a list of calls
 unfoldable pub singles : Buffers → List Call → List Step
 singles b [] = []
-singles b (c ∷ l) = let k = made b c in k ++ singles (left b k) l
+singles b (c ∷ l) = let k = stepsOf b c in k ++ singles (left b k) l
 
 -- what a list of calls leaves, and its single steps, done
 abbrev pub after : Buffers → List Call → Buffers

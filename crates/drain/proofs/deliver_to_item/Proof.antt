@@ -42,8 +42,8 @@ message-to-item-requires c κs = let s = c .before .before .before .before .befo
 receive-requires : tie.Need-receive-requires
 receive-requires c κs = let s = c .before .before .before .before .before .before in rw (c .before .before .item .ensures, s .pre .1) (due-packed (s .args .k) (s .args .table .now) (s .args .mail .now) (s .pre .0))
 
-make-way-requires : tie.Need-make-way-requires
-make-way-requires c κs = (spent (c .before .before .before .before .before .before .before .before), few (c .before))
+admit-requires : tie.Need-admit-requires
+admit-requires c κs = (spent (c .before .before .before .before .before .before .before .before), few (c .before))
 
 same-length : tie.Need-same-length
 same-length c = search needs
@@ -55,10 +55,10 @@ returns : tie.Need-returns
 returns c =
     let s = c .before .before .before .before .before .before .before .before .before .before .before .before .before in
     let w = Did s in
-    rw (s .pre .1) (told-stopped (s .args .k) (s .args .table .now) (s .args .mail .now) (s .pre .0) (Table.withItem (s .args .table .now) (entryAt (s .args .mail .now) (s .args .k) .item) (packed (w .lock))) (fromItem (entryAt (s .args .mail .now) (s .args .k) .item)) (w .sends) (w .event) _ (ap (λ (r : ItemStep). r .outbox .n) (received (c .before .before .before .before .before .before))) (s .args .allowed) _ _ (c .before .before .before .before .make-way .ensures) (not-true _ (c .if1 .taken)))
+    rw (s .pre .1) (told-stopped (s .args .k) (s .args .table .now) (s .args .mail .now) (s .pre .0) (Table.withItem (s .args .table .now) (entryAt (s .args .mail .now) (s .args .k) .item) (packed (w .lock))) (fromItem (entryAt (s .args .mail .now) (s .args .k) .item)) (w .sends) (w .event) _ (ap (λ (r : ItemStep). r .outbox .n) (received (c .before .before .before .before .before .before))) (s .args .allowed) _ _ (c .before .before .before .before .admit .ensures) (not-true _ (c .if1 .taken)))
 
 post-requires : tie.Need-post-requires
-post-requires c κs = let p = c .before .before .before .before .before .make-way .ensures .placed (not-false _ (c .before .if1 .left)) in record { kept = p .spent .kept; few = few (c .before .before .before .before .before .before .before); fits = p .free }
+post-requires c κs = let p = c .before .before .before .before .before .admit .ensures .placed (not-false _ (c .before .if1 .left)) in record { kept = p .spent .kept; few = few (c .before .before .before .before .before .before .before); fits = p .free }
 
 put-item-requires : tie.Need-put-item-requires
 put-item-requires c κs = let s = c .before .before .before .before .before .before .before .before .before .before .before .before .before .before .before .before .before .before in rw (s .pre .1) (has-item (s .args .k) (s .args .table .now) (s .args .mail .now) (s .pre .0))
@@ -75,7 +75,7 @@ returns-2 c =
     let w = Did s in
     let does = received (c .before .before .before .before .before .before .before .before .before .before .before .before .before .before) in
     rw (c .before .before .put-item .ensures, does, s .pre .1)
-    (told-made (s .args .k) (s .args .table .now) (s .args .mail .now) (s .pre .0) (Table.withItem (s .args .table .now) (entryAt (s .args .mail .now) (s .args .k) .item) (packed (w .lock))) (fromItem (entryAt (s .args .mail .now) (s .args .k) .item)) (w .sends) (w .event) _ (ap (λ (r : ItemStep). r .outbox .n) (received (c .before .before .before .before .before .before .before .before .before .before .before .before .before .before))) (s .args .allowed) _ _ (c .before .before .before .before .before .before .before .before .before .before .before .before .make-way .ensures) (not-false _ (c .before .before .before .before .before .before .before .before .if1 .left)) (rw (s .pre .1) at (c .before .before .before .before .before .before .post .ensures (w .sends) (ap (λ (r : ItemStep). r .outbox) does))))
+    (told-made (s .args .k) (s .args .table .now) (s .args .mail .now) (s .pre .0) (Table.withItem (s .args .table .now) (entryAt (s .args .mail .now) (s .args .k) .item) (packed (w .lock))) (fromItem (entryAt (s .args .mail .now) (s .args .k) .item)) (w .sends) (w .event) _ (ap (λ (r : ItemStep). r .outbox .n) (received (c .before .before .before .before .before .before .before .before .before .before .before .before .before .before))) (s .args .allowed) _ _ (c .before .before .before .before .before .before .before .before .before .before .before .before .admit .ensures) (not-false _ (c .before .before .before .before .before .before .before .before .if1 .left)) (rw (s .pre .1) at (c .before .before .before .before .before .before .post .ensures (w .sends) (ap (λ (r : ItemStep). r .outbox) does))))
 
 pub deliver-to-item-spec : {M : Type 1} → statement M
 deliver-to-item-spec =
@@ -84,7 +84,7 @@ deliver-to-item-spec =
     item-requires
     message-to-item-requires
     receive-requires
-    make-way-requires
+    admit-requires
     same-length
     same-length-2
     returns

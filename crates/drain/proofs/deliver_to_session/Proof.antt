@@ -39,8 +39,8 @@ message-to-session-requires c κs = let s = c .before .before .before .before .b
 receive-requires : tie.Need-receive-requires
 receive-requires c κs = let s = c .before .before .before .before .before .before in rw (c .message-to-session .ensures) (due-deliverable (s .args .k) (s .args .table .now) (s .args .mail .now) (s .pre .0))
 
-make-way-requires : tie.Need-make-way-requires
-make-way-requires c κs = (spent (c .before .before .before .before .before .before .before .before), few (c .before))
+admit-requires : tie.Need-admit-requires
+admit-requires c κs = (spent (c .before .before .before .before .before .before .before .before), few (c .before))
 
 same-length : tie.Need-same-length
 same-length c = search needs
@@ -52,10 +52,10 @@ returns : tie.Need-returns
 returns c =
     let s = c .before .before .before .before .before .before .before .before .before .before .before .before .before in
     let w = Did s in
-    rw (s .pre .1) (told-stopped (s .args .k) (s .args .table .now) (s .args .mail .now) (s .pre .0) (Table.withSession (s .args .table .now) (entryAt (s .args .mail .now) (s .args .k) .session) (w .session)) (fromSession (entryAt (s .args .mail .now) (s .args .k) .session)) (w .sends) Nothing _ (ap (λ (r : SessionStep). r .outbox .n) (received (c .before .before .before .before .before .before))) (s .args .allowed) _ _ (c .before .before .before .before .make-way .ensures) (not-true _ (c .if1 .taken)))
+    rw (s .pre .1) (told-stopped (s .args .k) (s .args .table .now) (s .args .mail .now) (s .pre .0) (Table.withSession (s .args .table .now) (entryAt (s .args .mail .now) (s .args .k) .session) (w .session)) (fromSession (entryAt (s .args .mail .now) (s .args .k) .session)) (w .sends) Nothing _ (ap (λ (r : SessionStep). r .outbox .n) (received (c .before .before .before .before .before .before))) (s .args .allowed) _ _ (c .before .before .before .before .admit .ensures) (not-true _ (c .if1 .taken)))
 
 post-requires : tie.Need-post-requires
-post-requires c κs = let p = c .before .before .before .before .before .make-way .ensures .placed (not-false _ (c .before .if1 .left)) in record { kept = p .spent .kept; few = few (c .before .before .before .before .before .before .before); fits = p .free }
+post-requires c κs = let p = c .before .before .before .before .before .admit .ensures .placed (not-false _ (c .before .if1 .left)) in record { kept = p .spent .kept; few = few (c .before .before .before .before .before .before .before); fits = p .free }
 
 put-session-requires : tie.Need-put-session-requires
 put-session-requires c κs = let s = c .before .before .before .before .before .before .before .before .before .before .before .before .before .before .before .before .before .before in rw (s .pre .1) (has-session (s .args .k) (s .args .table .now) (s .args .mail .now) (s .pre .0))
@@ -72,7 +72,7 @@ returns-2 c =
     let w = Did s in
     let does = received (c .before .before .before .before .before .before .before .before .before .before .before .before .before .before) in
     rw (c .before .before .put-session .ensures, does, s .pre .1)
-    (told-made (s .args .k) (s .args .table .now) (s .args .mail .now) (s .pre .0) (Table.withSession (s .args .table .now) (entryAt (s .args .mail .now) (s .args .k) .session) (w .session)) (fromSession (entryAt (s .args .mail .now) (s .args .k) .session)) (w .sends) Nothing _ (ap (λ (r : SessionStep). r .outbox .n) (received (c .before .before .before .before .before .before .before .before .before .before .before .before .before .before))) (s .args .allowed) _ _ (c .before .before .before .before .before .before .before .before .before .before .before .before .make-way .ensures) (not-false _ (c .before .before .before .before .before .before .before .before .if1 .left)) (rw (s .pre .1) at (c .before .before .before .before .before .before .post .ensures (w .sends) (ap (λ (r : SessionStep). r .outbox) does))))
+    (told-made (s .args .k) (s .args .table .now) (s .args .mail .now) (s .pre .0) (Table.withSession (s .args .table .now) (entryAt (s .args .mail .now) (s .args .k) .session) (w .session)) (fromSession (entryAt (s .args .mail .now) (s .args .k) .session)) (w .sends) Nothing _ (ap (λ (r : SessionStep). r .outbox .n) (received (c .before .before .before .before .before .before .before .before .before .before .before .before .before .before))) (s .args .allowed) _ _ (c .before .before .before .before .before .before .before .before .before .before .before .before .admit .ensures) (not-false _ (c .before .before .before .before .before .before .before .before .if1 .left)) (rw (s .pre .1) at (c .before .before .before .before .before .before .post .ensures (w .sends) (ap (λ (r : SessionStep). r .outbox) does))))
 
 pub deliver-to-session-spec : {M : Type 1} → statement M
 deliver-to-session-spec =
@@ -81,7 +81,7 @@ deliver-to-session-spec =
     session-requires
     message-to-session-requires
     receive-requires
-    make-way-requires
+    admit-requires
     same-length
     same-length-2
     returns

@@ -6,8 +6,8 @@ use native.Mathlib.Omega.{arith}
 use lib.Dec.{eqb}
 use Rattle.drain.specs.Parts.{fits, refusalOf}
 use borrow.Author.Needs.{needs}
-use Rattle.drain.proofs.make_way.Statement.{statement}
-use Rattle.drain.proofs.make_way.Tie as tie
+use Rattle.drain.proofs.admit.Statement.{statement}
+use Rattle.drain.proofs.admit.Tie as tie
 
 stops : (fit allowed : Bool) → not (eqb (refusalOf fit) 0) || not allowed ≡ true → false ≡ fit && allowed
 stops false allowed h = refl
@@ -62,5 +62,5 @@ returns-2 c =
       placed = λ _. c .before .before .make-places .ensures;
     }
 
-pub make-way-spec : {M : Type 1} → statement M
-make-way-spec = tie.close (tie.spec add-room-refusal room-refusal-requires same-length returns add-make-places make-places-requires same-length-2 returns-2)
+pub admit-spec : {M : Type 1} → statement M
+admit-spec = tie.close (tie.spec add-room-refusal room-refusal-requires same-length returns add-make-places make-places-requires same-length-2 returns-2)
