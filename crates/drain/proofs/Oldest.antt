@@ -1,6 +1,6 @@
 -- The delivery of the oldest entry: only room can hinder it, and the other entries are left.
-use mathlib.Core.Path.{_≡_, refl, sym, ap, _∙_}
-use mathlib.Core.Bool.{Bool, true, false, _&&_, true≢false}
+use mathlib.Core.Path.{_≡_, refl, sym, ap, subst, _∙_}
+use mathlib.Core.Bool.{Bool, true, false, cond, _&&_, true≢false}
 use mathlib.Core.List.{List, _∷_, _++_, map}
 use mathlib.Core.Logic.{_⊎_, inl, inr, ⊎-elim}
 use Prim.Native.Nat.{ℕ, _+_, _≤_, _<_}
@@ -8,9 +8,9 @@ use native.Mathlib.Omega.{arith}
 use lib.Dec.{eqb}
 use lib.ListN.{length, drop, length-map}
 use lib.Seq.{drop-cons}
-use borrow.Author.Tests.{eq-eqb, ne-eqb, eqb-true, eqb-false, leb-true, leb-false, lt-ltb, le-ltb}
+use borrow.Author.Tests.{eq-eqb, ne-eqb, leb-true, leb-false, lt-ltb, le-ltb}
 use Rattle.lists.specs.Lists.{findIndex, removeAt}
-use Rattle.lists.proofs.Tests.{by-answer, and-both}
+use Rattle.lists.proofs.Tests.{by-answer, and-both, eqb-self}
 use Rattle.message.specs.declared.Message.{Message}
 use Rattle.message.specs.Outbox as Outbox
 use Rattle.session.specs.Seniority.{senior}
@@ -33,7 +33,7 @@ use Rattle.step.specs.Step as Step
 use Rattle.step.specs.Step.{Plan, Formed, delivered, sessionActs, sessionPlan, itemPlan, plan, stepCauses, overfull, stepped, refusedAnswer}
 use Rattle.step.specs.Parts.{Judged, concluded}
 use Rattle.step.proofs.Acting.{acted-concluded, length-sent, deliverable, item-packed, juniors-whole}
-use Rattle.drain.specs.Oldest.{oldestActed}
+use Rattle.drain.specs.Oldest.{verbOf, oldestActed}
 use Rattle.drain.specs.declared.Delivery.{Delivery}
 use Rattle.drain.specs.Parts.{pending, Spent, Due, fits, refusalOf, Admitted, Outcome, outcome, outcomeOf}
 use Rattle.drain.proofs.Spent.{left, entries-left, oldest-left, filled-spent, filled-left}
@@ -56,36 +56,34 @@ module _ (t : ℕ) (table mail : List ℕ) (p : Plan) where
 
 -- the oldest of a list of entries is the earliest of its route
 module _ (e : Entry) (rest : List Entry) (table : List ℕ) where
-  abbrev route-there : ℕ → Type 0
-  route-there d = onRoute d (e .session) (e .item) e ≡ true
+  abbrev to-item : Plan
+  to-item = itemPlan (e .item) table rest (Item.received senior nextHolder (locks table (e .item)) (seenByItem e))
 
-  on-route : (d : ℕ) → e .direction ≡ d → route-there d
-  on-route d h = rw (eq-eqb (e .direction) d h, eq-eqb (e .session) (e .session) refl, eq-eqb (e .item) (e .item) refl) refl
+  abbrev to-session : Plan
+  to-session = sessionPlan (e .session) table rest (Session.received senior (e .session) (Table.session table (e .session)) (seenBySession e))
+
+  -- what its delivery plans, by its direction
+  abbrev directed : Plan
+  directed = cond (eqb (e .direction) toItem) to-item to-session
+
+  on-route : (d : ℕ) → e .direction ≡ d → onRoute d (e .session) (e .item) e ≡ true
+  on-route d h = rw (eq-eqb (e .direction) d h, eqb-self (e .session), eqb-self (e .item)) refl
 
   not-none : eqb 0 (length (e ∷ rest)) ≡ false
   not-none = ne-eqb 0 (length (e ∷ rest)) (λ q. absurd (omega (arith, q)))
 
-  abbrev to-item-plan : Plan
-  to-item-plan = itemPlan (e .item) table rest (Item.received senior nextHolder (locks table (e .item)) (seenByItem e))
+  -- no cause but room can hinder it, and this is its plan, whether it runs to its item or not
+  abbrev Delivered : Bool → Type 0
+  Delivered b =
+      let verb = cond b Step.deliverToItem Step.deliverToSession in
+      (first (stepCauses verb (e .session) (e .item) table (e ∷ rest)) ≡ 0) × (plan verb (e .session) (e .item) table (e ∷ rest) ≡ cond b to-item to-session)
 
-  abbrev to-session-plan : Plan
-  to-session-plan = sessionPlan (e .session) table rest (Session.received senior (e .session) (Table.session table (e .session)) (seenBySession e))
-
-  item-plan : e .direction ≡ toItem → plan Step.deliverToItem (e .session) (e .item) table (e ∷ rest) ≡ to-item-plan
-  unfolding plan delivered findIndex removeAt
-  item-plan h = rw (on-route toItem h) refl
-
-  session-plan : e .direction ≡ toSession → plan Step.deliverToSession (e .session) (e .item) table (e ∷ rest) ≡ to-session-plan
-  unfolding plan delivered sessionActs findIndex removeAt
-  session-plan h = rw (on-route toSession h) refl
-
-  item-unhindered : e .direction ≡ toItem → first (stepCauses Step.deliverToItem (e .session) (e .item) table (e ∷ rest)) ≡ 0
-  unfolding first delivered findIndex
-  item-unhindered h = rw (on-route toItem h, not-none) refl
-
-  session-unhindered : e .direction ≡ toSession → first (stepCauses Step.deliverToSession (e .session) (e .item) table (e ∷ rest)) ≡ 0
-  unfolding first delivered findIndex
-  session-unhindered h = rw (on-route toSession h, not-none) refl
+  delivered-first : (e .direction ≡ toItem) ⊎ (e .direction ≡ toSession) → Delivered (eqb (e .direction) toItem)
+  unfolding plan first delivered sessionActs findIndex removeAt
+  delivered-first =
+      ⊎-elim
+      (λ h. subst Delivered (sym (eq-eqb (e .direction) toItem h)) (rw (on-route toItem h, not-none) refl, rw (on-route toItem h) refl))
+      (λ h. subst Delivered (sym (ne-eqb (e .direction) toItem (λ q. absurd (omega (arith, h, q))))) (rw (on-route toSession h, not-none) refl, rw (on-route toSession h) refl))
 
 -- the oldest entry of well-formed buffers
 module _ (table mail : List ℕ) (f : Formed table mail) (some : 0 < countOf mail) where
@@ -106,27 +104,16 @@ module _ (table mail : List ℕ) (f : Formed table mail) (some : 0 < countOf mai
   oldest-judged = let e = oldest-facts in record { formed = f; session-low = e .session-low; session-high = e .session-high; item-low = e .item-low; item-high = e .item-high }
 
   -- only room can hinder its delivery
-  item-acts : oldest .direction ≡ toItem → oldestActed table mail ≡ concluded (oldest .session) table mail (to-item-plan oldest others table)
-  item-acts h =
-      let planned : plan Step.deliverToItem (oldest .session) (oldest .item) table (entriesOf mail) ≡ to-item-plan oldest others table = rw (all-entries) (item-plan oldest others table h) in
-      rw (eq-eqb (oldest .direction) toItem h)
-      (acted-concluded Step.deliverToItem (oldest .session) (oldest .item) table mail (rw (all-entries) (item-unhindered oldest others table h))
-      ∙ ap (concluded (oldest .session) table mail) planned)
-
-  session-acts : (oldest .direction ≡ toItem → ⊥) → oldestActed table mail ≡ concluded (oldest .session) table mail (to-session-plan oldest others table)
-  session-acts n =
-      let h : oldest .direction ≡ toSession = ⊎-elim (λ q. absurd (n q)) (λ q. q) (oldest-facts .kinds .direction) in
-      let planned : plan Step.deliverToSession (oldest .session) (oldest .item) table (entriesOf mail) ≡ to-session-plan oldest others table = rw (all-entries) (session-plan oldest others table h) in
-      rw (ne-eqb (oldest .direction) toItem n)
-      (acted-concluded Step.deliverToSession (oldest .session) (oldest .item) table mail (rw (all-entries) (session-unhindered oldest others table h))
-      ∙ ap (concluded (oldest .session) table mail) planned)
+  oldest-acts : oldestActed table mail ≡ concluded (oldest .session) table mail (directed oldest others table)
+  oldest-acts =
+      let known : Delivered oldest others table (eqb (oldest .direction) toItem) = delivered-first oldest others table (oldest-facts .kinds .direction) in
+      let planned : plan (verbOf oldest) (oldest .session) (oldest .item) table (entriesOf mail) ≡ directed oldest others table = rw (all-entries) (known .1) in
+      acted-concluded (verbOf oldest) (oldest .session) (oldest .item) table mail (rw (all-entries) (known .0))
+      ∙ ap (concluded (oldest .session) table mail) planned
 
   -- it is refused with 9 and changes nothing, or accepted
   pub refused-or-accepted : (oldestActed table mail ≡ stepped (refusedAnswer Refusal.mailFull) table mail) ⊎ (oldestActed table mail .answer .refusal ≡ 0)
-  refused-or-accepted =
-      by-answer (eqb (oldest .direction) toItem)
-      (λ q. rw (item-acts (eqb-true (oldest .direction) toItem q)) (by-room (oldest .session) table mail (to-item-plan oldest others table)))
-      (λ q. rw (session-acts (eqb-false (oldest .direction) toItem q)) (by-room (oldest .session) table mail (to-session-plan oldest others table)))
+  refused-or-accepted = rw (oldest-acts) (by-room (oldest .session) table mail (directed oldest others table))
 
 -- the oldest entry that is not spent
 module _ (k : ℕ) (table mail : List ℕ) (due : Due k table mail) where
@@ -145,6 +132,9 @@ module _ (k : ℕ) (table mail : List ℕ) (due : Due k table mail) where
   due-judged : Judged (due-entry .session) (due-entry .item) table (pending k mail)
   due-judged = rw (sym same-entry) (oldest-judged table (pending k mail) (due .formed) some-left)
 
+  pub due-spent : Spent (k + 1) mail
+  due-spent = record { kept = due .kept; few = omega (arith, due .inside) }
+
   pub has-session : Table.HasSession table (due-entry .session)
   has-session = record { sized = due .formed .records .sized; low = due-facts .session-low; high = due-facts .session-high }
 
@@ -153,8 +143,7 @@ module _ (k : ℕ) (table mail : List ℕ) (due : Due k table mail) where
 
   pub due-deliverable : Session.Deliverable (seenBySession due-entry)
   due-deliverable =
-      rw (sym (oldest-left k mail (due .kept) (due .inside)))
-      (deliverable (due-entry .session) (due-entry .item) table (pending k mail) due-judged 0 (omega (arith, left k mail (due .kept) .count, due .inside)))
+      rw (sym same-entry) (deliverable (due-entry .session) (due-entry .item) table (pending k mail) due-judged 0 some-left)
 
   pub due-packed : Packed (Table.item table (due-entry .item))
   due-packed = item-packed (due-entry .session) (due-entry .item) table (pending k mail) due-judged
@@ -175,19 +164,13 @@ module _ (k : ℕ) (table mail : List ℕ) (due : Due k table mail) where
   same-others : drop 1 (entriesOf (pending k mail)) ≡ others-due
   same-others = ap (drop 1) (left k mail (due .kept) .entries ∙ entries-left k mail (due .kept) (due .inside))
 
-  pub due-item-acts : due-entry .direction ≡ toItem → oldestActed table (pending k mail) ≡ concluded (due-entry .session) table (pending k mail) (to-item-plan due-entry others-due table)
-  due-item-acts h =
-      item-acts table (pending k mail) (due .formed) some-left (rw (same-entry) h)
-      ∙ ap (λ (e : Entry). concluded (e .session) table (pending k mail) (to-item-plan e (drop 1 (entriesOf (pending k mail))) table)) same-entry
-      ∙ ap (λ (l : List Entry). concluded (due-entry .session) table (pending k mail) (to-item-plan due-entry l table)) same-others
+  pub due-acts : oldestActed table (pending k mail) ≡ concluded (due-entry .session) table (pending k mail) (directed due-entry others-due table)
+  due-acts =
+      oldest-acts table (pending k mail) (due .formed) some-left
+      ∙ ap (λ (e : Entry). concluded (e .session) table (pending k mail) (directed e (drop 1 (entriesOf (pending k mail))) table)) same-entry
+      ∙ ap (λ (l : List Entry). concluded (due-entry .session) table (pending k mail) (directed due-entry l table)) same-others
 
-  pub due-session-acts : (due-entry .direction ≡ toItem → ⊥) → oldestActed table (pending k mail) ≡ concluded (due-entry .session) table (pending k mail) (to-session-plan due-entry others-due table)
-  due-session-acts n =
-      session-acts table (pending k mail) (due .formed) some-left (rw (same-entry) n)
-      ∙ ap (λ (e : Entry). concluded (e .session) table (pending k mail) (to-session-plan e (drop 1 (entriesOf (pending k mail))) table)) same-entry
-      ∙ ap (λ (l : List Entry). concluded (due-entry .session) table (pending k mail) (to-session-plan due-entry l table)) same-others
-
-  -- what the delivery comes to, by whether what is sent fits in with the others-due
+  -- what the delivery comes to, by whether what is sent fits in with the others
   module _ (after : List ℕ) (f : Message → Entry) (l : List Message) (event : Event) (n : ℕ) (few : n ≡ length l) where
     abbrev planned : Plan
     planned = record { table = after; entries = others-due ++ map f l; sent = length l; event = event }
@@ -210,23 +193,23 @@ module _ (k : ℕ) (table mail : List ℕ) (due : Due k table mail) where
     by-tests true false e h = only-judged (due-entry .session) table (pending k mail) planned (room-left e)
     by-tests true true e h = absurd (true≢false h)
 
-    module _ (allowed : Bool) (d : Delivery) (mail′ : List ℕ) (way : Admitted k n allowed d mail mail′) where
+    module _ (allowed : Bool) (d : Delivery) (mail′ : List ℕ) (a : Admitted k n allowed d mail mail′) where
       pub told-stopped : d .made ≡ false → Spent (d .spent) mail′ × (outcome (d .refusal) table (pending (d .spent) mail′) ≡ told allowed)
       told-stopped e =
-          let s = way .stays e in
-          rw (way .refusal, s .0, s .1) (record { kept = due .kept; few = omega (arith, due .inside) }, by-tests (fits (k + 1) n mail) allowed refl (sym (way .made) ∙ e))
+          let s = a .stays e in
+          rw (a .refusal, s .0, s .1) (record { kept = due .kept; few = omega (arith, due .inside) }, by-tests (fits (k + 1) n mail) allowed refl (sym (a .made) ∙ e))
 
       both : d .made ≡ true → (fits (k + 1) n mail ≡ true) × (allowed ≡ true)
-      both e = and-both (fits (k + 1) n mail) allowed (sym (way .made) ∙ e)
+      both e = and-both (fits (k + 1) n mail) allowed (sym (a .made) ∙ e)
 
       -- or what is sent is added, and the record written
       pub told-made : d .made ≡ true → {filled : List ℕ} → filled ≡ mailBytes (capacityOf mail′) (entriesOf mail′ ++ map f l)
           → Spent (d .spent) filled × (outcome (d .refusal) after (pending (d .spent) filled) ≡ told allowed)
       told-made e q =
-          let p = way .placed e in
+          let p = a .placed e in
           let b = both e in
           let count : length (map f l) ≡ n = length-map l f ∙ sym few in (
             filled-spent (k + 1) n (d .spent) mail mail′ p (map f l) count q,
-            rw (way .refusal, b .0, b .1, filled-left (k + 1) n (d .spent) mail mail′ p (map f l) count q)
+            rw (a .refusal, b .0, b .1, filled-left (k + 1) n (d .spent) mail mail′ p (map f l) count q)
                 (ap (λ (C : ℕ). outcome 0 after (mailBytes C (others-due ++ map f l))) (sym same-capacity) ∙ made (due-entry .session) table (pending k mail) planned (room-left (b .0))),
           )

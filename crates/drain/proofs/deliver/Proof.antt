@@ -1,8 +1,10 @@
 -- The route says who receives the entry.
 use mathlib.Core.Path.{sym, ap, _∙_}
+use borrow.Author.Tests.{eq-eqb, ne-eqb}
 use Rattle.mailbox.specs.declared.Route.{Route}
-use Rattle.drain.specs.Parts.{outcomeOf, pending}
-use Rattle.drain.proofs.Oldest.{due-item-acts, due-session-acts}
+use Rattle.mailbox.specs.Entry.{toItem}
+use Rattle.mailbox.specs.Layout.{entryAt}
+use Rattle.drain.proofs.Oldest.{due-acts}
 use borrow.Author.Needs.{needs}
 use Rattle.drain.proofs.deliver.Statement.{statement}
 use Rattle.drain.proofs.deliver.Tie as tie
@@ -22,9 +24,10 @@ same-length-2 c = search needs
 returns : tie.Need-returns
 returns c =
     let s = c .before .before .before .before .before .before .before .before .before .before .before .before .before in
-    let d = c .before .before .before .before .deliver-to-item .ensures in
     let route = c .before .before .before .before .before .before .before .before .before .route-of .ensures in
-    (d .0, (rw (ap (λ (r : Route). r .item) route) at (d .1)) ∙ ap (outcomeOf (s .args .allowed) (s .args .table .now) (pending (s .args .k) (s .args .mail .now))) (sym (due-item-acts (s .args .k) (s .args .table .now) (s .args .mail .now) (s .pre) (sym (ap (λ (r : Route). r .direction) route) ∙ c .before .before .before .before .before .before .before .if1 .taken))))
+    let to = sym (ap (λ (r : Route). r .direction) route) ∙ c .before .before .before .before .before .before .before .if1 .taken in
+    rw (due-acts (s .args .k) (s .args .table .now) (s .args .mail .now) (s .pre), eq-eqb (entryAt (s .args .mail .now) (s .args .k) .direction) toItem to)
+    (rw (ap (λ (r : Route). r .item) route) at (c .before .before .before .before .deliver-to-item .ensures))
 
 deliver-to-session-requires : tie.Need-deliver-to-session-requires
 deliver-to-session-requires c κs = (c .before .before .before .before .before .before .before .before .pre, ap (λ (r : Route). r .session) (c .before .before .before .before .route-of .ensures))
@@ -38,9 +41,9 @@ same-length-4 c = search needs
 returns-2 : tie.Need-returns-2
 returns-2 c =
     let s = c .before .before .before .before .before .before .before .before .before .before .before .before .before in
-    let d = c .before .before .before .before .deliver-to-session .ensures in
     let route = c .before .before .before .before .before .before .before .before .before .route-of .ensures in
-    (d .0, (rw (ap (λ (r : Route). r .session) route) at (d .1)) ∙ ap (outcomeOf (s .args .allowed) (s .args .table .now) (pending (s .args .k) (s .args .mail .now))) (sym (due-session-acts (s .args .k) (s .args .table .now) (s .args .mail .now) (s .pre) (λ q. c .before .before .before .before .before .before .before .if1 .left (ap (λ (r : Route). r .direction) route ∙ q)))))
+    rw (due-acts (s .args .k) (s .args .table .now) (s .args .mail .now) (s .pre), ne-eqb (entryAt (s .args .mail .now) (s .args .k) .direction) toItem (λ q. c .before .before .before .before .before .before .before .if1 .left (ap (λ (r : Route). r .direction) route ∙ q)))
+    (rw (ap (λ (r : Route). r .session) route) at (c .before .before .before .before .deliver-to-session .ensures))
 
 pub deliver-spec : {M : Type 1} → statement M
 deliver-spec =

@@ -1,7 +1,7 @@
 -- The delivery to an item: judged for room, then only told, or written.
 use mathlib.Core.Path.{_≡_, refl, ap, _∙_}
 use native.Mathlib.Omega.{arith}
-use Prim.Native.Nat.{_+_, _≤_}
+use Prim.Native.Nat.{_≤_}
 use borrow.Author.Tests.{not-true, not-false}
 use Rattle.message.specs.Outbox.{room}
 use Rattle.session.specs.Seniority.{senior}
@@ -13,8 +13,7 @@ use Rattle.mailbox.specs.Entry.{fromItem, seenByItem}
 use Rattle.waits.specs.OnTable.{locks}
 use Rattle.mailbox.specs.Layout.{entryAt}
 use Rattle.table.specs.Layout as Table
-use Rattle.drain.specs.Parts.{Spent}
-use Rattle.drain.proofs.Oldest.{has-item, due-packed, item-sends-few, told-stopped, told-made}
+use Rattle.drain.proofs.Oldest.{due-spent, has-item, due-packed, item-sends-few, told-stopped, told-made}
 use borrow.Author.Needs.{needs}
 use Rattle.drain.proofs.deliver_to_item.Statement.{statement}
 use Rattle.drain.proofs.deliver_to_item.Tie as tie
@@ -30,9 +29,6 @@ received c = let s = c .before .before .before .before .before .before .before i
 few : (c : tie.After-receive) → c .receive .result .outbox .n ≤ room
 few c = let s = c .before .before .before .before .before .before .before in omega (arith, ap (λ (r : ItemStep). r .outbox .n) (received c), item-sends-few (s .args .k) (s .args .table .now) (s .args .mail .now) (s .pre .0))
 
-spent : (s : tie.Start) → Spent (s .args .k + 1) (s .args .mail .now)
-spent s = record { kept = s .pre .0 .kept; few = omega (arith, s .pre .0 .inside) }
-
 item-requires : tie.Need-item-requires
 item-requires c κs = let s = c .before .before .before in rw (s .pre .1) (has-item (s .args .k) (s .args .table .now) (s .args .mail .now) (s .pre .0))
 
@@ -43,7 +39,7 @@ receive-requires : tie.Need-receive-requires
 receive-requires c κs = let s = c .before .before .before .before .before .before in rw (c .before .before .item .ensures, s .pre .1) (due-packed (s .args .k) (s .args .table .now) (s .args .mail .now) (s .pre .0))
 
 admit-requires : tie.Need-admit-requires
-admit-requires c κs = (spent (c .before .before .before .before .before .before .before .before), few (c .before))
+admit-requires c κs = let s = c .before .before .before .before .before .before .before .before in (due-spent (s .args .k) (s .args .table .now) (s .args .mail .now) (s .pre .0), few (c .before))
 
 same-length : tie.Need-same-length
 same-length c = search needs

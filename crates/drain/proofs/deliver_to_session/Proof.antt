@@ -1,7 +1,7 @@
 -- The delivery to a session: judged for room, then only told, or written.
 use mathlib.Core.Path.{_≡_, refl, ap, _∙_}
 use native.Mathlib.Omega.{arith}
-use Prim.Native.Nat.{_+_, _≤_}
+use Prim.Native.Nat.{_≤_}
 use borrow.Author.Tests.{not-true, not-false}
 use Rattle.message.specs.Outbox.{room}
 use Rattle.session.specs.Seniority.{senior}
@@ -11,8 +11,7 @@ use Rattle.item.specs.declared.Event.the-variants.{Nothing}
 use Rattle.mailbox.specs.Entry.{fromSession, seenBySession}
 use Rattle.mailbox.specs.Layout.{entryAt}
 use Rattle.table.specs.Layout as Table
-use Rattle.drain.specs.Parts.{Spent}
-use Rattle.drain.proofs.Oldest.{has-session, due-deliverable, session-sends-few, told-stopped, told-made}
+use Rattle.drain.proofs.Oldest.{due-spent, has-session, due-deliverable, session-sends-few, told-stopped, told-made}
 use borrow.Author.Needs.{needs}
 use Rattle.drain.proofs.deliver_to_session.Statement.{statement}
 use Rattle.drain.proofs.deliver_to_session.Tie as tie
@@ -27,9 +26,6 @@ received c = let s = c .before .before .before .before .before .before .before i
 few : (c : tie.After-receive) → c .receive .result .outbox .n ≤ room
 few c = let s = c .before .before .before .before .before .before .before in omega (arith, ap (λ (r : SessionStep). r .outbox .n) (received c), session-sends-few (s .args .k) (s .args .table .now) (s .args .mail .now) (s .pre .0))
 
-spent : (s : tie.Start) → Spent (s .args .k + 1) (s .args .mail .now)
-spent s = record { kept = s .pre .0 .kept; few = omega (arith, s .pre .0 .inside) }
-
 session-requires : tie.Need-session-requires
 session-requires c κs = let s = c .before .before .before in rw (s .pre .1) (has-session (s .args .k) (s .args .table .now) (s .args .mail .now) (s .pre .0))
 
@@ -40,7 +36,7 @@ receive-requires : tie.Need-receive-requires
 receive-requires c κs = let s = c .before .before .before .before .before .before in rw (c .message-to-session .ensures) (due-deliverable (s .args .k) (s .args .table .now) (s .args .mail .now) (s .pre .0))
 
 admit-requires : tie.Need-admit-requires
-admit-requires c κs = (spent (c .before .before .before .before .before .before .before .before), few (c .before))
+admit-requires c κs = let s = c .before .before .before .before .before .before .before .before in (due-spent (s .args .k) (s .args .table .now) (s .args .mail .now) (s .pre .0), few (c .before))
 
 same-length : tie.Need-same-length
 same-length c = search needs
