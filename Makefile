@@ -13,7 +13,8 @@
 #   make install-test  installs into an empty folder and compiles the examples there
 #   make replay-test   lists of steps, good and bad
 #   make fuzz          the comparison with new seeds: FUZZ_SECONDS=60, SEED=n to repeat one
-#   make bench         times of a call beside model, floor and hand-written Rust
+#   make bench         times of a call beside model, floor and hand-written Rust;
+#                      BEFORE=path/to/liblockmgr.so beside an earlier library too
 #   make picture       draws docs/cycle.svg anew (needs Graphviz)
 #   make format        lays out all sources anew; make format-check only looks
 #   make clean         removes what was built
@@ -28,6 +29,7 @@ STEP ?=
 DOT ?=
 FUZZ_SECONDS ?= 60
 SEED ?=
+BEFORE ?=
 WORKER_SECONDS ?= 3
 PREFIX ?= /usr/local
 DESTDIR ?=
@@ -178,8 +180,8 @@ replay-test: build/bin/replay build/bin/trace
 fuzz: $(LIB)
 	cargo run $(CARGO_COMPARE) --bin fuzz -- $(FUZZ_SECONDS) $(SEED)
 
-bench: $(LIB) build/bin/replay
-	cargo run $(CARGO_COMPARE) --bin bench
+bench: $(LIB) $(if $(BEFORE),$(SHARED)) build/bin/replay
+	cargo run $(CARGO_COMPARE) --bin bench -- $(if $(BEFORE),"$(abspath $(BEFORE))" "$(abspath $(SHARED))")
 	cargo run $(CARGO_COMPARE) --bin replays -- $(abspath build/bin/replay) bench
 
 # The example's cycle, after the step that closes it.

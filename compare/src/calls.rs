@@ -1,7 +1,9 @@
 //! The four calls, by whoever answers them.
 
-use crate::{fast, library};
+use crate::fast;
 use model::{Answer, Config, Cycle, Drained, Misreading};
+
+pub use crate::library::Library;
 
 pub trait Calls {
     fn start(&self, config: Config, table: &mut [u8], mail: &mut [u8]) -> u8;
@@ -34,10 +36,6 @@ macro_rules! calls {
         }
     };
 }
-
-/// The library, over its C interface.
-pub struct Library;
-calls!(Library, library);
 
 /// The model.
 pub struct Model;

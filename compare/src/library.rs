@@ -1,8 +1,11 @@
-//! The C calls of the library, safe on slices. The declarations are those of
-//! include/lockmgr.h.
+//! The C calls of a library, safe on slices: of the one that this program is
+//! linked with, or of an earlier one that is loaded to be measured beside it. The
+//! declarations are those of include/lockmgr.h.
 
+use crate::calls::Calls;
 use model::{Answer, Config, Cycle, Drained};
-use std::ptr;
+use std::ffi::{c_char, c_int, c_void, CStr, CString};
+use std::{mem, ptr};
 
 #[repr(C)]
 struct LockmgrAnswer {
@@ -56,6 +59,63 @@ extern "C" {
         mail: *mut u8,
         mail_len: usize,
     ) -> LockmgrDrained;
+
+    fn dlopen(path: *const c_char, flags: c_int) -> *mut c_void;
+    fn dlsym(library: *mut c_void, name: *const c_char) -> *mut c_void;
+}
+
+type Start = unsafe extern "C" fn(u64, u64, u64, *mut u8, usize, *mut u8, usize) -> u8;
+type Step = unsafe extern "C" fn(u64, u64, u64, *mut u8, usize, *mut u8, usize) -> LockmgrAnswer;
+type Report = unsafe extern "C" fn(u64, *const u8, usize) -> LockmgrCycle;
+type Drain = unsafe extern "C" fn(u64, *mut u8, usize, *mut u8, usize) -> LockmgrDrained;
+
+/// The functions of a library.
+pub struct Library {
+    start: Start,
+    step: Step,
+    report: Report,
+    drain: Drain,
+}
+
+/// Every name is looked up when the library is loaded.
+const RTLD_NOW: c_int = 2;
+
+impl Library {
+    /// The one that this program is linked with.
+    pub const LINKED: Library = Library {
+        start: lockmgr_start,
+        step: lockmgr_step,
+        report: lockmgr_report,
+        drain: lockmgr_drain,
+    };
+
+    /// A shared library with the same interface.
+    pub fn load(path: &str) -> Result<Library, String> {
+        let c_path = CString::new(path).map_err(|_| format!("no path: {path}"))?;
+        // SAFETY: the path ends in a zero, and loading the library runs no code of it.
+        let library = unsafe { dlopen(c_path.as_ptr(), RTLD_NOW) };
+        if library.is_null() {
+            return Err(format!("{path} is no shared library"));
+        }
+        let find = |name: &CStr| {
+            // SAFETY: the library is loaded, and the name ends in a zero.
+            let function = unsafe { dlsym(library, name.as_ptr()) };
+            if function.is_null() {
+                Err(format!("{path} has no {name:?}"))
+            } else {
+                Ok(function)
+            }
+        };
+        // SAFETY: each is the function of that name in include/lockmgr.h.
+        unsafe {
+            Ok(Library {
+                start: mem::transmute::<*mut c_void, Start>(find(c"lockmgr_start")?),
+                step: mem::transmute::<*mut c_void, Step>(find(c"lockmgr_step")?),
+                report: mem::transmute::<*mut c_void, Report>(find(c"lockmgr_report")?),
+                drain: mem::transmute::<*mut c_void, Drain>(find(c"lockmgr_drain")?),
+            })
+        }
+    }
 }
 
 /// The pointer that C passes for these bytes: null if there are none.
@@ -67,71 +127,80 @@ fn pointer(bytes: &mut [u8]) -> *mut u8 {
     }
 }
 
-pub fn start(config: Config, table: &mut [u8], mail: &mut [u8]) -> u8 {
-    // SAFETY: each pointer is good for its length, and two `&mut` never overlap.
-    unsafe {
-        lockmgr_start(
-            config.sessions,
-            config.items,
-            config.capacity,
-            pointer(table),
-            table.len(),
-            pointer(mail),
-            mail.len(),
-        )
+impl Calls for Library {
+    fn start(&self, config: Config, table: &mut [u8], mail: &mut [u8]) -> u8 {
+        // SAFETY: each pointer is good for its length, and two `&mut` never overlap.
+        unsafe {
+            (self.start)(
+                config.sessions,
+                config.items,
+                config.capacity,
+                pointer(table),
+                table.len(),
+                pointer(mail),
+                mail.len(),
+            )
+        }
     }
-}
 
-pub fn step(verb: u64, session: u64, item: u64, table: &mut [u8], mail: &mut [u8]) -> Answer {
-    // SAFETY: as for `start`.
-    let answer = unsafe {
-        lockmgr_step(
-            verb,
-            session,
-            item,
-            pointer(table),
-            table.len(),
-            pointer(mail),
-            mail.len(),
-        )
-    };
-    Answer {
-        refusal: answer.refusal,
-        sent: answer.sent,
-        closed: answer.closed,
-        victim: answer.victim,
-        initiator: answer.initiator,
+    fn step(
+        &self,
+        verb: u64,
+        session: u64,
+        item: u64,
+        table: &mut [u8],
+        mail: &mut [u8],
+    ) -> Answer {
+        // SAFETY: as for `start`.
+        let answer = unsafe {
+            (self.step)(
+                verb,
+                session,
+                item,
+                pointer(table),
+                table.len(),
+                pointer(mail),
+                mail.len(),
+            )
+        };
+        Answer {
+            refusal: answer.refusal,
+            sent: answer.sent,
+            closed: answer.closed,
+            victim: answer.victim,
+            initiator: answer.initiator,
+        }
     }
-}
 
-pub fn report(session: u64, table: &[u8]) -> Cycle {
-    let pointer = if table.is_empty() {
-        ptr::null()
-    } else {
-        table.as_ptr()
-    };
-    // SAFETY: the pointer is good for its length, and report only reads.
-    let cycle = unsafe { lockmgr_report(session, pointer, table.len()) };
-    Cycle {
-        refusal: cycle.refusal,
-        length: cycle.length,
+    fn report(&self, session: u64, table: &[u8]) -> Cycle {
+        let pointer = if table.is_empty() {
+            ptr::null()
+        } else {
+            table.as_ptr()
+        };
+        // SAFETY: the pointer is good for its length, and report only reads.
+        let cycle = unsafe { (self.report)(session, pointer, table.len()) };
+        Cycle {
+            refusal: cycle.refusal,
+            length: cycle.length,
+        }
     }
-}
 
-pub fn drain(limit: u64, table: &mut [u8], mail: &mut [u8]) -> Drained {
-    // SAFETY: as for `start`.
-    let drained = unsafe {
-        lockmgr_drain(
-            limit,
-            pointer(table),
-            table.len(),
-            pointer(mail),
-            mail.len(),
-        )
-    };
-    Drained {
-        refusal: drained.refusal,
-        made: drained.made,
-        ending: drained.ending,
+    fn drain(&self, limit: u64, table: &mut [u8], mail: &mut [u8]) -> Drained {
+        // SAFETY: as for `start`.
+        let drained = unsafe {
+            (self.drain)(
+                limit,
+                pointer(table),
+                table.len(),
+                pointer(mail),
+                mail.len(),
+            )
+        };
+        Drained {
+            refusal: drained.refusal,
+            made: drained.made,
+            ending: drained.ending,
+        }
     }
 }

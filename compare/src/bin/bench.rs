@@ -1,7 +1,8 @@
 //! Times of one call: the library beside the model, beside one pass over the
 //! bytes, and beside the same rules written for speed; and of a drain beside the
-//! same single steps. All are measured in turn in one run, so that the ratios
-//! hold where the times do not.
+//! same single steps. `bench BEFORE LIBRARY` measures two shared libraries, an
+//! earlier one beside this one, both loaded in the same way. All are measured in
+//! turn in one run, so that the ratios hold where the times do not.
 
 use compare::calls::{Calls, Fast, Library, Model};
 use compare::comparison::Buffers;
@@ -15,7 +16,9 @@ use model::layout::{
 };
 use model::scenario::Random;
 use model::{Config, Drained, ACCEPTED};
+use std::env;
 use std::hint::black_box;
+use std::process::ExitCode;
 use std::time::Instant;
 
 /// Turns of each measurement; the median counts.
@@ -278,51 +281,68 @@ fn floor(call: Call, buffers: &Buffers) -> u8 {
     }
 }
 
-/// Nanoseconds of one call by library, model, floor, fast.
-fn measure_call(row: &Row) -> [f64; 4] {
-    let by = |subject: &dyn Calls, copy: &mut Buffers| {
-        refusal(subject, row.call, copy);
-    };
-    let subjects: [&dyn Fn(&mut Buffers); 4] = [
-        &|copy| by(&Library, copy),
-        &|copy| by(&Model, copy),
-        &|copy| {
-            black_box(floor(row.call, copy));
-        },
-        &|copy| by(&Fast, copy),
-    ];
-    measure(&row.buffers, TURNS, subjects)
+/// What is done with the buffers while it is timed.
+type Subject<'a> = Box<dyn Fn(&mut Buffers) + 'a>;
+
+/// The library that is measured and, if one is given, an earlier one beside it.
+struct Libraries {
+    library: Library,
+    before: Option<Library>,
 }
 
-/// Nanoseconds of what each of four does with these buffers, which are restored
+/// Nanoseconds of one call by library, model, floor, fast and an earlier library.
+fn measure_call(row: &Row, libraries: &Libraries) -> Vec<f64> {
+    fn by<'a>(subject: &'a dyn Calls, call: Call) -> Subject<'a> {
+        Box::new(move |copy| {
+            refusal(subject, call, copy);
+        })
+    }
+    let call = row.call;
+    let mut subjects = vec![
+        by(&libraries.library, call),
+        by(&Model, call),
+        Box::new(|copy| {
+            black_box(floor(call, copy));
+        }),
+        by(&Fast, call),
+    ];
+    let before = libraries.before.as_ref();
+    subjects.extend(before.map(|before| by(before, call)));
+    measure(&row.buffers, TURNS, &subjects)
+}
+
+/// Nanoseconds of what each subject does with these buffers, which are restored
 /// before each turn. That is not timed.
-fn measure(buffers: &Buffers, turns: usize, subjects: [&dyn Fn(&mut Buffers); 4]) -> [f64; 4] {
+fn measure(buffers: &Buffers, turns: usize, subjects: &[Subject]) -> Vec<f64> {
     let bytes = buffers.table.len() + buffers.mail.len();
     let together = (TOGETHER / bytes).max(1);
     let mut copies = vec![buffers.clone(); together];
-    let mut times: [Vec<u64>; 5] = Default::default();
-    for _ in 0..turns {
-        for (place, subject) in subjects.iter().enumerate() {
+    // One place more, for reading the clock.
+    let mut times = vec![Vec::new(); subjects.len() + 1];
+    for turn in 0..turns {
+        // Each is the first as often as the others.
+        for place in (0..subjects.len()).map(|k| (turn + k) % subjects.len()) {
             for copy in &mut copies {
                 copy.table.copy_from_slice(&buffers.table);
                 copy.mail.copy_from_slice(&buffers.mail);
             }
             let begin = Instant::now();
             for copy in &mut copies {
-                subject(copy);
+                subjects[place](copy);
             }
             times[place].push(begin.elapsed().as_nanos() as u64);
         }
         let begin = Instant::now();
-        times[4].push(begin.elapsed().as_nanos() as u64);
+        times[subjects.len()].push(begin.elapsed().as_nanos() as u64);
     }
-    let medians = times.map(|mut turns| {
+    let mut medians = times.into_iter().map(|mut turns| {
         turns.sort_unstable();
         turns[turns.len() / 2] as f64
     });
-    // Without the cost of reading the clock.
-    let of = |place: usize| (medians[place] - medians[4]).max(1.0) / together as f64;
-    [of(0), of(1), of(2), of(3)]
+    let measured: Vec<f64> = medians.by_ref().take(subjects.len()).collect();
+    let clock = medians.next().unwrap();
+    let of = |median: f64| (median - clock).max(1.0) / together as f64;
+    measured.into_iter().map(of).collect()
 }
 
 /// A drain with the largest buffers.
@@ -382,19 +402,25 @@ fn drain(subject: &dyn Calls, limit: u64, buffers: &mut Buffers) -> Drained {
 }
 
 /// The deliveries of a drain, as a caller makes them one by one.
-fn single_steps(made: u64, buffers: &mut Buffers) {
+fn single_steps(library: &Library, made: u64, buffers: &mut Buffers) {
     for _ in 0..made {
         let (verb, session, item) = buffers.delivery(0);
-        refusal(&Library, Call::Step(verb, session, item), buffers);
+        refusal(library, Call::Step(verb, session, item), buffers);
     }
 }
 
-fn print_drains(missed: &mut usize) {
+fn print_drains(libraries: &Libraries, missed: &mut usize) {
+    let Libraries { library, before } = libraries;
+    fn by<'a>(subject: &'a dyn Calls, limit: u64) -> Subject<'a> {
+        Box::new(move |copy| {
+            drain(subject, limit, copy);
+        })
+    }
     println!("\nNanoseconds of one delivery of a drain, median of {DRAIN_TURNS} turns.");
     println!("S = M = 64, C = 4096. ending: 1 empty mail, 3 limit.");
     println!("steps: the same deliveries by single steps of the library.");
     println!(
-        "{:>6}  {:34}{:>6}{:>8}{:>10}{:>10}{:>10}{:>10}  {:>7}{:13}{:>7}{:13}{:>7}",
+        "{:>6}  {:34}{:>6}{:>8}{:>10}{:>10}{:>10}{:>10}  {:>7}{:13}{:>7}{:13}{:>7}{}",
         "mail",
         "drain",
         "made",
@@ -408,30 +434,47 @@ fn print_drains(missed: &mut usize) {
         "/model",
         "",
         "/fast",
+        earlier_header(libraries),
     );
     for row in drain_rows() {
         let limit = row.limit;
-        let Drained { made, ending, .. } = drain(&Library, limit, &mut row.buffers.clone());
-        let by = |subject: &dyn Calls, copy: &mut Buffers| {
-            drain(subject, limit, copy);
-        };
-        let subjects: [&dyn Fn(&mut Buffers); 4] = [
-            &|copy| by(&Library, copy),
-            &|copy| single_steps(made, copy),
-            &|copy| by(&Model, copy),
-            &|copy| by(&Fast, copy),
+        let Drained { made, ending, .. } = drain(library, limit, &mut row.buffers.clone());
+        let mut subjects = vec![
+            by(library, limit),
+            Box::new(|copy| single_steps(library, made, copy)),
+            by(&Model, limit),
+            by(&Fast, limit),
         ];
-        let times = measure(&row.buffers, DRAIN_TURNS, subjects);
-        let [library, steps, model, fast] = times.map(|time| time / made as f64);
+        subjects.extend(before.as_ref().map(|before| by(before, limit)));
+        let mut times = measure(&row.buffers, DRAIN_TURNS, &subjects);
+        times.iter_mut().for_each(|time| *time /= made as f64);
+        let &[library, steps, model, fast, ref before @ ..] = &times[..] else {
+            unreachable!("each subject has its time");
+        };
         println!(
-            "{:>6}  {:34}{made:>6}{ending:>8}{library:>10.1}{steps:>10.1}{model:>10.1}{fast:>10.1}  {} {} {}",
+            "{:>6}  {:34}{made:>6}{ending:>8}{library:>10.1}{steps:>10.1}{model:>10.1}{fast:>10.1}  {} {} {}{}",
             row.buffers.count(),
             row.name,
             beside(library / steps, Some(STEPS), missed),
             beside(library / model, Some(MODEL), missed),
             beside(library / fast, Some(FAST), missed),
+            beside_earlier(library, before),
         );
     }
+}
+
+/// The columns of an earlier library, where one is measured: its time, and the
+/// library's beside it.
+fn earlier_header(libraries: &Libraries) -> String {
+    libraries.before.as_ref().map_or(String::new(), |_| {
+        format!("{:13}{:>10}{:>9}", "", "before", "/before")
+    })
+}
+
+fn beside_earlier(library: f64, before: &[f64]) -> String {
+    before.first().map_or(String::new(), |before| {
+        format!("{before:>10.1}{:>9.2}", library / before)
+    })
 }
 
 /// A ratio with its target, and whether it is met.
@@ -446,7 +489,35 @@ fn beside(ratio: f64, target: Option<f64>, missed: &mut usize) -> String {
     }
 }
 
-fn main() {
+fn main() -> ExitCode {
+    let paths: Vec<String> = env::args().skip(1).collect();
+    match libraries(&paths) {
+        Ok(libraries) => {
+            bench(&libraries);
+            ExitCode::SUCCESS
+        }
+        Err(reason) => {
+            eprintln!("{reason}");
+            ExitCode::from(2)
+        }
+    }
+}
+
+fn libraries(paths: &[String]) -> Result<Libraries, String> {
+    match paths {
+        [] => Ok(Libraries {
+            library: Library::LINKED,
+            before: None,
+        }),
+        [before, library] => Ok(Libraries {
+            library: Library::load(library)?,
+            before: Some(Library::load(before)?),
+        }),
+        _ => Err("usage: bench [BEFORE LIBRARY]".to_string()),
+    }
+}
+
+fn bench(libraries: &Libraries) {
     println!("Nanoseconds of one call, median of {TURNS} turns.");
     println!("floor: one vectorised pass that sums the bytes that the call gets.");
     println!("fast: the same rules in Rust written for speed. model: the Rust model.");
@@ -458,27 +529,30 @@ fn main() {
     println!("Where a release is delivered all others wait for the item, in an order drawn at");
     println!("random if none is named, and the most senior becomes its holder. With M = 1 the");
     println!("release is the only message.");
+    if libraries.before.is_some() {
+        println!("before: an earlier library.");
+    }
 
     let mut missed = 0;
     let largest = (LARGEST.sessions, LARGEST.capacity);
     for (n, capacity) in [(8, 64), (16, 256), largest] {
         let config = Config::new(n, n, capacity);
-        header(config);
+        header(config, libraries);
         let mut counts = vec![0, capacity / 8, capacity];
         if n == LARGEST.sessions {
             counts.insert(1, 64);
         }
         for count in counts {
-            print(count, rows(config, count), &mut missed);
+            print(count, rows(config, count), libraries, &mut missed);
         }
     }
-    header(LONG_QUEUE);
-    print(1, long_queue_rows(), &mut missed);
-    print_drains(&mut missed);
+    header(LONG_QUEUE, libraries);
+    print(1, long_queue_rows(), libraries, &mut missed);
+    print_drains(libraries, &mut missed);
     println!("\n{missed} targets missed.");
 }
 
-fn header(config: Config) {
+fn header(config: Config, libraries: &Libraries) {
     let Config {
         sessions,
         items,
@@ -487,7 +561,7 @@ fn header(config: Config) {
     let bytes = config.table_length() + config.mail_length();
     println!("\nS = {sessions}, M = {items}, C = {capacity}: {bytes} bytes");
     println!(
-        "{:>6}  {:34}{:>8}{:>10}{:>10}{:>10}{:>10}  {:>7}{:13}{:>7}{:13}{:>7}",
+        "{:>6}  {:34}{:>8}{:>10}{:>10}{:>10}{:>10}  {:>7}{:13}{:>7}{:13}{:>7}{}",
         "mail",
         "call",
         "refusal",
@@ -500,19 +574,24 @@ fn header(config: Config) {
         "/model",
         "",
         "/fast",
+        earlier_header(libraries),
     );
 }
 
-fn print(count: u64, rows: Vec<Row>, missed: &mut usize) {
+fn print(count: u64, rows: Vec<Row>, libraries: &Libraries, missed: &mut usize) {
     for row in rows {
-        let refused = refusal(&Library, row.call, &mut row.buffers.clone());
-        let [library, model, floor, fast] = measure_call(&row);
+        let refused = refusal(&libraries.library, row.call, &mut row.buffers.clone());
+        let times = measure_call(&row, libraries);
+        let &[library, model, floor, fast, ref before @ ..] = &times[..] else {
+            unreachable!("each subject has its time");
+        };
         println!(
-            "{count:>6}  {:34}{refused:>8}{library:>10.0}{model:>10.0}{floor:>10.0}{fast:>10.0}  {} {} {}",
+            "{count:>6}  {:34}{refused:>8}{library:>10.0}{model:>10.0}{floor:>10.0}{fast:>10.0}  {} {} {}{}",
             row.name,
             beside(library / floor, row.floor_target, missed),
             beside(library / model, Some(MODEL), missed),
             beside(library / fast, Some(FAST), missed),
+            beside_earlier(library, before),
         );
     }
 }

@@ -24,7 +24,7 @@ fn compare(comparison: &mut Comparison) -> Result<(), String> {
 
 fn main() -> ExitCode {
     let begin = Instant::now();
-    let mut comparison = Comparison::new(Library);
+    let mut comparison = Comparison::new(Library::LINKED);
     let outcome = compare(&mut comparison);
     let coverage = &comparison.coverage;
     println!("{coverage}");

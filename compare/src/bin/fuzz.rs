@@ -25,7 +25,7 @@ fn main() -> ExitCode {
     println!("seeds from {first} on, for {seconds} s");
 
     let begin = Instant::now();
-    let mut comparison = Comparison::new(Library);
+    let mut comparison = Comparison::new(Library::LINKED);
     let mut seed = first;
     // At least one round.
     loop {
