@@ -2,7 +2,9 @@
 //! settled by its seed; the walks over all bytes are the same each time.
 
 use crate::comparison::{held, Buffers, Comparison};
-use crate::forge::{self, circling, well_formed, Beside, Filling, BREAKS};
+use crate::forge::{
+    self, circling, full_mail, leave_alone, well_formed, Beside, Filling, Routes, BREAKS,
+};
 use crate::numbers::{
     kind, DELIVER_TO_ITEM, DELIVER_TO_SESSION, GROWING, RELEASE, REQUEST, SHRINKING, TO_ITEM,
 };
@@ -30,7 +32,9 @@ const ROUND: &[(&str, u64, u64, Case)] = &[
     ("cycle of all sessions", 1, 50, long_cycle),
     ("forged", 150, 1, forged),
     ("forged, largest", 1, 2, forged_largest),
-    ("full mail", 60, 1, full_mail),
+    ("full mail", 60, 1, hardly_any_room),
+    ("search of a full mail", 4, 1, searches),
+    ("search of a full mail, largest", 1, 15, searches_largest),
     ("drain", 1, 1, drain_every_fill),
     ("drain, more room", 1, 20, drain_every_fill_wide),
     ("drain, largest", 1, 15, drain_largest),
@@ -455,7 +459,7 @@ fn forged_largest(comparison: &mut Comparison, random: &mut Random) -> Outcome {
 }
 
 /// No room, or hardly any.
-fn full_mail(comparison: &mut Comparison, random: &mut Random) -> Outcome {
+fn hardly_any_room(comparison: &mut Comparison, random: &mut Random) -> Outcome {
     let mut config = forge::config(random);
     if random.one_in(2) {
         config.capacity = random.between(1, 2);
@@ -464,6 +468,46 @@ fn full_mail(comparison: &mut Comparison, random: &mut Random) -> Outcome {
     let mut buffers = well_formed(random, config, config.capacity - room);
     let steps = random.between(3, 8);
     some_steps(comparison, random, config, &mut buffers, steps)
+}
+
+/// Deliveries from a full mail of which half goes in one direction: of a route
+/// whose message is the first, one between, the last, or not there, with no other
+/// message on it; and of one with all that are drawn on it.
+fn search(comparison: &mut Comparison, random: &mut Random, config: Config) -> Outcome {
+    for routes in [Routes::Any, Routes::OneItem, Routes::OneSessionAndItem] {
+        let buffers = full_mail(random, config, routes);
+        let last = config.capacity - 1;
+        let between = random.between(0, last);
+        for (place, alone) in [
+            (0, Some(true)),
+            (between, Some(true)),
+            (last, Some(true)),
+            (between, Some(false)),
+            (between, None),
+        ] {
+            let mut buffers = buffers.clone();
+            let place = place as usize;
+            let route = buffers.route(place).try_into().unwrap();
+            let (verb, session, item) = buffers.delivery(place);
+            if let Some(there) = alone {
+                leave_alone(random, config, &mut buffers, route, there.then_some(place));
+            }
+            comparison.step(verb, session, item, &mut buffers)?;
+        }
+    }
+    Ok(())
+}
+
+fn searches(comparison: &mut Comparison, random: &mut Random) -> Outcome {
+    let config = Config {
+        capacity: random.between(2, 70),
+        ..forge::config(random)
+    };
+    search(comparison, random, config)
+}
+
+fn searches_largest(comparison: &mut Comparison, random: &mut Random) -> Outcome {
+    search(comparison, random, LARGEST)
 }
 
 /// A drain of any buffers at each count of messages from none to all.

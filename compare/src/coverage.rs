@@ -1,6 +1,6 @@
 //! What the compared calls have met: refusals, endings of drains, pairs of kind
 //! and stage, the branches of every rule, ways to break the form, sizes and
-//! numbers. A place that was never met makes the comparison worthless, so it
+//! numbers, searches of a full mail. A place that was never met makes the comparison worthless, so it
 //! fails then.
 
 use crate::comparison::{held, queue, Buffers};
@@ -9,7 +9,8 @@ use crate::numbers::{
     WITHDRAWING,
 };
 use model::layout::{
-    AWAITED, BODY_A, BODY_B, HOLDER, JUNIORS, KIND, MAX_SESSIONS, STAGE, TABLE_HEADER,
+    AWAITED, BODY_A, BODY_B, DIRECTION, HOLDER, JUNIORS, KIND, MAX_SESSIONS, ROUTE_ITEM,
+    ROUTE_SESSION, ROUTE_SIZE, STAGE, TABLE_HEADER,
 };
 use model::{Answer, Config, Cycle, Drained, Ending, Refusal, ACCEPTED};
 use std::collections::BTreeMap;
@@ -146,6 +147,34 @@ const SITUATIONS: &[&str] = &[
     "report: cycle of 64",
 ];
 
+/// Deliveries from a full mail of which half goes in one direction, by the place
+/// of the message, and other such deliveries.
+const SEARCHED: [[&str; 4]; 3] = [
+    [
+        "route at the start",
+        "route in the middle",
+        "route at the end",
+        "no such route",
+    ],
+    [
+        "all of one item, route at the start",
+        "all of one item, route in the middle",
+        "all of one item, route at the end",
+        "all of one item, no such route",
+    ],
+    [
+        "64 sessions, 64 items, capacity 4096, route at the start",
+        "64 sessions, 64 items, capacity 4096, route in the middle",
+        "64 sessions, 64 items, capacity 4096, route at the end",
+        "64 sessions, 64 items, capacity 4096, no such route",
+    ],
+];
+const SEARCHES: &[&str] = &[
+    "more than one message on the route",
+    "all of one session and item",
+    "64 sessions, 64 items, capacity 4096, all of one item",
+];
+
 /// Drains that are accepted. "More deliveries than C" uses every place of the
 /// mail again.
 const DRAINS: &[&str] = &[
@@ -207,6 +236,7 @@ pub struct Coverage {
     items: Group,
     sessions: Group,
     situations: Group,
+    searches: Group,
     drains: Group,
     breaks: Group,
 }
@@ -224,6 +254,10 @@ impl Coverage {
                 SESSION_RULES,
             ),
             situations: Group::new("Sizes, numbers and cycles", SITUATIONS),
+            searches: Group::new(
+                "Deliveries from a full mail of which half goes in one direction",
+                &[SEARCHED.as_flattened(), SEARCHES].concat(),
+            ),
             drains: Group::new("Drains", DRAINS),
             breaks: Group::new("Ways to break the form", &breaks),
         }
@@ -350,10 +384,19 @@ impl Coverage {
         if before.mail.is_empty() {
             self.situations.hit("mail of length 0");
         }
+        let [verb, session, item] = numbers;
+        if verb >= DELIVER_TO_ITEM && [ACCEPTED, Refusal::NoMessage as u8].contains(&answer.refusal)
+        {
+            let direction = if verb == DELIVER_TO_ITEM {
+                TO_ITEM
+            } else {
+                TO_SESSION
+            };
+            self.search([direction, session as u8, item as u8], before);
+        }
         if answer.refusal != ACCEPTED {
             return;
         }
-        let [verb, session, item] = numbers;
         self.sizes(before, verb, answer);
 
         let (own, from) = (session as u8, item as u8);
@@ -367,6 +410,39 @@ impl Coverage {
             REQUEST | RELEASE => self.own_step(verb, before.session(session)),
             DELIVER_TO_ITEM => self.at_item(own, before.item(item), body(TO_ITEM), answer),
             _ => self.at_session(own, from, before.session(session), body(TO_SESSION)),
+        }
+    }
+
+    /// A route that was searched for in well-formed mail.
+    fn search(&mut self, route: [u8; ROUTE_SIZE], before: &Buffers) {
+        let count = before.count();
+        let routes = || (0..count).map(|place| before.route(place));
+        let to_items = routes().filter(|other| other[DIRECTION] == TO_ITEM);
+        if count < 2 || count != before.capacity() || to_items.count() != count / 2 {
+            return;
+        }
+        let all_of_one = |byte| routes().all(|other| other[byte] == before.route(0)[byte]);
+        let (one_item, largest) = (all_of_one(ROUTE_ITEM), is_largest(before));
+        let place = match routes().position(|other| other == route) {
+            Some(0) => 0,
+            Some(place) if place < count - 1 => 1,
+            Some(_) => 2,
+            None => 3,
+        };
+        let searches = &mut self.searches;
+        for (names, met) in SEARCHED.iter().zip([true, one_item, largest]) {
+            if met {
+                searches.hit(names[place]);
+            }
+        }
+        if routes().filter(|&other| other == route).count() > 1 {
+            searches.hit("more than one message on the route");
+        }
+        if one_item && all_of_one(ROUTE_SESSION) {
+            searches.hit("all of one session and item");
+        }
+        if one_item && largest {
+            searches.hit("64 sessions, 64 items, capacity 4096, all of one item");
         }
     }
 
@@ -586,12 +662,13 @@ impl Coverage {
         missing
     }
 
-    fn groups(&self) -> [&Group; 5] {
+    fn groups(&self) -> [&Group; 6] {
         [
             &self.items,
             &self.sessions,
             &self.breaks,
             &self.situations,
+            &self.searches,
             &self.drains,
         ]
     }

@@ -673,12 +673,43 @@ fn at_session(
     }
 }
 
-/// The place of the earliest message on a route.
+/// The place of the earliest message on a route. Blocks are passed by the item up
+/// to one that has it, from there by item and session up to one that has both in
+/// a message, from there by the whole route; then the messages one by one.
 #[inline(always)]
-fn find(mail: &[u8], count: usize, route: [u8; ROUTE_SIZE]) -> Option<usize> {
-    mail[MAIL_HEADER..route_at(count).start]
-        .chunks_exact(ROUTE_SIZE)
-        .position(|entry| entry == route)
+fn find(mail: &[u8], count: usize, [direction, session, item]: [u8; ROUTE_SIZE]) -> Option<usize> {
+    let routes = &mail[MAIL_HEADER..route_at(count).start];
+    let mut place = 0;
+    place = pass(routes, place, |[_, _, x]| all(x == item));
+    place = pass(routes, place, |[_, t, x]| {
+        all(x == item) & all(t == session)
+    });
+    place = pass(routes, place, |[d, t, x]| {
+        all(x == item) & all(t == session) & all(d == direction)
+    });
+    routes[ENTRY * place..]
+        .chunks_exact(ENTRY)
+        .position(|route| route[2] == item && route[1] == session && route[0] == direction)
+        .map(|found| place + found)
+}
+
+/// The first place from this one on, in steps of a block, whose block has a route
+/// with all bits set by `same`, or that has hardly more than a block left. A block
+/// is read with two bytes of the next route, since each byte is taken for the
+/// first of a route at first.
+#[inline(always)]
+fn pass(routes: &[u8], mut place: usize, same: impl Fn([u8; ENTRY]) -> u8) -> usize {
+    while let Some(bytes) = routes[ENTRY * place..].first_chunk::<{ CELLS + 2 }>() {
+        let mut found = 0;
+        for k in 0..CELLS {
+            found |= FIRST[k] & same([bytes[k], bytes[k + 1], bytes[k + 2]]);
+        }
+        if found != 0 {
+            break;
+        }
+        place += BLOCK;
+    }
+    place
 }
 
 fn body(mail: &[u8], capacity: usize, place: usize) -> [u8; BODY_SIZE] {

@@ -173,7 +173,13 @@ fn message(random: &mut Random, config: Config) -> ([u8; ROUTE_SIZE], [u8; BODY_
     };
     let session = config.any_session(random) as u8;
     let item = config.any_item(random) as u8;
-    let kinds = if direction == TO_ITEM {
+    let route = [direction, session, item];
+    (route, body(random, config, route))
+}
+
+/// Any body that a message on this route can have.
+fn body(random: &mut Random, config: Config, route: [u8; ROUTE_SIZE]) -> [u8; BODY_SIZE] {
+    let kinds = if route[DIRECTION] == TO_ITEM {
         KINDS_TO_ITEM
     } else {
         KINDS_TO_SESSION
@@ -185,9 +191,70 @@ fn message(random: &mut Random, config: Config) -> ([u8; ROUTE_SIZE], [u8; BODY_
         body[BODY_B] = config.any_session(random) as u8;
     }
     if kind == kind::ABORT || kind == kind::CLEAN && random.one_in(3) {
-        body[BODY_A] = session;
+        body[BODY_A] = route[ROUTE_SESSION];
     }
-    ([direction, session, item], body)
+    body
+}
+
+/// The routes of the messages in a full mail.
+#[derive(Clone, Copy, PartialEq, Eq, Debug)]
+pub enum Routes {
+    Any,
+    OneItem,
+    OneSessionAndItem,
+}
+
+/// Any well-formed buffers with a full mail, half of which goes in one direction.
+pub fn full_mail(random: &mut Random, config: Config, routes: Routes) -> Buffers {
+    let mut buffers = well_formed(random, config, config.capacity);
+    let one_session = config.any_session(random) as u8;
+    let one_item = config.any_item(random) as u8;
+    let mut to_items = config.capacity / 2;
+    for place in 0..buffers.count() {
+        let direction = if random.between(1, config.capacity - place as u64) <= to_items {
+            to_items -= 1;
+            TO_ITEM
+        } else {
+            TO_SESSION
+        };
+        let session = config.any_session(random) as u8;
+        let route = match routes {
+            Routes::Any => [direction, session, config.any_item(random) as u8],
+            Routes::OneItem => [direction, session, one_item],
+            Routes::OneSessionAndItem => [direction, one_session, one_item],
+        };
+        buffers.set_message(place, route, body(random, config, route));
+    }
+    buffers
+}
+
+/// Moves the messages on a route, but for the one at a place, to another session
+/// or, where there is none, to another item or to the other direction.
+pub fn leave_alone(
+    random: &mut Random,
+    config: Config,
+    buffers: &mut Buffers,
+    route: [u8; ROUTE_SIZE],
+    place: Option<usize>,
+) {
+    let [direction, session, item] = route;
+    let other = |random: &mut Random, number: u8, max: u64| {
+        let steps = random.between(1, max - 1);
+        ((u64::from(number) - 1 + steps) % max + 1) as u8
+    };
+    for moved in 0..buffers.count() {
+        if Some(moved) == place || buffers.route(moved) != route {
+            continue;
+        }
+        let route = if config.sessions > 1 {
+            [direction, other(random, session, config.sessions), item]
+        } else if config.items > 1 {
+            [direction, session, other(random, item, config.items)]
+        } else {
+            [TO_ITEM + TO_SESSION - direction, session, item]
+        };
+        buffers.set_message(moved, route, body(random, config, route));
+    }
 }
 
 /// What goes along with cleans that circle.

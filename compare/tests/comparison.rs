@@ -4,8 +4,8 @@
 use compare::calls::{Calls, Fast, Misread, Model};
 use compare::cases::{every_place, round};
 use compare::comparison::Comparison;
-use compare::numbers::DELIVER_TO_ITEM;
-use model::layout::{body_at, read_u16, KIND, MAIL_CAPACITY, MAX_SESSIONS};
+use compare::numbers::{DELIVER_TO_ITEM, TO_ITEM, TO_SESSION};
+use model::layout::{body_at, read_u16, route_at, KIND, MAIL_CAPACITY, MAX_SESSIONS};
 use model::mailbox::{count, kind};
 use model::{Answer, Config, Cycle, Drained, Misreading, Refusal, ACCEPTED};
 
@@ -45,6 +45,10 @@ enum Wrong {
     TraceInTable,
     /// A taken entry leaves a trace in the mail.
     TraceInMail,
+    /// The newest of several messages on a route is delivered.
+    NewestOnRoute,
+    /// The last of more than 16 messages in a full mail is not found.
+    LastMessage,
     /// A cycle of 64 is not reported.
     ShortWalk,
     /// The last byte of the mail is not judged.
@@ -88,6 +92,9 @@ impl Calls for Wrong {
             .then_some(mail.last_mut())
             .flatten()
             .map(std::mem::take);
+        if let Some(answer) = self.search(v, s, i, table, mail) {
+            return answer;
+        }
         let answer = model::step(v, session, item, table, mail);
         if let (Some(last), true) = (ignored, answer.refusal != ACCEPTED) {
             *mail.last_mut().unwrap() = last;
@@ -142,6 +149,41 @@ impl Calls for Wrong {
     }
 }
 
+impl Wrong {
+    /// A delivery that searches for its message in a wrong way: what it does to the
+    /// mail before, or answers.
+    fn search(&self, v: u64, s: u64, i: u64, table: &[u8], mail: &mut [u8]) -> Option<Answer> {
+        if ![Wrong::NewestOnRoute, Wrong::LastMessage].contains(self) {
+            return None;
+        }
+        let answer = model::step(v, s, i, &mut table.to_vec(), &mut mail.to_vec());
+        if v < DELIVER_TO_ITEM || answer.refusal != ACCEPTED {
+            return None;
+        }
+        let direction = if v == DELIVER_TO_ITEM {
+            TO_ITEM
+        } else {
+            TO_SESSION
+        };
+        let (capacity, count) = (read_u16(&mail[MAIL_CAPACITY]).into(), count(mail));
+        let mut places = (0..count).filter(|&k| mail[route_at(k)] == [direction, s as u8, i as u8]);
+        let first = places.next()?;
+        match (self, places.next_back()) {
+            (Wrong::NewestOnRoute, Some(last)) => {
+                let oldest = mail[body_at(capacity, first)].to_vec();
+                mail.copy_within(body_at(capacity, last), body_at(capacity, first).start);
+                mail[body_at(capacity, last)].copy_from_slice(&oldest);
+                None
+            }
+            (Wrong::LastMessage, _) if first >= 16 && first == capacity - 1 => Some(Answer {
+                refusal: Refusal::NoMessage as u8,
+                ..Answer::default()
+            }),
+            _ => None,
+        }
+    }
+}
+
 #[test]
 fn every_wrong_byte_is_found() {
     assert_eq!(difference(Model), None);
@@ -150,6 +192,8 @@ fn every_wrong_byte_is_found() {
         Wrong::NarrowItem,
         Wrong::TraceInTable,
         Wrong::TraceInMail,
+        Wrong::NewestOnRoute,
+        Wrong::LastMessage,
         Wrong::ShortWalk,
         Wrong::LastByte,
         Wrong::ShortStart,

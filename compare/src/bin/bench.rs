@@ -6,7 +6,7 @@
 
 use compare::calls::{Calls, Fast, Library, Model};
 use compare::comparison::Buffers;
-use compare::forge::{set_item, well_formed};
+use compare::forge::{full_mail, leave_alone, set_item, well_formed, Routes};
 use compare::numbers::{
     kind, DELIVER_TO_ITEM, DELIVER_TO_SESSION, GROWING, RELEASE, REQUEST, SHRINKING, TO_ITEM,
     TO_SESSION, WAITING,
@@ -191,6 +191,47 @@ fn long_queue_rows() -> Vec<Row> {
     ]
     .map(|order| release(buffers.clone(), LONG_QUEUE, 0, order))
     .into()
+}
+
+/// Deliveries from the largest mail, full, of which half goes in one direction.
+/// The message is alone on its route, and its session drops it.
+fn search_rows() -> Vec<Row> {
+    let session = LARGEST.sessions;
+    let row = |name, routes, place: Option<usize>| {
+        let mut random = Random::new(7);
+        let mut buffers = full_mail(&mut random, LARGEST, routes);
+        fill_table(&mut buffers, LARGEST.sessions as usize, Table::Light);
+        let item = buffers.route(0)[ROUTE_ITEM];
+        let route = [TO_SESSION, session as u8, item];
+        if let Some(place) = place {
+            buffers.set_message(place, route, [kind::WITHDRAWN, 0, 0]);
+        }
+        leave_alone(&mut random, LARGEST, &mut buffers, route, place);
+        Row {
+            name,
+            call: Call::Step(DELIVER_TO_SESSION, session, item.into()),
+            buffers,
+            floor_target: None,
+        }
+    };
+    let last = LARGEST.capacity as usize - 1;
+    let mut rows = vec![
+        row("search, at the start", Routes::Any, Some(0)),
+        row("search, in the middle", Routes::Any, Some(last / 2)),
+        row("search, at the end", Routes::Any, Some(last)),
+        row("search, absent", Routes::Any, None),
+        row("search, absent, one item", Routes::OneItem, None),
+    ];
+    // The worst case: all go from the session to the item, and none back.
+    let mut other_direction = row("search, absent, other direction", Routes::OneItem, None);
+    let item = other_direction.buffers.route(0)[ROUTE_ITEM];
+    for place in 0..=last {
+        let route = [TO_ITEM, session as u8, item];
+        let buffers = &mut other_direction.buffers;
+        buffers.set_message(place, route, [kind::REQUEST, 0, 0]);
+    }
+    rows.push(other_direction);
+    rows
 }
 
 fn rows(config: Config, count: u64) -> Vec<Row> {
@@ -529,6 +570,11 @@ fn bench(libraries: &Libraries) {
     println!("Where a release is delivered all others wait for the item, in an order drawn at");
     println!("random if none is named, and the most senior becomes its holder. With M = 1 the");
     println!("release is the only message.");
+    println!("In a search half of the mail goes in one direction, and the message is dropped; if");
+    println!(
+        "it is absent the delivery is refused with 8. One item: all messages are of the item;"
+    );
+    println!("other direction: all are of the item and the session, in the other direction.");
     if libraries.before.is_some() {
         println!("before: an earlier library.");
     }
@@ -548,6 +594,8 @@ fn bench(libraries: &Libraries) {
     }
     header(LONG_QUEUE, libraries);
     print(1, long_queue_rows(), libraries, &mut missed);
+    header(LARGEST, libraries);
+    print(LARGEST.capacity, search_rows(), libraries, &mut missed);
     print_drains(libraries, &mut missed);
     println!("\n{missed} targets missed.");
 }

@@ -10,12 +10,12 @@ use lib.ListN.{length, getD, set}
 use borrow.Author.Tests.{leb-true, eqb-true, le-leb}
 use Rattle.buffer.specs.Bytes.{splice, padded}
 use Rattle.lists.specs.Lists.{between, everyBelow}
-use Rattle.lists.proofs.Laws.{below-add, below-cong, below-three}
+use Rattle.lists.proofs.Laws.{below-add, below-cong, below-follows, below-three}
 use Rattle.buffer.proofs.Laws.{sets-splice}
 use Rattle.buffer.proofs.Padded.{length-padded, splice-end}
 use Rattle.message.specs.Kind
 use Rattle.entry.specs.Entry.{Entry, width, entryFrom, toItem, toSession, carried, wellFormed, onRoute}
-use Rattle.entry.specs.Cells.{blockEntries, blockCells, fits, agree, cell, cellAt, thrice, misses, missCell}
+use Rattle.entry.specs.Cells.{blockEntries, blockCells, fits, agree, cell, cellAt, thrice, differs, differCell, misses}
 
 -- the test of direction and kind, given a kind of at most 10
 abbrev runs : ℕ → ℕ → Bool
@@ -167,27 +167,46 @@ pub block-on : (m : List ℕ) (S M at to i : ℕ) {tops highs skips : List ℕ} 
     → everyBelow (i + blockEntries) (formAt m S M at to) ≡ r
 block-on m S M at to i et eh es e h = rw (e, et, eh, es, cells-from m S M at to i, below-add i blockEntries (formAt m S M at to), h) refl
 
-not-all : (a b c : Bool) → (not a || not b || not c) ≡ not (a && b && c)
-not-all true true c = refl
-not-all true false c = refl
-not-all false b c = refl
+not-all : (a b c : Bool) → (not c || not b || not a) ≡ not (a && b && c)
+not-all a b false = rw (and-false (a && b)) refl
+not-all a false true = rw (and-false a) refl
+not-all a true true = rw (and-true a, and-true a) refl
 
 -- the three bytes at the place of a route are not the route, or they are
 pub misses-route : (m : List ℕ) (d t x at to : ℕ) → misses m d t x at ≡ not (onRoute d t x (entryFrom m at to))
-unfolding misses
+unfolding differs
 misses-route m d t x at to = not-all (eqb (getD m at 0) d) (eqb (getD m (at + 1) 0) t) (eqb (getD m (at + 2) 0) x)
 
-miss-cells : (m : List ℕ) (d t x at j : ℕ) → j < blockEntries
-    → (missCell m (thrice blockEntries 0 1 1) d t x at (3 * j) && missCell m (thrice blockEntries 0 1 1) d t x at (3 * j + 1) && missCell m (thrice blockEntries 0 1 1) d t x at (3 * j + 2)) ≡ misses m d t x (at + 3 * j)
-miss-cells m d t x at j h =
-    rw (first-of 0 1 1 blockEntries j h, second-of 0 1 1 blockEntries j h, third-of 0 1 1 blockEntries j h) (and-true (misses m d t x (at + 3 * j) && true) ∙ and-true (misses m d t x (at + 3 * j)))
+-- a difference in what counts is a difference
+counted : (a f b g c : Bool) → (a || f && b || g && c) ≡ true → (a || b || c) ≡ true
+counted true f b g c e = refl
+counted false f true g c e = refl
+counted false true false true c e = e
+counted false false false true c e = e
+counted false true false false c e = absurd (let z : _≡_ {A = ℕ} 0 1 = cc in omega arith)
+counted false false false false c e = absurd (let z : _≡_ {A = ℕ} 0 1 = cc in omega arith)
 
--- sixteen entries more that are not on the route
-pub miss-on : (m : List ℕ) (d t x at i : ℕ) {skips : List ℕ} {r : Bool} → skips ≡ thrice blockEntries 0 1 1 → r ≡ everyBelow blockCells (missCell m skips d t x (at + width * i))
-    → everyBelow i (λ k. misses m d t x (at + width * k)) ≡ true → everyBelow (i + blockEntries) (λ k. misses m d t x (at + width * k)) ≡ r
-miss-on m d t x at i es e h =
-    let cells : everyBelow blockCells (missCell m (thrice blockEntries 0 1 1) d t x (at + width * i)) ≡ everyBelow blockEntries (λ j. misses m d t x (at + width * (i + j))) =
-    below-three blockEntries (missCell m (thrice blockEntries 0 1 1) d t x (at + width * i))
-    ∙ below-cong blockEntries _ (λ j. misses m d t x (at + width * (i + j)))
-    (λ j l. let q : at + width * i + width * j ≡ at + width * (i + j) = omega arith in miss-cells m d t x (at + width * i) j l ∙ rw (q) refl) in
-    rw (e, es, cells, below-add i blockEntries (λ k. misses m d t x (at + width * k)), h) refl
+module _ (m : List ℕ) (sessions directions : Bool) (d t x : ℕ) where
+  abbrev differAt : ℕ → Bool
+  differAt at = differs m sessions directions d t x at
+
+  differs-misses : (at : ℕ) → differAt at ≡ true → misses m d t x at ≡ true
+  unfolding differs
+  differs-misses at = counted (not (eqb (getD m (at + 2) 0) x)) sessions (not (eqb (getD m (at + 1) 0) t)) directions (not (eqb (getD m at 0) d))
+
+  -- three cells are a route
+  cells-route : (at j : ℕ) → j < blockEntries
+      → let c : ℕ → Bool = differCell m (thrice blockEntries 0 1 1) sessions directions d t x at in (c (3 * j) && c (3 * j + 1) && c (3 * j + 2)) ≡ differAt (at + 3 * j)
+  cells-route at j h =
+      rw (first-of 0 1 1 blockEntries j h, second-of 0 1 1 blockEntries j h, third-of 0 1 1 blockEntries j h) (and-true (differAt (at + 3 * j) && true) ∙ and-true (differAt (at + 3 * j)))
+
+  -- sixteen entries more that are not on the route
+  pub miss-on : (at i : ℕ) {skips : List ℕ} → skips ≡ thrice blockEntries 0 1 1 → everyBelow blockCells (differCell m skips sessions directions d t x (at + width * i)) ≡ true
+      → everyBelow i (λ k. misses m d t x (at + width * k)) ≡ true → everyBelow (i + blockEntries) (λ k. misses m d t x (at + width * k)) ≡ true
+  miss-on at i es e h =
+      let cells : everyBelow blockCells (differCell m (thrice blockEntries 0 1 1) sessions directions d t x (at + width * i)) ≡ everyBelow blockEntries (λ j. differAt (at + width * (i + j))) =
+      below-three blockEntries (differCell m (thrice blockEntries 0 1 1) sessions directions d t x (at + width * i))
+      ∙ below-cong blockEntries _ (λ j. differAt (at + width * (i + j)))
+      (λ j l. let q : at + width * i + width * j ≡ at + width * (i + j) = omega arith in cells-route (at + width * i) j l ∙ rw (q) refl) in
+      let more = below-follows blockEntries (λ j. differAt (at + width * (i + j))) (λ j. misses m d t x (at + width * (i + j))) (λ j. differs-misses (at + width * (i + j))) (sym cells ∙ (rw (es) at e)) in
+      rw (below-add i blockEntries (λ k. misses m d t x (at + width * k)), h, more) refl

@@ -9,7 +9,7 @@ ghost use Rattle.buffer.specs.Bytes.{slice, splice, padded};
 ghost use Rattle.lists.specs.Lists.{everyBelow};
 ghost use Rattle.entry.specs.Entry as Entry;
 ghost use Rattle.entry.specs.Entry.{width, entryFrom};
-ghost use Rattle.entry.specs.Cells.{blockEntries, blockCells, agree, cell, cellAt, thrice, misses, missCell};
+ghost use Rattle.entry.specs.Cells.{blockEntries, blockCells, agree, cell, cellAt, thrice, misses, differs, differCell};
 
 // The two directions: session to item, item to session.
 pub const TO_ITEM: u8 = 1;
@@ -140,37 +140,76 @@ pub fn well_formed(m: &[u8], at: usize, to: usize, n: usize, s: u8, x: u8) -> bo
     true
 }
 
-// Whether the three bytes at `at` are not the route.
+// Whether the three bytes at `at` are not the route: the item is looked at first, then the session, the direction last.
 fn off(m: &[u8], at: usize, d: u8, t: u8, x: u8) -> bool
     requires { ⌜ at + width ≤ length (now m) ⌝ }
     ensures { λ r. ⌜ r ≡ misses (now (m .entry)) d t x at ⌝ }
 {
-    (m[at] != d) | (m[at + 1] != t) | (m[at + 2] != x)
+    let item = m[at + 2];
+    if item != x {
+        return true;
+    }
+    let session = m[at + 1];
+    if session != t {
+        return true;
+    }
+    let direction = m[at];
+    direction != d
 }
 
-// Whether no entry of a block is on the route.
-fn block_off(m: &[u8], at: usize, d: u8, t: u8, x: u8, skips: &[u8; BLOCK_CELLS]) -> bool
+// Whether the item differs or, where they count, the session or the direction; with no branch.
+fn differs(m: &[u8], at: usize, sessions: bool, directions: bool, d: u8, t: u8, x: u8) -> bool
+    requires { ⌜ at + width ≤ length (now m) ⌝ }
+    ensures { λ r. ⌜ r ≡ differs (now (m .entry)) sessions directions d t x at ⌝ }
+{
+    let item = m[at + 2];
+    let session = m[at + 1];
+    let direction = m[at];
+    (item != x) | (sessions & (session != t)) | (directions & (direction != d))
+}
+
+// Whether every entry of a block differs so.
+fn block_differs(
+    m: &[u8],
+    at: usize,
+    sessions: bool,
+    directions: bool,
+    d: u8,
+    t: u8,
+    x: u8,
+    skips: &[u8; BLOCK_CELLS],
+) -> bool
     requires { ⌜ at + blockCells + 2 ≤ length (now m) ⌝ }
-    ensures { λ r. ⌜ r ≡ everyBelow blockCells (missCell (now (m .entry)) (now (skips .entry)) d t x at) ⌝ }
+    ensures { λ r. ⌜ r ≡ everyBelow blockCells (differCell (now (m .entry)) (now (skips .entry)) sessions directions d t x at) ⌝ }
 {
     let mut ok = true;
     let mut i: usize = 0;
     while i < BLOCK_CELLS {
-        ok = ok & ((skips[i] == 1) | off(m, at + i, d, t, x));
+        ok = ok & ((skips[i] == 1) | differs(m, at + i, sessions, directions, d, t, x));
         i += 1;
     }
     ok
 }
 
-// A number of entries, none of them on the route: whole blocks are passed.
-fn passed(m: &[u8], at: usize, n: usize, d: u8, t: u8, x: u8) -> usize
-    requires { ⌜ at + width * n ≤ length (now m) ⌝ }
+// A number of entries, none of them on the route, given that the first `from` are not: blocks are passed in which every entry differs.
+fn passed(
+    m: &[u8],
+    at: usize,
+    from: usize,
+    n: usize,
+    sessions: bool,
+    directions: bool,
+    d: u8,
+    t: u8,
+    x: u8,
+    skips: &[u8; BLOCK_CELLS],
+) -> usize
+    requires { ⌜ (at + width * n ≤ length (now m)) × (now skips ≡ thrice blockEntries 0 1 1) × (from ≤ n) × (everyBelow from (λ k. misses (now m) d t x (at + width * k)) ≡ true) ⌝ }
     ensures { λ r. ⌜ (r ≤ n) × (everyBelow r (λ k. misses (now (m .entry)) d t x (at + width * k)) ≡ true) ⌝ }
 {
-    let skips = thrice(0, 1, 1);
-    let mut i: usize = 0;
+    let mut i = from;
     while BLOCK_ENTRIES < n - i {
-        if block_off(m, at + WIDTH * i, d, t, x, &skips) {
+        if block_differs(m, at + WIDTH * i, sessions, directions, d, t, x, skips) {
             i += BLOCK_ENTRIES;
         } else {
             return i;
@@ -180,12 +219,16 @@ fn passed(m: &[u8], at: usize, n: usize, d: u8, t: u8, x: u8) -> usize
 }
 
 // The place of the first of n entries that is on the route, or n; the routes stand from `at` on.
+// Blocks are passed by the item alone up to one that has it, from there by item and session up to one that has both in an entry, from there by the whole route.
 pub fn first(m: &[u8], at: usize, n: usize, d: u8, t: u8, x: u8) -> usize
     requires { ⌜ at + width * n ≤ length (now m) ⌝ }
     ensures { λ r. ⌜ (r ≤ n) × (everyBelow r (λ k. misses (now (m .entry)) d t x (at + width * k)) ≡ true) × (r < n → misses (now (m .entry)) d t x (at + width * r) ≡ false) ⌝ }
 {
-    let mut i = passed(m, at, n, d, t, x);
-    while i < n {
+    let skips = thrice(0, 1, 1);
+    let by_item = passed(m, at, 0, n, false, false, d, t, x, &skips);
+    let by_session = passed(m, at, by_item, n, true, false, d, t, x, &skips);
+    let mut i = passed(m, at, by_session, n, true, true, d, t, x, &skips);
+    while 0 < n - i {
         if off(m, at + WIDTH * i, d, t, x) {
             i += 1;
         } else {

@@ -11,16 +11,29 @@ use Rattle.entry.proofs.first.Statement.{statement}
 use Rattle.entry.proofs.first.Tie as tie
 
 abbrev Inv-loop : tie.InvT-loop
-Inv-loop m at n d t x i₀ i = (i ≤ n) × (everyBelow i (λ k. misses m d t x (at + width * k)) ≡ true)
+Inv-loop m at n d t x by-item by-session i₀ i = (i ≤ n) × (everyBelow i (λ k. misses m d t x (at + width * k)) ≡ true)
 
 abbrev μ-loop : tie.MeasureT-loop
-μ-loop m at n d t x i₀ i = n - i
+μ-loop m at n d t x by-item by-session i₀ i = n - i
+
+thrice-requires : tie.Need-thrice-requires Inv-loop μ-loop
+thrice-requires c κs = omega arith
 
 passed-requires : tie.Need-passed-requires Inv-loop μ-loop
-passed-requires c κs = omega arith
+unfolding everyBelow
+passed-requires c κs = (c .before .before .before .pre, c .before .thrice .ensures, omega arith, refl)
+
+passed-requires-2 : tie.Need-passed-requires-2 Inv-loop μ-loop
+passed-requires-2 c κs = let e = c .before .passed .ensures in (c .before .before .before .before .before .pre, c .before .before .before .thrice .ensures, e .0, e .1)
+
+passed-requires-3 : tie.Need-passed-requires-3 Inv-loop μ-loop
+passed-requires-3 c κs = let e = c .before .passed2 .ensures in (c .before .before .before .before .before .before .before .pre, c .before .before .before .before .before .thrice .ensures, e .0, e .1)
 
 loop-holds : tie.Need-loop-holds Inv-loop μ-loop
-loop-holds c = c .passed .ensures
+loop-holds c = c .passed3 .ensures
+
+sub-loop : tie.Need-sub-loop Inv-loop μ-loop
+sub-loop c = omega arith
 
 mul-off : tie.Need-mul-off Inv-loop μ-loop
 mul-off c = omega arith
@@ -52,8 +65,12 @@ first-spec =
     (tie.spec
     Inv-loop
     μ-loop
+    thrice-requires
     passed-requires
+    passed-requires-2
+    passed-requires-3
     loop-holds
+    sub-loop
     mul-off
     add-off
     off-requires

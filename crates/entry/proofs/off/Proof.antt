@@ -1,36 +1,47 @@
--- `off` meets its contract, by computation.
+-- `off` meets its contract: what was not looked at does not matter.
 use mathlib.Core.Path.{refl}
-use Rattle.entry.specs.Cells.{misses}
+use Rattle.entry.specs.Cells.{differs}
 use borrow.Author.Needs.{needs}
+use borrow.Author.Tests.{eq-eqb, ne-eqb}
 use Rattle.entry.proofs.off.Statement.{statement}
 use Rattle.entry.proofs.off.Tie as tie
 
-shared-slice-read-result : tie.Need-shared-slice-read-result
-shared-slice-read-result c = search needs
+add-item : tie.Need-add-item
+add-item c = search needs
 
-add-result : tie.Need-add-result
-add-result c = search needs
-
-shared-slice-read-result-2 : tie.Need-shared-slice-read-result-2
-shared-slice-read-result-2 c = search needs
-
-add-result-2 : tie.Need-add-result-2
-add-result-2 c = search needs
-
-shared-slice-read-result-3 : tie.Need-shared-slice-read-result-3
-shared-slice-read-result-3 c = search needs
+shared-slice-read-item : tie.Need-shared-slice-read-item
+shared-slice-read-item c = search needs
 
 returns : tie.Need-returns
-unfolding misses
-returns c = refl
+unfolding differs
+returns c = rw (ne-eqb _ _ (c .if1 .taken)) refl
+
+add-session : tie.Need-add-session
+add-session c = search needs
+
+shared-slice-read-session : tie.Need-shared-slice-read-session
+shared-slice-read-session c = search needs
+
+returns-2 : tie.Need-returns-2
+unfolding differs
+returns-2 c = rw (eq-eqb _ _ (c .before .before .if1 .left), ne-eqb _ _ (c .if2 .taken)) refl
+
+shared-slice-read-direction : tie.Need-shared-slice-read-direction
+shared-slice-read-direction c = search needs
+
+returns-3 : tie.Need-returns-3
+unfolding differs
+returns-3 c = rw (eq-eqb _ _ (c .before .before .before .if1 .left), eq-eqb _ _ (c .before .if2 .left)) refl
 
 pub off-spec : {M : Type 1} → statement M
 off-spec =
     tie.close
     (tie.spec
-    shared-slice-read-result
-    add-result
-    shared-slice-read-result-2
-    add-result-2
-    shared-slice-read-result-3
-    returns)
+    add-item
+    shared-slice-read-item
+    returns
+    add-session
+    shared-slice-read-session
+    returns-2
+    shared-slice-read-direction
+    returns-3)

@@ -1,5 +1,5 @@
 -- `passed` meets its contract. The invariant: the entries passed are not on the route.
-use mathlib.Core.Path.{_≡_, refl, _∙_}
+use mathlib.Core.Path.{_≡_, sym, _∙_}
 use mathlib.Core.Bool.{true}
 use Prim.Native.Nat.{_+_, _*_, _-_, _≤_}
 use Rattle.entry.specs.Entry.{width}
@@ -12,29 +12,25 @@ use Rattle.entry.proofs.passed.Statement.{statement}
 use Rattle.entry.proofs.passed.Tie as tie
 
 abbrev Inv-loop : tie.InvT-loop
-Inv-loop m at n d t x skips i₀ i = (i ≤ n) × (everyBelow i (λ k. misses m d t x (at + width * k)) ≡ true)
+Inv-loop m at from n sessions directions d t x skips i₀ i = (i ≤ n) × (everyBelow i (λ k. misses m d t x (at + width * k)) ≡ true)
 
 abbrev μ-loop : tie.MeasureT-loop
-μ-loop m at n d t x skips i₀ i = n - i
-
-thrice-requires : tie.Need-thrice-requires Inv-loop μ-loop
-thrice-requires c κs = search needs
+μ-loop m at from n sessions directions d t x skips i₀ i = n - i
 
 loop-holds : tie.Need-loop-holds Inv-loop μ-loop
-unfolding everyBelow
-loop-holds c = (omega arith, refl)
+loop-holds c = let p = c .before .pre in (p .2, p .3)
 
 sub-loop : tie.Need-sub-loop Inv-loop μ-loop
 sub-loop c = search needs
 
-mul-block-off : tie.Need-mul-block-off Inv-loop μ-loop
-mul-block-off c = search needs
+mul-block-differs : tie.Need-mul-block-differs Inv-loop μ-loop
+mul-block-differs c = search needs
 
-add-block-off : tie.Need-add-block-off Inv-loop μ-loop
-add-block-off c = search needs
+add-block-differs : tie.Need-add-block-differs Inv-loop μ-loop
+add-block-differs c = search needs
 
-block-off-requires : tie.Need-block-off-requires Inv-loop μ-loop
-block-off-requires c κs = search needs
+block-differs-requires : tie.Need-block-differs-requires Inv-loop μ-loop
+block-differs-requires c κs = search needs
 
 add-i : tie.Need-add-i Inv-loop μ-loop
 add-i c = search needs
@@ -44,12 +40,13 @@ loop-less c = search needs
 
 loop-again : tie.Need-loop-again Inv-loop μ-loop
 loop-again c =
-    let a = c .before .before .before .before .before .before .before .args in
-    let l = c .before .before .before .before .loop in
-    (omega arith, miss-on (a .m .now) (a .d) (a .t) (a .x) (a .at) (l .i) (c .before .before .before .before .before .thrice .ensures) (c .before .block-off .ensures) (l .inv .1) ∙ c .if1 .taken)
+    let s = c .before .before .before .before .before in
+    let a = s .args in
+    let l = c .before .before .before .loop in
+    (omega arith, miss-on (a .m .now) (a .sessions) (a .directions) (a .d) (a .t) (a .x) (a .at) (l .i) (s .pre .1) (sym (c .before .block-differs .ensures) ∙ c .if1 .taken) (l .inv .1))
 
 returns : tie.Need-returns Inv-loop μ-loop
-returns c = c .before .before .before .before .loop .inv
+returns c = c .before .before .before .loop .inv
 
 returns-2 : tie.Need-returns-2 Inv-loop μ-loop
 returns-2 c = c .before .loop .inv
@@ -60,12 +57,11 @@ passed-spec =
     (tie.spec
     Inv-loop
     μ-loop
-    thrice-requires
     loop-holds
     sub-loop
-    mul-block-off
-    add-block-off
-    block-off-requires
+    mul-block-differs
+    add-block-differs
+    block-differs-requires
     add-i
     loop-less
     loop-again
