@@ -470,27 +470,34 @@ fn hardly_any_room(comparison: &mut Comparison, random: &mut Random) -> Outcome 
     some_steps(comparison, random, config, &mut buffers, steps)
 }
 
-/// Deliveries from a full mail of which half goes in one direction: of a route
-/// whose message is the first, one between, the last, or not there, with no other
-/// message on it; and of one with all that are drawn on it.
+/// The messages on the route of a delivery.
+#[derive(Clone, Copy, PartialEq, Eq)]
+enum OnRoute {
+    One,
+    None,
+    AsDrawn,
+}
+
+/// Deliveries from a full mail of which half goes in one direction: the message
+/// is the first, one between, the last, one of several, or not there.
 fn search(comparison: &mut Comparison, random: &mut Random, config: Config) -> Outcome {
     for routes in [Routes::Any, Routes::OneItem, Routes::OneSessionAndItem] {
         let buffers = full_mail(random, config, routes);
-        let last = config.capacity - 1;
-        let between = random.between(0, last);
-        for (place, alone) in [
-            (0, Some(true)),
-            (between, Some(true)),
-            (last, Some(true)),
-            (between, Some(false)),
-            (between, None),
+        let last = buffers.count() - 1;
+        let between = random.between(0, last as u64) as usize;
+        for (place, on_route) in [
+            (0, OnRoute::One),
+            (between, OnRoute::One),
+            (last, OnRoute::One),
+            (between, OnRoute::AsDrawn),
+            (between, OnRoute::None),
         ] {
             let mut buffers = buffers.clone();
-            let place = place as usize;
             let route = buffers.route(place).try_into().unwrap();
             let (verb, session, item) = buffers.delivery(place);
-            if let Some(there) = alone {
-                leave_alone(random, config, &mut buffers, route, there.then_some(place));
+            if on_route != OnRoute::AsDrawn {
+                let kept = (on_route == OnRoute::One).then_some(place);
+                leave_alone(random, config, &mut buffers, route, kept);
             }
             comparison.step(verb, session, item, &mut buffers)?;
         }
