@@ -180,7 +180,10 @@ replay-test: build/bin/replay build/bin/trace
 fuzz: $(LIB)
 	cargo run $(CARGO_COMPARE) --bin fuzz -- $(FUZZ_SECONDS) $(SEED)
 
+# An earlier library has to be a copy: the one that is built is written anew.
 bench: $(LIB) $(if $(BEFORE),$(SHARED)) build/bin/replay
+	@[ -z "$(BEFORE)" ] || ! [ "$(BEFORE)" -ef $(SHARED) ] \
+		|| { echo "BEFORE is the library that is built now: keep a copy of the earlier one elsewhere."; exit 1; }
 	cargo run $(CARGO_COMPARE) --bin bench -- $(if $(BEFORE),"$(abspath $(BEFORE))" "$(abspath $(SHARED))")
 	cargo run $(CARGO_COMPARE) --bin replays -- $(abspath build/bin/replay) bench
 

@@ -3,7 +3,7 @@
 
 use crate::comparison::{held, Buffers, Comparison};
 use crate::forge::{
-    self, circling, full_mail, leave_alone, well_formed, Beside, Filling, Routes, BREAKS,
+    self, circling, clear_route, full_mail, well_formed, Beside, Filling, Routes, BREAKS,
 };
 use crate::numbers::{
     kind, DELIVER_TO_ITEM, DELIVER_TO_SESSION, GROWING, RELEASE, REQUEST, SHRINKING, TO_ITEM,
@@ -32,7 +32,7 @@ const ROUND: &[(&str, u64, u64, Case)] = &[
     ("cycle of all sessions", 1, 50, long_cycle),
     ("forged", 150, 1, forged),
     ("forged, largest", 1, 2, forged_largest),
-    ("full mail", 60, 1, hardly_any_room),
+    ("hardly any room", 60, 1, hardly_any_room),
     ("search of a full mail", 4, 1, searches),
     ("search of a full mail, largest", 1, 15, searches_largest),
     ("drain", 1, 1, drain_every_fill),
@@ -478,8 +478,9 @@ enum OnRoute {
     AsDrawn,
 }
 
-/// Deliveries from a full mail of which half goes in one direction: the message
-/// is the first, one between, the last, one of several, or not there.
+/// Deliveries from a full mail of which half goes in one direction, if there is
+/// more than one session or item: the message is alone on its route, as the first,
+/// one between or the last; or the route is as drawn; or there is none on it.
 fn search(comparison: &mut Comparison, random: &mut Random, config: Config) -> Outcome {
     for routes in [Routes::Any, Routes::OneItem, Routes::OneSessionAndItem] {
         let buffers = full_mail(random, config, routes);
@@ -497,7 +498,7 @@ fn search(comparison: &mut Comparison, random: &mut Random, config: Config) -> O
             let (verb, session, item) = buffers.delivery(place);
             if on_route != OnRoute::AsDrawn {
                 let kept = (on_route == OnRoute::One).then_some(place);
-                leave_alone(random, config, &mut buffers, route, kept);
+                clear_route(random, config, &mut buffers, route, kept);
             }
             comparison.step(verb, session, item, &mut buffers)?;
         }

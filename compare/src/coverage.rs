@@ -1,12 +1,12 @@
 //! What the compared calls have met: refusals, endings of drains, pairs of kind
 //! and stage, the branches of every rule, ways to break the form, sizes and
-//! numbers, searches of a full mail. A place that was never met makes the comparison worthless, so it
-//! fails then.
+//! numbers, searches of a full mail. A place that was never met makes the
+//! comparison worthless, so it fails then.
 
 use crate::comparison::{held, queue, Buffers};
 use crate::numbers::{
-    kind, CLEANING, DELIVER_TO_ITEM, GROWING, RELEASE, REQUEST, TO_ITEM, TO_SESSION, WAITING,
-    WITHDRAWING,
+    delivered_direction, kind, CLEANING, DELIVER_TO_ITEM, GROWING, RELEASE, REQUEST, TO_ITEM,
+    TO_SESSION, WAITING, WITHDRAWING,
 };
 use model::layout::{
     AWAITED, BODY_A, BODY_B, DIRECTION, HOLDER, JUNIORS, KIND, MAX_SESSIONS, ROUTE_ITEM,
@@ -147,9 +147,9 @@ const SITUATIONS: &[&str] = &[
     "report: cycle of 64",
 ];
 
-/// Deliveries from a full mail of which half goes in one direction, by the place
-/// of the message, and other such deliveries.
-const SEARCHED: [[&str; 4]; 3] = [
+/// Deliveries from a full mail of more than 16 messages, half of which goes in one
+/// direction, by the place of the message.
+const SEARCHES_BY_PLACE: [[&str; 4]; 3] = [
     [
         "route at the start",
         "route in the middle",
@@ -169,7 +169,9 @@ const SEARCHED: [[&str; 4]; 3] = [
         "64 sessions, 64 items, capacity 4096, no such route",
     ],
 ];
-const SEARCHES: &[&str] = &[
+
+/// Other such deliveries.
+const OTHER_SEARCHES: &[&str] = &[
     "more than one message on the route",
     "all of one session and item",
     "64 sessions, 64 items, capacity 4096, all of one item",
@@ -255,8 +257,8 @@ impl Coverage {
             ),
             situations: Group::new("Sizes, numbers and cycles", SITUATIONS),
             searches: Group::new(
-                "Deliveries from a full mail of which half goes in one direction",
-                &[SEARCHED.as_flattened(), SEARCHES].concat(),
+                "Deliveries from a full mail of more than 16, half of it in one direction",
+                &[SEARCHES_BY_PLACE.as_flattened(), OTHER_SEARCHES].concat(),
             ),
             drains: Group::new("Drains", DRAINS),
             breaks: Group::new("Ways to break the form", &breaks),
@@ -385,13 +387,8 @@ impl Coverage {
             self.situations.hit("mail of length 0");
         }
         let [verb, session, item] = numbers;
-        if verb >= DELIVER_TO_ITEM && [ACCEPTED, Refusal::NoMessage as u8].contains(&answer.refusal)
-        {
-            let direction = if verb == DELIVER_TO_ITEM {
-                TO_ITEM
-            } else {
-                TO_SESSION
-            };
+        let searched = [ACCEPTED, Refusal::NoMessage as u8].contains(&answer.refusal);
+        if let (true, Some(direction)) = (searched, delivered_direction(verb)) {
             self.search([direction, session as u8, item as u8], before);
         }
         if answer.refusal != ACCEPTED {
@@ -418,7 +415,7 @@ impl Coverage {
         let count = before.count();
         let routes = || (0..count).map(|place| before.route(place));
         let to_items = routes().filter(|other| other[DIRECTION] == TO_ITEM);
-        if count < 2 || count != before.capacity() || to_items.count() != count / 2 {
+        if count <= 16 || count != before.capacity() || to_items.count() != count / 2 {
             return;
         }
         let all_of_one = |byte| routes().all(|other| other[byte] == before.route(0)[byte]);
@@ -430,7 +427,7 @@ impl Coverage {
             None => 3,
         };
         let searches = &mut self.searches;
-        for (names, met) in SEARCHED.iter().zip([true, one_item, largest]) {
+        for (names, met) in SEARCHES_BY_PLACE.iter().zip([true, one_item, largest]) {
             if met {
                 searches.hit(names[place]);
             }

@@ -7,9 +7,10 @@ use crate::numbers::{
 };
 use model::layout::{
     body_at, item_at, items_end, mail_length, read_u16, route_at, routes_end, session_at,
-    table_length, within, write_u16, AWAITED, BODY_SIZE, HELD, HOLDER, ITEM_SIZE, JUNIORS,
-    MAIL_CAPACITY, MAIL_COUNT, MAIL_HEADER, MAX_CAPACITY, MAX_ITEMS, MAX_SESSIONS, QUEUE,
-    QUEUE_LENGTH, ROUTE_SIZE, SESSION_SIZE, STAGE, TABLE_HEADER, TABLE_ITEMS, TABLE_SESSIONS,
+    table_length, within, write_u16, AWAITED, BODY_SIZE, DIRECTION, HELD, HOLDER, ITEM_SIZE,
+    JUNIORS, MAIL_CAPACITY, MAIL_COUNT, MAIL_HEADER, MAX_CAPACITY, MAX_ITEMS, MAX_SESSIONS, QUEUE,
+    QUEUE_LENGTH, ROUTE_ITEM, ROUTE_SESSION, ROUTE_SIZE, SESSION_SIZE, STAGE, TABLE_HEADER,
+    TABLE_ITEMS, TABLE_SESSIONS,
 };
 use model::mailbox::count;
 use model::{Answer, Config, Cycle, Drained, Ending, Refusal, Verb, ACCEPTED};
@@ -110,7 +111,7 @@ fn table_well_formed(table: &[u8], size: Size) -> bool {
     !wrong && over.iter().fold(0, |all, &byte| all | byte) == 0
 }
 
-/// Entries that are checked at once, and their bytes in each array.
+/// Entries that are checked or searched at once, and their bytes in each array.
 const BLOCK: usize = 16;
 const CELLS: usize = ENTRY * BLOCK;
 
@@ -679,24 +680,27 @@ fn at_session(
 #[inline(always)]
 fn find(mail: &[u8], count: usize, [direction, session, item]: [u8; ROUTE_SIZE]) -> Option<usize> {
     let routes = &mail[MAIL_HEADER..route_at(count).start];
-    let mut place = 0;
-    place = pass(routes, place, |[_, _, x]| all(x == item));
-    place = pass(routes, place, |[_, t, x]| {
+    let place = pass(routes, 0, |[_, _, x]| all(x == item));
+    let place = pass(routes, place, |[_, t, x]| {
         all(x == item) & all(t == session)
     });
-    place = pass(routes, place, |[d, t, x]| {
+    let place = pass(routes, place, |[d, t, x]| {
         all(x == item) & all(t == session) & all(d == direction)
     });
     routes[ENTRY * place..]
         .chunks_exact(ENTRY)
-        .position(|route| route[2] == item && route[1] == session && route[0] == direction)
+        .position(|route| {
+            route[ROUTE_ITEM] == item
+                && route[ROUTE_SESSION] == session
+                && route[DIRECTION] == direction
+        })
         .map(|found| place + found)
 }
 
-/// The first place from this one on, in steps of a block, whose block has a route
-/// with all bits set by `same`, or that has hardly more than a block left. A block
-/// is read with two bytes of the next route, since each byte is taken for the
-/// first of a route at first.
+/// The first place, from this one on in steps of a block, whose block has a route
+/// for which `same` gives all bits, or from which at most a block is left. Each
+/// byte of a block is tested as the first of a route, hence two bytes more, and
+/// `FIRST` keeps those that are.
 #[inline(always)]
 fn pass(routes: &[u8], mut place: usize, same: impl Fn([u8; ENTRY]) -> u8) -> usize {
     while let Some(bytes) = routes[ENTRY * place..].first_chunk::<{ CELLS + 2 }>() {

@@ -206,7 +206,8 @@ pub enum Routes {
 
 /// Any well-formed buffers with a full mail, half of which goes in one direction.
 pub fn full_mail(random: &mut Random, config: Config, routes: Routes) -> Buffers {
-    let mut buffers = well_formed(random, config, config.capacity);
+    let mut buffers = well_formed(random, config, 0);
+    buffers.set_count(config.capacity as usize);
     let one_session = config.any_session(random) as u8;
     let one_item = config.any_item(random) as u8;
     let mut to_items = config.capacity / 2;
@@ -228,14 +229,14 @@ pub fn full_mail(random: &mut Random, config: Config, routes: Routes) -> Buffers
     buffers
 }
 
-/// Moves the messages on a route, but for the one at a place, to another session
-/// or, where there is none, to another item or to the other direction.
-pub fn leave_alone(
+/// Moves the messages on a route, but for the one kept, to another session or,
+/// where there is none, to another item or the other direction, with new bodies.
+pub fn clear_route(
     random: &mut Random,
     config: Config,
     buffers: &mut Buffers,
     route: [u8; ROUTE_SIZE],
-    place: Option<usize>,
+    kept: Option<usize>,
 ) {
     let [direction, session, item] = route;
     let other = |random: &mut Random, number: u8, max: u64| {
@@ -243,7 +244,7 @@ pub fn leave_alone(
         ((u64::from(number) - 1 + steps) % max + 1) as u8
     };
     for moved in 0..buffers.count() {
-        if Some(moved) == place || buffers.route(moved) != route {
+        if Some(moved) == kept || buffers.route(moved) != route {
             continue;
         }
         let route = if config.sessions > 1 {

@@ -1,6 +1,6 @@
 //! The C calls of a library, safe on slices: of the one that this program is
-//! linked with, or of an earlier one that is loaded to be measured beside it. The
-//! declarations are those of include/lockmgr.h.
+//! linked with, or of one that is loaded, to measure two side by side. The
+//! declarations of its calls are those of include/lockmgr.h.
 
 use crate::calls::Calls;
 use model::{Answer, Config, Cycle, Drained};
@@ -59,7 +59,10 @@ extern "C" {
         mail: *mut u8,
         mail_len: usize,
     ) -> LockmgrDrained;
+}
 
+// From the C library.
+extern "C" {
     fn dlopen(path: *const c_char, flags: c_int) -> *mut c_void;
     fn dlsym(library: *mut c_void, name: *const c_char) -> *mut c_void;
 }
@@ -77,7 +80,8 @@ pub struct Library {
     drain: Drain,
 }
 
-/// Every name is looked up when the library is loaded.
+/// Every name is looked up when the library is loaded. It stays the library's own,
+/// so that the names of two do not meet.
 const RTLD_NOW: c_int = 2;
 
 impl Library {
@@ -89,10 +93,14 @@ impl Library {
         drain: lockmgr_drain,
     };
 
-    /// A shared library with the same interface.
-    pub fn load(path: &str) -> Result<Library, String> {
+    /// A shared library, which is never unloaded.
+    ///
+    /// # Safety
+    /// The path names a build of this library with the interface of
+    /// include/lockmgr.h.
+    pub unsafe fn load(path: &str) -> Result<Library, String> {
         let c_path = CString::new(path).map_err(|_| format!("no path: {path}"))?;
-        // SAFETY: the path ends in a zero, and loading the library runs no code of it.
+        // SAFETY: the path ends in a zero. What loading runs is the caller's promise.
         let library = unsafe { dlopen(c_path.as_ptr(), RTLD_NOW) };
         if library.is_null() {
             return Err(format!("{path} is no shared library"));
@@ -106,7 +114,8 @@ impl Library {
                 Ok(function)
             }
         };
-        // SAFETY: each is the function of that name in include/lockmgr.h.
+        // SAFETY: by the caller's promise each has the type of that name in
+        // include/lockmgr.h, and the library stays loaded.
         unsafe {
             Ok(Library {
                 start: mem::transmute::<*mut c_void, Start>(find(c"lockmgr_start")?),

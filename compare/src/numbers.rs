@@ -16,6 +16,15 @@ pub const DELIVER_TO_SESSION: u64 = Verb::DeliverToSession as u64;
 pub const TO_ITEM: u8 = Direction::ToItem as u8;
 pub const TO_SESSION: u8 = Direction::ToSession as u8;
 
+/// The direction in which a verb delivers.
+pub fn delivered_direction(verb: u64) -> Option<u8> {
+    match verb {
+        DELIVER_TO_ITEM => Some(TO_ITEM),
+        DELIVER_TO_SESSION => Some(TO_SESSION),
+        _ => None,
+    }
+}
+
 /// Stages of a session.
 pub const GROWING: u8 = Stage::Growing as u8;
 pub const WAITING: u8 = Stage::Waiting as u8;

@@ -3,9 +3,12 @@
 
 use compare::calls::{Calls, Fast, Misread, Model};
 use compare::cases::{every_place, round};
-use compare::comparison::Comparison;
-use compare::numbers::{DELIVER_TO_ITEM, TO_ITEM, TO_SESSION};
-use model::layout::{body_at, read_u16, route_at, KIND, MAIL_CAPACITY, MAX_SESSIONS};
+use compare::comparison::{Buffers, Comparison};
+use compare::numbers::{delivered_direction, DELIVER_TO_ITEM};
+use model::layout::{
+    body_at, read_u16, route_at, BODY_SIZE, DIRECTION, KIND, MAIL_CAPACITY, MAX_SESSIONS,
+    ROUTE_ITEM, ROUTE_SESSION, ROUTE_SIZE,
+};
 use model::mailbox::{count, kind};
 use model::{Answer, Config, Cycle, Drained, Misreading, Refusal, ACCEPTED};
 
@@ -49,6 +52,10 @@ enum Wrong {
     NewestOnRoute,
     /// The last of more than 16 messages in a full mail is not found.
     LastMessage,
+    /// The message of another session is delivered if it is the earliest.
+    SessionUnseen,
+    /// A message in the other direction is delivered if it is the earliest.
+    DirectionUnseen,
     /// A cycle of 64 is not reported.
     ShortWalk,
     /// The last byte of the mail is not judged.
@@ -150,37 +157,53 @@ impl Calls for Wrong {
 }
 
 impl Wrong {
-    /// A delivery that searches for its message in a wrong way: what it does to the
-    /// mail before, or answers.
-    fn search(&self, v: u64, s: u64, i: u64, table: &[u8], mail: &mut [u8]) -> Option<Answer> {
-        if ![Wrong::NewestOnRoute, Wrong::LastMessage].contains(self) {
-            return None;
-        }
-        let answer = model::step(v, s, i, &mut table.to_vec(), &mut mail.to_vec());
-        if v < DELIVER_TO_ITEM || answer.refusal != ACCEPTED {
-            return None;
-        }
-        let direction = if v == DELIVER_TO_ITEM {
-            TO_ITEM
-        } else {
-            TO_SESSION
+    /// A delivery whose search is wrong: it takes another message, or none.
+    fn search(&self, v: u64, s: u64, i: u64, table: &mut [u8], mail: &mut [u8]) -> Option<Answer> {
+        let seen: &[usize] = match self {
+            Wrong::NewestOnRoute | Wrong::LastMessage => &[DIRECTION, ROUTE_SESSION, ROUTE_ITEM],
+            Wrong::SessionUnseen => &[DIRECTION, ROUTE_ITEM],
+            Wrong::DirectionUnseen => &[ROUTE_SESSION, ROUTE_ITEM],
+            _ => return None,
         };
-        let (capacity, count) = (read_u16(&mail[MAIL_CAPACITY]).into(), count(mail));
-        let mut places = (0..count).filter(|&k| mail[route_at(k)] == [direction, s as u8, i as u8]);
-        let first = places.next()?;
-        match (self, places.next_back()) {
-            (Wrong::NewestOnRoute, Some(last)) => {
-                let oldest = mail[body_at(capacity, first)].to_vec();
-                mail.copy_within(body_at(capacity, last), body_at(capacity, first).start);
-                mail[body_at(capacity, last)].copy_from_slice(&oldest);
-                None
-            }
-            (Wrong::LastMessage, _) if first >= 16 && first == capacity - 1 => Some(Answer {
+        let route = [delivered_direction(v)?, s as u8, i as u8];
+        let refusal = model::step(v, s, i, &mut table.to_vec(), &mut mail.to_vec()).refusal;
+        if ![ACCEPTED, Refusal::NoMessage as u8].contains(&refusal) {
+            return None;
+        }
+        let mut buffers = Buffers {
+            table: table.to_vec(),
+            mail: mail.to_vec(),
+        };
+        let matches = |&place: &usize| {
+            let other = buffers.route(place);
+            seen.iter().all(|&byte| other[byte] == route[byte])
+        };
+        let (count, capacity) = (buffers.count(), buffers.capacity());
+        let place = match self {
+            Wrong::NewestOnRoute => (0..count).rfind(matches)?,
+            _ => (0..count).find(matches)?,
+        };
+        if *self == Wrong::LastMessage {
+            return (place >= 16 && place == capacity - 1).then_some(Answer {
                 refusal: Refusal::NoMessage as u8,
                 ..Answer::default()
-            }),
-            _ => None,
+            });
         }
+        // To the front, where it is the earliest of its route.
+        let (verb, session, item) = buffers.delivery(place);
+        let (routes, bodies) = (route_at(0).start, body_at(capacity, 0).start);
+        buffers.mail[routes..route_at(place).end].rotate_right(ROUTE_SIZE);
+        buffers.mail[bodies..body_at(capacity, place).end].rotate_right(BODY_SIZE);
+        let Buffers {
+            table: after,
+            mail: left,
+        } = &mut buffers;
+        let answer = model::step(verb, session, item, after, left);
+        if answer.refusal == ACCEPTED {
+            table.copy_from_slice(after);
+            mail.copy_from_slice(left);
+        }
+        Some(answer)
     }
 }
 
@@ -194,6 +217,8 @@ fn every_wrong_byte_is_found() {
         Wrong::TraceInMail,
         Wrong::NewestOnRoute,
         Wrong::LastMessage,
+        Wrong::SessionUnseen,
+        Wrong::DirectionUnseen,
         Wrong::ShortWalk,
         Wrong::LastByte,
         Wrong::ShortStart,

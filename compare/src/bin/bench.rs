@@ -6,7 +6,7 @@
 
 use compare::calls::{Calls, Fast, Library, Model};
 use compare::comparison::Buffers;
-use compare::forge::{full_mail, leave_alone, set_item, well_formed, Routes};
+use compare::forge::{clear_route, full_mail, set_item, well_formed, Routes};
 use compare::numbers::{
     kind, DELIVER_TO_ITEM, DELIVER_TO_SESSION, GROWING, RELEASE, REQUEST, SHRINKING, TO_ITEM,
     TO_SESSION, WAITING,
@@ -206,7 +206,7 @@ fn search_rows() -> Vec<Row> {
         if let Some(place) = place {
             buffers.set_message(place, route, [kind::WITHDRAWN, 0, 0]);
         }
-        leave_alone(&mut random, LARGEST, &mut buffers, route, place);
+        clear_route(&mut random, LARGEST, &mut buffers, route, place);
         Row {
             name,
             call: Call::Step(DELIVER_TO_SESSION, session, item.into()),
@@ -361,7 +361,7 @@ fn measure(buffers: &Buffers, turns: usize, subjects: &[Subject]) -> Vec<f64> {
     // One place more, for reading the clock.
     let mut times = vec![Vec::new(); subjects.len() + 1];
     for turn in 0..turns {
-        // Each is the first as often as the others.
+        // They take turns at being the first.
         for place in (0..subjects.len()).map(|k| (turn + k) % subjects.len()) {
             for copy in &mut copies {
                 copy.table.copy_from_slice(&buffers.table);
@@ -376,14 +376,17 @@ fn measure(buffers: &Buffers, turns: usize, subjects: &[Subject]) -> Vec<f64> {
         let begin = Instant::now();
         times[subjects.len()].push(begin.elapsed().as_nanos() as u64);
     }
-    let mut medians = times.into_iter().map(|mut turns| {
-        turns.sort_unstable();
-        turns[turns.len() / 2] as f64
-    });
-    let measured: Vec<f64> = medians.by_ref().take(subjects.len()).collect();
-    let clock = medians.next().unwrap();
-    let of = |median: f64| (median - clock).max(1.0) / together as f64;
-    measured.into_iter().map(of).collect()
+    let medians: Vec<f64> = times
+        .into_iter()
+        .map(|mut turns| {
+            turns.sort_unstable();
+            turns[turns.len() / 2] as f64
+        })
+        .collect();
+    // Without the cost of reading the clock.
+    let (clock, measured) = medians.split_last().unwrap();
+    let of = |median: &f64| (median - clock).max(1.0) / together as f64;
+    measured.iter().map(of).collect()
 }
 
 /// A drain with the largest buffers.
@@ -508,7 +511,7 @@ fn print_drains(libraries: &Libraries, missed: &mut usize) {
 /// library's beside it.
 fn earlier_header(libraries: &Libraries) -> String {
     libraries.before.as_ref().map_or(String::new(), |_| {
-        format!("{:13}{:>10}{:>9}", "", "before", "/before")
+        format!("{:12}{:>10}{:>9}", "", "before", "/before")
     })
 }
 
@@ -551,8 +554,9 @@ fn libraries(paths: &[String]) -> Result<Libraries, String> {
             before: None,
         }),
         [before, library] => Ok(Libraries {
-            library: Library::load(library)?,
-            before: Some(Library::load(before)?),
+            // SAFETY: whoever runs this names two builds of the library.
+            library: unsafe { Library::load(library)? },
+            before: Some(unsafe { Library::load(before)? }),
         }),
         _ => Err("usage: bench [BEFORE LIBRARY]".to_string()),
     }
@@ -570,11 +574,9 @@ fn bench(libraries: &Libraries) {
     println!("Where a release is delivered all others wait for the item, in an order drawn at");
     println!("random if none is named, and the most senior becomes its holder. With M = 1 the");
     println!("release is the only message.");
-    println!("In a search half of the mail goes in one direction, and the message is dropped; if");
-    println!(
-        "it is absent the delivery is refused with 8. One item: all messages are of the item;"
-    );
-    println!("other direction: all are of the item and the session, in the other direction.");
+    println!("In a search half of the mail goes in one direction, and the message found is");
+    println!("dropped; an absent one is refused with 8. One item: all messages are of it.");
+    println!("Other direction: all are of the session and the item, in the other direction.");
     if libraries.before.is_some() {
         println!("before: an earlier library.");
     }

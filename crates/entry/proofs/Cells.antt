@@ -10,7 +10,8 @@ use lib.ListN.{length, getD, set}
 use borrow.Author.Tests.{leb-true, eqb-true, le-leb}
 use Rattle.buffer.specs.Bytes.{splice, padded}
 use Rattle.lists.specs.Lists.{between, everyBelow}
-use Rattle.lists.proofs.Laws.{below-add, below-cong, below-follows, below-three}
+use Rattle.lists.proofs.Tests.{and-both}
+use Rattle.lists.proofs.Laws.{below-add, below-cong, below-weaken, below-three}
 use Rattle.buffer.proofs.Laws.{sets-splice}
 use Rattle.buffer.proofs.Padded.{length-padded, splice-end}
 use Rattle.message.specs.Kind
@@ -177,36 +178,33 @@ pub misses-route : (m : List ℕ) (d t x at to : ℕ) → misses m d t x at ≡ 
 unfolding differs
 misses-route m d t x at to = not-all (eqb (getD m at 0) d) (eqb (getD m (at + 1) 0) t) (eqb (getD m (at + 2) 0) x)
 
--- a difference in what counts is a difference
-counted : (a f b g c : Bool) → (a || f && b || g && c) ≡ true → (a || b || c) ≡ true
-counted true f b g c e = refl
-counted false f true g c e = refl
-counted false true false true c e = e
-counted false false false true c e = e
-counted false true false false c e = absurd (let z : _≡_ {A = ℕ} 0 1 = cc in omega arith)
-counted false false false false c e = absurd (let z : _≡_ {A = ℕ} 0 1 = cc in omega arith)
+-- what differs in a part differs
+looked-at-differs : (a f b g c : Bool) → (a || f && b || g && c) ≡ true → (a || b || c) ≡ true
+looked-at-differs true f b g c e = refl
+looked-at-differs false f true g c e = refl
+looked-at-differs false f false g c e = and-both g c (rw (and-false f) at e) .1
 
-module _ (m : List ℕ) (sessions directions : Bool) (d t x : ℕ) where
+module _ (m : List ℕ) (depth d t x : ℕ) where
   abbrev differAt : ℕ → Bool
-  differAt at = differs m sessions directions d t x at
+  differAt at = differs m depth d t x at
 
   differs-misses : (at : ℕ) → differAt at ≡ true → misses m d t x at ≡ true
   unfolding differs
-  differs-misses at = counted (not (eqb (getD m (at + 2) 0) x)) sessions (not (eqb (getD m (at + 1) 0) t)) directions (not (eqb (getD m at 0) d))
+  differs-misses at = looked-at-differs (not (eqb (getD m (at + 2) 0) x)) (leb 2 depth) (not (eqb (getD m (at + 1) 0) t)) (leb 3 depth) (not (eqb (getD m at 0) d))
 
   -- three cells are a route
   cells-route : (at j : ℕ) → j < blockEntries
-      → let c : ℕ → Bool = differCell m (thrice blockEntries 0 1 1) sessions directions d t x at in (c (3 * j) && c (3 * j + 1) && c (3 * j + 2)) ≡ differAt (at + 3 * j)
+      → let c : ℕ → Bool = differCell m (thrice blockEntries 0 1 1) depth d t x at in (c (3 * j) && c (3 * j + 1) && c (3 * j + 2)) ≡ differAt (at + 3 * j)
   cells-route at j h =
       rw (first-of 0 1 1 blockEntries j h, second-of 0 1 1 blockEntries j h, third-of 0 1 1 blockEntries j h) (and-true (differAt (at + 3 * j) && true) ∙ and-true (differAt (at + 3 * j)))
 
   -- sixteen entries more that are not on the route
-  pub miss-on : (at i : ℕ) {skips : List ℕ} → skips ≡ thrice blockEntries 0 1 1 → everyBelow blockCells (differCell m skips sessions directions d t x (at + width * i)) ≡ true
+  pub miss-on : (at i : ℕ) {skips : List ℕ} → skips ≡ thrice blockEntries 0 1 1 → everyBelow blockCells (differCell m skips depth d t x (at + width * i)) ≡ true
       → everyBelow i (λ k. misses m d t x (at + width * k)) ≡ true → everyBelow (i + blockEntries) (λ k. misses m d t x (at + width * k)) ≡ true
   miss-on at i es e h =
-      let cells : everyBelow blockCells (differCell m (thrice blockEntries 0 1 1) sessions directions d t x (at + width * i)) ≡ everyBelow blockEntries (λ j. differAt (at + width * (i + j))) =
-      below-three blockEntries (differCell m (thrice blockEntries 0 1 1) sessions directions d t x (at + width * i))
+      let cells : everyBelow blockCells (differCell m (thrice blockEntries 0 1 1) depth d t x (at + width * i)) ≡ everyBelow blockEntries (λ j. differAt (at + width * (i + j))) =
+      below-three blockEntries (differCell m (thrice blockEntries 0 1 1) depth d t x (at + width * i))
       ∙ below-cong blockEntries _ (λ j. differAt (at + width * (i + j)))
       (λ j l. let q : at + width * i + width * j ≡ at + width * (i + j) = omega arith in cells-route (at + width * i) j l ∙ rw (q) refl) in
-      let more = below-follows blockEntries (λ j. differAt (at + width * (i + j))) (λ j. misses m d t x (at + width * (i + j))) (λ j. differs-misses (at + width * (i + j))) (sym cells ∙ (rw (es) at e)) in
+      let more = below-weaken blockEntries (λ j. differAt (at + width * (i + j))) (λ j. misses m d t x (at + width * (i + j))) (λ j. differs-misses (at + width * (i + j))) (sym cells ∙ (rw (es) at e)) in
       rw (below-add i blockEntries (λ k. misses m d t x (at + width * k)), h, more) refl

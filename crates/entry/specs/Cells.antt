@@ -1,6 +1,6 @@
 -- The tests of entries as the code makes them: byte by byte, in blocks of sixteen entries. No part of the promise.
 use Prim.Native.Nat.{ℕ, zero, suc, _+_, _*_}
-use mathlib.Core.Bool.{Bool, true, not, _&&_, _||_, Bool·beq}
+use mathlib.Core.Bool.{Bool, not, _&&_, _||_, Bool·beq}
 use mathlib.Core.List.{List, [], _∷_}
 use lib.Dec.{eqb, leb}
 use lib.ListN.{getD}
@@ -43,17 +43,17 @@ unfoldable pub thrice : ℕ → ℕ → ℕ → ℕ → List ℕ
 thrice zero a b c = []
 thrice (suc n) a b c = a ∷ b ∷ c ∷ thrice n a b c
 
--- the item of the route at a place differs or, where they count, its session or its direction
-unfoldable pub differs : List ℕ → Bool → Bool → ℕ → ℕ → ℕ → ℕ → Bool
-differs m sessions directions d t x at =
+-- the route at a place differs from another: in its item, from depth 2 on in its session too, at depth 3 in its direction too
+unfoldable pub differs : List ℕ → ℕ → ℕ → ℕ → ℕ → ℕ → Bool
+differs m depth d t x at =
     not (eqb (getD m (at + 2) 0) x)
-    || sessions && not (eqb (getD m (at + 1) 0) t)
-    || directions && not (eqb (getD m at 0) d)
+    || leb 2 depth && not (eqb (getD m (at + 1) 0) t)
+    || leb 3 depth && not (eqb (getD m at 0) d)
 
 -- the three bytes at a place are not the route
 abbrev pub misses : List ℕ → ℕ → ℕ → ℕ → ℕ → Bool
-misses m d t x at = differs m true true d t x at
+misses m d t x at = differs m 3 d t x at
 
 -- a byte is skipped, or the route that starts there differs
-abbrev pub differCell : List ℕ → List ℕ → Bool → Bool → ℕ → ℕ → ℕ → ℕ → ℕ → Bool
-differCell m skips sessions directions d t x at i = eqb (getD skips i 0) 1 || differs m sessions directions d t x (at + i)
+abbrev pub differCell : List ℕ → List ℕ → ℕ → ℕ → ℕ → ℕ → ℕ → ℕ → Bool
+differCell m skips depth d t x at i = eqb (getD skips i 0) 1 || differs m depth d t x (at + i)

@@ -157,48 +157,46 @@ fn off(m: &[u8], at: usize, d: u8, t: u8, x: u8) -> bool
     direction != d
 }
 
-// Whether the item differs or, where they count, the session or the direction; with no branch.
-fn differs(m: &[u8], at: usize, sessions: bool, directions: bool, d: u8, t: u8, x: u8) -> bool
+// Whether the route at `at` differs from the one searched for: in its item, from depth 2 on in its session too, at depth 3 in its direction too; with no branch.
+fn differs(m: &[u8], at: usize, depth: u8, d: u8, t: u8, x: u8) -> bool
     requires { ⌜ at + width ≤ length (now m) ⌝ }
-    ensures { λ r. ⌜ r ≡ differs (now (m .entry)) sessions directions d t x at ⌝ }
+    ensures { λ r. ⌜ r ≡ differs (now (m .entry)) depth d t x at ⌝ }
 {
     let item = m[at + 2];
     let session = m[at + 1];
     let direction = m[at];
-    (item != x) | (sessions & (session != t)) | (directions & (direction != d))
+    (item != x) | ((depth >= 2) & (session != t)) | ((depth >= 3) & (direction != d))
 }
 
 // Whether every entry of a block differs so.
 fn block_differs(
     m: &[u8],
     at: usize,
-    sessions: bool,
-    directions: bool,
+    depth: u8,
     d: u8,
     t: u8,
     x: u8,
     skips: &[u8; BLOCK_CELLS],
 ) -> bool
     requires { ⌜ at + blockCells + 2 ≤ length (now m) ⌝ }
-    ensures { λ r. ⌜ r ≡ everyBelow blockCells (differCell (now (m .entry)) (now (skips .entry)) sessions directions d t x at) ⌝ }
+    ensures { λ r. ⌜ r ≡ everyBelow blockCells (differCell (now (m .entry)) (now (skips .entry)) depth d t x at) ⌝ }
 {
     let mut ok = true;
     let mut i: usize = 0;
     while i < BLOCK_CELLS {
-        ok = ok & ((skips[i] == 1) | differs(m, at + i, sessions, directions, d, t, x));
+        ok = ok & ((skips[i] == 1) | differs(m, at + i, depth, d, t, x));
         i += 1;
     }
     ok
 }
 
-// A number of entries, none of them on the route, given that the first `from` are not: blocks are passed in which every entry differs.
+// A number of entries, none of them on the route: the first `from`, of which that is given, and the blocks behind them in which every entry differs.
 fn passed(
     m: &[u8],
     at: usize,
     from: usize,
     n: usize,
-    sessions: bool,
-    directions: bool,
+    depth: u8,
     d: u8,
     t: u8,
     x: u8,
@@ -209,7 +207,7 @@ fn passed(
 {
     let mut i = from;
     while BLOCK_ENTRIES < n - i {
-        if block_differs(m, at + WIDTH * i, sessions, directions, d, t, x, skips) {
+        if block_differs(m, at + WIDTH * i, depth, d, t, x, skips) {
             i += BLOCK_ENTRIES;
         } else {
             return i;
@@ -219,15 +217,15 @@ fn passed(
 }
 
 // The place of the first of n entries that is on the route, or n; the routes stand from `at` on.
-// Blocks are passed by the item alone up to one that has it, from there by item and session up to one that has both in an entry, from there by the whole route.
+// Blocks are passed by the item alone up to one that has it, from there by item and session up to one that has both in an entry, from there by the whole route; then the entries one by one.
 pub fn first(m: &[u8], at: usize, n: usize, d: u8, t: u8, x: u8) -> usize
     requires { ⌜ at + width * n ≤ length (now m) ⌝ }
     ensures { λ r. ⌜ (r ≤ n) × (everyBelow r (λ k. misses (now (m .entry)) d t x (at + width * k)) ≡ true) × (r < n → misses (now (m .entry)) d t x (at + width * r) ≡ false) ⌝ }
 {
     let skips = thrice(0, 1, 1);
-    let by_item = passed(m, at, 0, n, false, false, d, t, x, &skips);
-    let by_session = passed(m, at, by_item, n, true, false, d, t, x, &skips);
-    let mut i = passed(m, at, by_session, n, true, true, d, t, x, &skips);
+    let by_item = passed(m, at, 0, n, 1, d, t, x, &skips);
+    let by_session = passed(m, at, by_item, n, 2, d, t, x, &skips);
+    let mut i = passed(m, at, by_session, n, 3, d, t, x, &skips);
     while 0 < n - i {
         if off(m, at + WIDTH * i, d, t, x) {
             i += 1;
@@ -235,7 +233,7 @@ pub fn first(m: &[u8], at: usize, n: usize, d: u8, t: u8, x: u8) -> usize
             return i;
         }
     }
-    i
+    n
 }
 
 // Writes a route or a body at `at`.

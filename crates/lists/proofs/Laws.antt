@@ -352,10 +352,10 @@ below-cong zero f g h = refl
 below-cong (suc n) f g h = rw (below-cong n f g (λ k l. h k (omega arith)), h n (omega arith)) refl
 
 -- a test that follows from another
-pub below-follows : (n : ℕ) (f g : ℕ → Bool) → ((k : ℕ) → f k ≡ true → g k ≡ true) → everyBelow n f ≡ true → everyBelow n g ≡ true
+pub below-weaken : (n : ℕ) (f g : ℕ → Bool) → ((k : ℕ) → f k ≡ true → g k ≡ true) → everyBelow n f ≡ true → everyBelow n g ≡ true
 unfolding everyBelow
-below-follows zero f g h e = refl
-below-follows (suc n) f g h e = let p = and-both (everyBelow n f) (f n) e in and-intro (below-follows n f g h (p .0)) (h n (p .1))
+below-weaken zero f g h e = refl
+below-weaken (suc n) f g h e = let p = and-both (everyBelow n f) (f n) e in and-intro (below-weaken n f g h (p .0)) (h n (p .1))
 
 -- the numbers below a + b
 pub below-add : (a b : ℕ) (f : ℕ → Bool) → everyBelow (a + b) f ≡ everyBelow a f && everyBelow b (λ k. f (a + k))

@@ -9,10 +9,10 @@ use Rattle.entry.proofs.block_differs.Statement.{statement}
 use Rattle.entry.proofs.block_differs.Tie as tie
 
 abbrev Inv-loop : tie.InvT-loop
-Inv-loop m at sessions directions d t x skips ok₀ i₀ ok i = (i ≤ blockCells) × (ok ≡ everyBelow i (differCell m skips sessions directions d t x at))
+Inv-loop m at depth d t x skips ok₀ i₀ ok i = (i ≤ blockCells) × (ok ≡ everyBelow i (differCell m skips depth d t x at))
 
 abbrev μ-loop : tie.MeasureT-loop
-μ-loop m at sessions directions d t x skips ok₀ i₀ ok i = blockCells - i
+μ-loop m at depth d t x skips ok₀ i₀ ok i = blockCells - i
 
 loop-holds : tie.Need-loop-holds Inv-loop μ-loop
 unfolding everyBelow

@@ -57,7 +57,10 @@ returns : tie.Need-returns Inv-loop μ-loop
 returns c = let l = c .before .before .before .loop in (omega arith, l .inv .1, λ _. sym (c .before .off .ensures) ∙ c .if1 .left)
 
 returns-2 : tie.Need-returns-2 Inv-loop μ-loop
-returns-2 c = let l = c .before .loop in (omega arith, l .inv .1, λ h. absurd (omega arith))
+returns-2 c =
+    let l = c .before .loop in
+    let end : l .i ≡ c .before .before .before .before .before .before .before .before .before .before .args .n = omega arith in
+    (omega arith, rw (← end) (l .inv .1), λ h. absurd (omega arith))
 
 pub first-spec : {M : Type 1} → statement M
 first-spec =

@@ -12,10 +12,10 @@ use Rattle.entry.proofs.passed.Statement.{statement}
 use Rattle.entry.proofs.passed.Tie as tie
 
 abbrev Inv-loop : tie.InvT-loop
-Inv-loop m at from n sessions directions d t x skips i₀ i = (i ≤ n) × (everyBelow i (λ k. misses m d t x (at + width * k)) ≡ true)
+Inv-loop m at from n depth d t x skips i₀ i = (i ≤ n) × (everyBelow i (λ k. misses m d t x (at + width * k)) ≡ true)
 
 abbrev μ-loop : tie.MeasureT-loop
-μ-loop m at from n sessions directions d t x skips i₀ i = n - i
+μ-loop m at from n depth d t x skips i₀ i = n - i
 
 loop-holds : tie.Need-loop-holds Inv-loop μ-loop
 loop-holds c = let p = c .before .pre in (p .2, p .3)
@@ -43,7 +43,7 @@ loop-again c =
     let s = c .before .before .before .before .before in
     let a = s .args in
     let l = c .before .before .before .loop in
-    (omega arith, miss-on (a .m .now) (a .sessions) (a .directions) (a .d) (a .t) (a .x) (a .at) (l .i) (s .pre .1) (sym (c .before .block-differs .ensures) ∙ c .if1 .taken) (l .inv .1))
+    (omega arith, miss-on (a .m .now) (a .depth) (a .d) (a .t) (a .x) (a .at) (l .i) (s .pre .1) (sym (c .before .block-differs .ensures) ∙ c .if1 .taken) (l .inv .1))
 
 returns : tie.Need-returns Inv-loop μ-loop
 returns c = c .before .before .before .loop .inv
