@@ -194,14 +194,16 @@ fn long_queue_rows() -> Vec<Row> {
 }
 
 /// Deliveries from the largest mail, full, of which half goes in one direction.
-/// The message is alone on its route, and its session drops it.
+/// The message is alone on its route, and its session drops it. Its item is that
+/// of the message that stood in the middle.
 fn search_rows() -> Vec<Row> {
     let session = LARGEST.sessions;
+    let last = LARGEST.capacity as usize - 1;
     let row = |name, routes, place: Option<usize>| {
         let mut random = Random::new(7);
         let mut buffers = full_mail(&mut random, LARGEST, routes);
         fill_table(&mut buffers, LARGEST.sessions as usize, Table::Light);
-        let item = buffers.route(0)[ROUTE_ITEM];
+        let item = buffers.route(last / 2)[ROUTE_ITEM];
         let route = [TO_SESSION, session as u8, item];
         if let Some(place) = place {
             buffers.set_message(place, route, [kind::WITHDRAWN, 0, 0]);
@@ -214,23 +216,20 @@ fn search_rows() -> Vec<Row> {
             floor_target: None,
         }
     };
-    let last = LARGEST.capacity as usize - 1;
     let mut rows = vec![
         row("search, at the start", Routes::Any, Some(0)),
         row("search, in the middle", Routes::Any, Some(last / 2)),
         row("search, at the end", Routes::Any, Some(last)),
         row("search, absent", Routes::Any, None),
         row("search, absent, one item", Routes::OneItem, None),
+        row("search, absent, other direction", Routes::OneItem, None),
     ];
     // The worst case: all go from the session to the item, and none back.
-    let mut other_direction = row("search, absent, other direction", Routes::OneItem, None);
-    let item = other_direction.buffers.route(0)[ROUTE_ITEM];
+    let worst = &mut rows.last_mut().unwrap().buffers;
+    let item = worst.route(last / 2)[ROUTE_ITEM];
     for place in 0..=last {
-        let route = [TO_ITEM, session as u8, item];
-        let buffers = &mut other_direction.buffers;
-        buffers.set_message(place, route, [kind::REQUEST, 0, 0]);
+        worst.set_message(place, [TO_ITEM, session as u8, item], [kind::REQUEST, 0, 0]);
     }
-    rows.push(other_direction);
     rows
 }
 
