@@ -6,11 +6,12 @@ use native.Mathlib.Omega.{arith}
 use lib.Dec.{eqb}
 use borrow.Author.Tests.{ne-eqb}
 use Rattle.lists.specs.Lists.{count}
+use Rattle.lists.proofs.Searches.{sum-changed}
 use Rattle.deadlock.specs.Lists.{updated}
 use Rattle.deadlock.specs.Machine.{isNews, Laws, Rules}
 use Rattle.deadlock.proofs.Laws.Lists.{updated-other, updated-same}
 use Rattle.bound.specs.Potential.{storeWeight}
-use Rattle.bound.proofs.Sums.{count-less, sum-changed}
+use Rattle.bound.proofs.Sums.{count-less}
 
 module _ {R : Rules} (L : Laws R) where
   -- k would be news where junior a is stored, or nothing

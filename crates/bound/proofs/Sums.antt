@@ -2,41 +2,24 @@
 use mathlib.Core.Path.{_∙_, _≡_, ap, refl, sym}
 use mathlib.Core.Bool.{_&&_, Bool, and-false, and-true, false, not, true, true≢false}
 use mathlib.Core.List.{[], _∷_, List}
-use mathlib.Core.Logic.{_≢_}
 use Prim.Native.Nat.{_*_, _+_, _≤_, suc, zero, ℕ}
 use native.Mathlib.Omega.{arith}
 use lib.Dec.{eqb}
 use lib.ListN.{getD, length, length-append}
 use borrow.Author.Tests.{ne-eqb}
-use Rattle.lists.specs.Lists.{between, count, distinct, member}
+use Rattle.lists.specs.Lists.{between, count, distinct, member, sumUpTo}
 use Rattle.lists.proofs.Laws.{all-intro, getD-member}
 use Rattle.lists.proofs.Searches.{count-one-more, distinct-length}
-use Rattle.lists.proofs.Tests.{and-intro, between-intro, by-test, eqb-self, fails, same?}
+use Rattle.lists.proofs.Tests.{and-intro, between-intro, by-test, eqb-self, fails}
 use Rattle.deadlock.specs.Lists.{bit, occurs, oneTo, without}
-use Rattle.deadlock.specs.Counts.{sumUpTo}
 use Rattle.deadlock.proofs.Laws.Lists.{member-occurs}
 
 -- ---- sums
-sum-same : (n : ℕ) (f g : ℕ → ℕ) → ((a : ℕ) → a ≤ n → f a ≡ g a) → sumUpTo n f ≡ sumUpTo n g
-unfolding sumUpTo
-sum-same zero f g h = refl
-sum-same (suc n) f g h = omega (arith, h (suc n) (omega arith), sum-same n f g (λ a hi. h a (omega arith)))
-
 -- each term is at most c
 pub sum-le : (n c : ℕ) (f : ℕ → ℕ) → ((a : ℕ) → f a ≤ c) → sumUpTo n f ≤ n * c
 unfolding sumUpTo
 sum-le zero c f h = omega arith
 sum-le (suc n) c f h = omega (arith, h (suc n), sum-le n c f h)
-
--- one term changes
-pub sum-changed : (n t : ℕ) (f g : ℕ → ℕ) → 1 ≤ t → t ≤ n → ((a : ℕ) → t ≢ a → g a ≡ f a) → sumUpTo n g + f t ≡ sumUpTo n f + g t
-unfolding sumUpTo
-sum-changed zero t f g lo hi h = absurd (omega arith)
-sum-changed (suc n) t f g lo hi h = cases (same? t (suc n)) (λ hi′. sum-changed n t f g lo hi′ h)
-  where
-    cases : Dec (t ≡ suc n) → (t ≤ n → sumUpTo n g + f t ≡ sumUpTo n f + g t) → g (suc n) + sumUpTo n g + f t ≡ f (suc n) + sumUpTo n f + g t
-    cases (yes q) ih = omega (arith, ap f q, ap g q, sum-same n g f (λ a hi′. h a (λ z. absurd (omega arith))))
-    cases (no q) ih = omega (arith, ih (omega arith), h (suc n) q)
 
 -- ---- counts
 -- whatever passes the one test passes the other

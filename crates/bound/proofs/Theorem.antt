@@ -6,6 +6,7 @@ use mathlib.Core.Option.{some}
 use Prim.Native.Nat.{_+_, _≤_, ℕ}
 use native.Mathlib.Omega.{arith}
 use lib.ListN.{length}
+use Rattle.lists.proofs.Searches.{sum-changed}
 use Rattle.lists.proofs.Tests.{eqb-self}
 use Rattle.deadlock.specs.Lists.{bit, updated}
 use Rattle.deadlock.specs.Machine.{afterItem, afterSession, clean, deliverToItem, deliverToSession, Entry, itemReceives, itemTakes, Laws, Message, move, noEntry, ofMachine, releaseCall, requestCall, route, Rules, Session, sessionReceives, sessionTakes, State, take, Taken, taken, waitsFor}
@@ -19,7 +20,7 @@ use Rattle.deadlock.proofs.InvariantKept.{invariant-move}
 use Rattle.bound.specs.Formula.{deliveryBound}
 use Rattle.bound.specs.Potential.{distanceIn, potential, sessionWeight, waitsLeft}
 use Rattle.bound.specs.Statement.{delivers, Falls, isTaken, SmallBound, Statement}
-use Rattle.bound.proofs.Sums.{length-le, sum-changed}
+use Rattle.bound.proofs.Sums.{length-le}
 use Rattle.bound.proofs.Mail.{mail-item, mail-session}
 use Rattle.bound.proofs.Bounds.{bounded}
 use Rattle.bound.proofs.Numbers.{message-small, mul-le, session-small}

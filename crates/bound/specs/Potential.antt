@@ -3,9 +3,8 @@ use mathlib.Core.Bool.{Bool, cond}
 use mathlib.Core.List.{[], _∷_, List}
 use Prim.Native.Nat.{_*_, _+_, ℕ}
 use lib.Dec.{eqb}
-use Rattle.lists.specs.Lists.{count, lowest}
+use Rattle.lists.specs.Lists.{count, lowest, sumUpTo}
 use Rattle.deadlock.specs.Machine.{abort, clean, down, Downward, Entry, grant, growing, isNews, Message, probe, reached, rebroadcast, release, releasing, request, resend, Rules, Session, Stage, State, up, Upward, victim, waiting, withdraw, withdrawn}
-use Rattle.deadlock.specs.Counts.{sumUpTo}
 use Rattle.bound.specs.Formula.{cleanCost, hopCost, itemsCost, queueCost, resendCost, waitCost}
 
 module _ (R : Rules) where

@@ -5,8 +5,8 @@ use Prim.Native.Nat.{ℕ, zero, suc, _+_, _-_, _*_, _/_, _%_, _^_, _≤_, _<_}
 use native.Mathlib.Nat.{add-assoc, add-zero, zero-add, suc-add, mul-assoc, one-mul, pow-suc, mul-comm, div-one, div-div-eq-div-mul}
 use native.Mathlib.Numerals.{add-one, towards-suc}
 use native.Mathlib.Omega.{arith}
-use lib.ListN.{length, getD, take, drop, set, length-append, length-drop, take-append-drop}
-use lib.Seq.{set-split, set-append-seam, take-at, take-add, take-append-le, take-append-seam, drop-at, drop-append-add, drop-append-le, drop-drop, length-take-le, drop-cons, getD-drop, getD-take, take-suc, take-length, paste, sets, sets-eq}
+use lib.ListN.{length, getD, take, drop, set, length-append, length-drop, take-append-drop, drop-of-length-le}
+use lib.Seq.{set-split, set-append-seam, take-at, take-add, take-append-le, take-append-seam, drop-at, drop-append-add, drop-append-le, drop-drop, length-take-le, drop-cons, getD-drop, getD-take, take-suc, take-length, take-all, paste, sets, sets-eq}
 use Rattle.buffer.specs.Bytes.{slice, fromBytes, toBytes, splice, padded}
 
 -- every element is a byte
@@ -91,6 +91,15 @@ module _ (t : List ℕ) (at : ℕ) (a : List ℕ) (h : at + length a ≤ length 
       let back : drop (at + length a + length b) (splice t at a) ≡ drop (at + length (a ++ b)) t =
       drop-past (length b) ∙ ap (λ (n : ℕ). drop n t) (add-assoc at (length a) (length b) ∙ ap (λ (n : ℕ). at + n) (sym (length-append a b))) in
       rw (front, back) (simp append-assoc)
+
+-- a run of bytes at the start of the part from `at` on, which is then back in its place
+pub part-splice : {x : List ℕ} (t : List ℕ) (at : ℕ) (l : List ℕ) → x ≡ splice (slice t at (length t - at)) 0 l
+    → take at t ++ (x ++ drop (length t - at) (drop at t)) ≡ splice t at l
+unfolding splice
+part-splice t at l e =
+    let n : length (drop at t) ≤ length t - at = rw (length-drop) (omega arith) in
+    rw (e, take-all (length t - at) (drop at t) n, drop-of-length-le (drop at t) {i = length t - at} n)
+    (ap (λ (r : List ℕ). take at t ++ r) (append-nil (l ++ drop (0 + length l) (drop at t)) ∙ ap (λ (r : List ℕ). l ++ r) (rw (zero-add) (drop-drop (length l) at t))))
 
 -- n bytes moved down by `by` to `at`
 abbrev pub movedDown : List ℕ → ℕ → ℕ → ℕ → List ℕ

@@ -107,11 +107,6 @@ abbrev pub isStored : (ℕ → ℕ) → ℕ → ℕ
 isStored f i = bit (not (eqb (f i) 0))
 
 -- ---- sums
--- f 1 + .. + f n
-unfoldable pub sumUpTo : ℕ → (ℕ → ℕ) → ℕ
-sumUpTo zero f = 0
-sumUpTo (suc k) f = f (suc k) + sumUpTo k f
-
 -- the sum of f over a list
 unfoldable pub sumOver : (ℕ → ℕ) → List ℕ → ℕ
 sumOver f [] = 0

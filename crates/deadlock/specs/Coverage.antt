@@ -3,9 +3,10 @@ use mathlib.Core.Path.{_≡_}
 use mathlib.Core.Bool.{cond, true}
 use mathlib.Core.Logic.{_⊎_}
 use Prim.Native.Nat.{_+_, _≤_, ℕ}
+use Rattle.lists.specs.Lists.{sumUpTo}
 use Rattle.deadlock.specs.Machine.{Rules}
 use Rattle.message.specs.Kind
-use Rattle.deadlock.specs.Counts.{behindRequest, countKind, except, freshProbes, isStored, sumOver, sumUpTo, unlessCleaned}
+use Rattle.deadlock.specs.Counts.{behindRequest, countKind, except, freshProbes, isStored, sumOver, unlessCleaned}
 use Rattle.deadlock.specs.Walks.{FirstApart, Walk}
 use Rattle.deadlock.specs.World.{Edge, HolderIs, isWaiting, Live, Queued, stageOf, VictimIn, World}
 

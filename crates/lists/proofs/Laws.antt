@@ -106,6 +106,11 @@ module _ {A : Type 0} where
   getD-tabulate (suc n) f zero d h = refl
   getD-tabulate (suc n) f (suc k) d h = getD-tabulate n (λ j. f (suc j)) k d (omega arith)
 
+  pub tabulate-last : (n : ℕ) (f : ℕ → A) → tabulate (suc n) f ≡ tabulate n f ++ (f n ∷ [])
+  unfolding tabulate
+  tabulate-last zero f = refl
+  tabulate-last (suc n) f = ap (λ (r : List A). f 0 ∷ r) (tabulate-last n (λ k. f (suc k)))
+
 module _ (n : ℕ) (f g : ℕ → ℕ) where
   pub tabulate-same : ((k : ℕ) → k < n → f k ≡ g k) → tabulate n f ≡ tabulate n g
   tabulate-same h =

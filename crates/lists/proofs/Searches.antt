@@ -1,16 +1,16 @@
--- Laws of the tests over the numbers 1 to n (lowest, every, count), and two pigeonhole principles.
-use mathlib.Core.Path.{_≡_, refl, sym, _∙_}
+-- Laws of the tests over the numbers 1 to n (lowest, every, count) and of sums, and two pigeonhole principles.
+use mathlib.Core.Path.{_≡_, refl, sym, ap, _∙_}
 use mathlib.Core.Bool.{Bool, true, false, cond, not, _&&_, _||_, true≢false}
 use mathlib.Core.List.{List, [], _∷_}
 use mathlib.Core.Logic.{_≢_, _⊎_, inl, inr}
-use Prim.Native.Nat.{ℕ, zero, suc, _+_, _≤_, _<_, zero-le}
+use Prim.Native.Nat.{ℕ, zero, suc, _+_, _-_, _≤_, _<_, zero-le}
 use native.Mathlib.Numerals.{add-one}
 use native.Mathlib.Omega.{arith}
 use native.Mathlib.Decide.{ℕ-discrete}
 use lib.Dec.{eqb}
 use lib.ListN.{length}
 use borrow.Author.Tests.{eqb-true, eqb-false, ne-eqb, not-true}
-use Rattle.lists.specs.Lists.{between, every, lowest, count, member, distinct, all}
+use Rattle.lists.specs.Lists.{between, every, lowest, count, sumUpTo, member, distinct, all}
 use Rattle.lists.proofs.Tests.{and-both, and-intro, fails, refuted, by-test, within, eqb-self, same?}
 
 -- what holds of every number below n, and of n, holds of every number below n + 1
@@ -149,33 +149,53 @@ count-one-more (suc n) p q k a b e f h = go (ℕ-discrete k (suc n)) (λ b. coun
     go (yes z) ih = rw (rw z at e, rw z at f) (omega (arith, count-same n p q (λ j c d. h j c (omega arith) (omega arith))))
     go (no z) ih = rw (h (suc n) (omega arith) (omega arith) (λ y. z (sym y))) (one-up (q (suc n)) (count n p) (count n q) (ih (omega arith)))
 
+-- ---- sums
+
+sum-same : (n : ℕ) (f g : ℕ → ℕ) → ((a : ℕ) → 1 ≤ a → a ≤ n → f a ≡ g a) → sumUpTo n f ≡ sumUpTo n g
+unfolding sumUpTo
+sum-same zero f g h = refl
+sum-same (suc n) f g h = omega (arith, h (suc n) (omega arith) (omega arith), sum-same n f g (λ a lo hi. h a lo (omega arith)))
+
+-- one term changes
+pub sum-changed : (n t : ℕ) (f g : ℕ → ℕ) → 1 ≤ t → t ≤ n → ((a : ℕ) → t ≢ a → g a ≡ f a) → sumUpTo n g + f t ≡ sumUpTo n f + g t
+unfolding sumUpTo
+sum-changed zero t f g lo hi h = absurd (omega arith)
+sum-changed (suc n) t f g lo hi h = cases (same? t (suc n)) (λ hi′. sum-changed n t f g lo hi′ h)
+  where
+    cases : Dec (t ≡ suc n) → (t ≤ n → sumUpTo n g + f t ≡ sumUpTo n f + g t) → g (suc n) + sumUpTo n g + f t ≡ f (suc n) + sumUpTo n f + g t
+    cases (yes q) ih = omega (arith, ap f q, ap g q, sum-same n g f (λ a _ hi′. h a (λ z. absurd (omega arith))))
+    cases (no q) ih = omega (arith, ih (omega arith), h (suc n) q)
+
+-- the numbers f 1 to f k, all different and all from 1 to n: what w makes of them adds up to at most what it makes of 1 to n
+pub sum-different : (n k : ℕ) (w f : ℕ → ℕ) → ((i : ℕ) → 1 ≤ i → i ≤ k → (1 ≤ f i) × (f i ≤ n)) → ((i j : ℕ) → 1 ≤ i → i < j → j ≤ k → f i ≢ f j)
+    → sumUpTo k (λ i. w (f i)) ≤ sumUpTo n w
+unfolding sumUpTo
+sum-different n zero w f b d = zero-le
+sum-different n (suc k) w f b d =
+    let a = f (suc k) in
+    let r = b (suc k) (omega arith) (omega arith) in
+    let other : ℕ → ℕ = λ m. cond (eqb m a) 0 (w m) in
+    let gone : other a ≡ 0 = rw (eqb-self a) refl in
+    let whole = sum-changed n a w other (r .0) (r .1) (λ m e. rw (ne-eqb m a (λ z. e (sym z))) refl) in
+    let rest = sum-same k (λ i. w (f i)) (λ i. other (f i)) (λ i l m. rw (ne-eqb (f i) a (d i (suc k) l (omega arith) (omega arith))) refl) in
+    omega (arith, sum-different n k other f (λ i l m. b i l (omega arith)) (λ i j l m h. d i j l m (omega arith)))
+
 -- ---- pigeonhole principles
 
--- the numbers f 0 to f (k - 1), all different and all from 1 to n: there are at most n of them
+sum-ones : (n : ℕ) → sumUpTo n (λ _. 1) ≡ n
+unfolding sumUpTo
+sum-ones zero = refl
+sum-ones (suc n) = omega (arith, sum-ones n)
+
+-- there are at most n different numbers from 1 to n
 pub pigeonhole : (n k : ℕ) (f : ℕ → ℕ) → ((i : ℕ) → i < k → (1 ≤ f i) × (f i ≤ n)) → ((i j : ℕ) → i < j → j < k → f i ≢ f j) → k ≤ n
-pigeonhole n zero f b d = omega arith
-pigeonhole zero (suc k) f b d = absurd (let r = b 0 (omega arith) in omega arith)
-pigeonhole (suc n) (suc k) f b d = let r = pigeonhole n k g inside different in omega arith
-  where
-    -- the last number takes the place of the number n + 1
-    g : ℕ → ℕ
-    g i = cond (eqb (f i) (suc n)) (f k) (f i)
-
-    inside : (i : ℕ) → i < k → (1 ≤ g i) × (g i ≤ n)
-    inside i h =
-        let r = b i (omega arith) in
-        let l = b k (omega arith) in
-        by-test (λ (m : ℕ). (1 ≤ m) × (m ≤ n)) (eqb (f i) (suc n))
-        (λ e. let z = eqb-true (f i) (suc n) e in omega (arith, d i k h (omega arith)))
-        (λ e. let z : f i ≢ suc n = eqb-false (f i) (suc n) e in omega arith)
-
-    different : (i j : ℕ) → i < j → j < k → g i ≢ g j
-    different i j h l =
-        by-test (λ (m : ℕ). m ≢ g j) (eqb (f i) (suc n))
-        (λ e. by-test (λ (m : ℕ). f k ≢ m) (eqb (f j) (suc n))
-        (λ q. absurd (d i j h (omega arith) (eqb-true (f i) (suc n) e ∙ sym (eqb-true (f j) (suc n) q))))
-        (λ q z. d j k l (omega arith) (sym z)))
-        (λ e. by-test (λ (m : ℕ). f i ≢ m) (eqb (f j) (suc n)) (λ q. d i k (omega arith) (omega arith)) (λ q. d i j h (omega arith)))
+pigeonhole n k f b d =
+    omega (
+      arith,
+      sum-ones n,
+      sum-ones k,
+      sum-different n k (λ _. 1) (λ i. f (i - 1)) (λ i l m. b (i - 1) (omega arith)) (λ i j l m h. d (i - 1) (j - 1) (omega arith) (omega arith)),
+    )
 
 -- distinct numbers from 1 to n are at most n of them: as many as the numbers from 1 to n that stand in the list
 length-count : (n : ℕ) (l : List ℕ) → distinct l ≡ true → all (between 1 n) l ≡ true → length l ≤ count n (λ k. member k l)

@@ -1,5 +1,5 @@
 -- Tests on numbers and lists, and what the other definitions do with lists.
-use Prim.Native.Nat.{ℕ, zero, suc}
+use Prim.Native.Nat.{ℕ, zero, suc, _+_}
 use mathlib.Core.Bool.{Bool, true, false, cond, not, _&&_, _||_}
 use mathlib.Core.List.{List, [], _∷_}
 use lib.Dec.{eqb, leb}
@@ -27,6 +27,11 @@ lowest (suc n) p = let k = lowest n p in cond (eqb k 0) (cond (p (suc n)) (suc n
 unfoldable pub count : ℕ → (ℕ → Bool) → ℕ
 count zero p = 0
 count (suc n) p = cond (p (suc n)) (suc (count n p)) (count n p)
+
+-- f 1 + .. + f n
+unfoldable pub sumUpTo : ℕ → (ℕ → ℕ) → ℕ
+sumUpTo zero f = 0
+sumUpTo (suc k) f = f (suc k) + sumUpTo k f
 
 -- the number stands in the list
 unfoldable pub member : ℕ → List ℕ → Bool

@@ -7,11 +7,12 @@ use native.Mathlib.Omega.{arith}
 use lib.Dec.{eqb}
 use Rattle.lists.specs.Lists.{every, count}
 use Rattle.lists.proofs.Tests.{fails, tests-agree}
+use Rattle.lists.proofs.Orders.{StrictTotal}
 use Rattle.lists.proofs.Searches.{count-one-more, count-same, every-same, lowest-same}
 use Rattle.waits.specs.Waits.{reached, cycleLength, onCycle, leads, cycles}
 use Rattle.waits.proofs.Reached.{Graph, reached-sum, reached-same, off-cycle-length}
 use Rattle.waits.proofs.Members.{off-cycle, member-positive, member-inside, member-back, member-on-cycle, member-or-not}
-use Rattle.waits.proofs.Leaders.{Seniority, leads-on-cycle, leader-of, leader-unique}
+use Rattle.waits.proofs.Leaders.{leads-on-cycle, leader-of, leader-unique}
 
 -- ---- one session: from t the same sessions are reached
 
@@ -78,7 +79,7 @@ module _
     (g : Graph next S)
     (g′ : Graph next′ S)
     {senior : ℕ → ℕ → Bool}
-    (o : Seniority senior)
+    (o : StrictTotal senior)
     (t : ℕ)
     (low : 1 ≤ t)
     (free : next t ≡ 0)

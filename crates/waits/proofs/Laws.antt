@@ -10,7 +10,7 @@ use lib.ListN.{length, getD, take, set, replicate}
 use lib.Seq.{length-take-le, getD-take}
 use Rattle.lists.specs.Lists.{between, lowest, member, tabulate}
 use Rattle.lists.proofs.Laws.{all-getD, all-member, getD-tabulate, member-more, set-tabulate, tabulate-same}
-use Rattle.lists.proofs.Tests.{and-both, within}
+use Rattle.lists.proofs.Tests.{and-both, by-test, within}
 use Rattle.message.specs.Limits.{maxSessions}
 use Rattle.lists.proofs.Searches.{lowest-le, lowest-none, lowest-passes, lowest-same}
 use Rattle.item.specs.declared.Item.{Item}
@@ -25,8 +25,8 @@ use Rattle.waits.specs.OnTable as OnTable
 use Rattle.wellformed.specs.Records.{LockWellFormed}
 use Rattle.wellformed.proofs.Items.{unpacked-lock}
 use Rattle.waits.specs.OnTable.{locks}
-use Rattle.waits.specs.Places.{placesAmong, WithPlaces, nextWait}
-use Rattle.waits.proofs.Reached.{reached-suc}
+use Rattle.waits.specs.Places.{placesAmong, WithPlaces}
+use Rattle.waits.proofs.Reached.{Graph, reached-suc}
 use Rattle.waits.proofs.Lists.{lowest-first}
 
 -- ---- waits
@@ -195,6 +195,17 @@ module _ (t : List ℕ) (f : Formed t) where
   unfolding waitsFor waitsAt
   none-waits = rw (lowest-none (itemsOf t) (queuedAt (itemsOf t) (locks t) 0) (λ x l h. none-queued (record { sized = f .sized; low = l; high = h }))) refl
 
+  -- whoever is waited for is one of the table's sessions
+  waits-inside : (s : ℕ) → waitsFor (itemsOf t) (locks t) s ≤ sessionsOf t
+  unfolding waitsFor locks
+  waits-inside s =
+      by-test (λ n. n ≤ sessionsOf t) (eqb (waitsAt (itemsOf t) (locks t) s) 0) (λ _. zero-le)
+      (λ e. let some = eqb-false (waitsAt (itemsOf t) (locks t) s) 0 e in
+      lock-facts (record { sized = f .sized; low = omega arith; high = waitsAt-le (itemsOf t) (locks t) s }) .holder)
+
+  pub graph : Graph (OnTable.waitsFor t) (sessionsOf t)
+  graph = record { none = none-waits; inside = waits-inside }
+
   -- the walk from a session to itself finds its cycle
   pub walk-cycle : (me : ℕ) → 1 ≤ me → walkFromSession (2 * sessionsOf t) (itemsOf t) (locks t) me me ≡ OnTable.cycleLength t me
   unfolding cycleLength
@@ -217,11 +228,11 @@ place-of {t} {at} p s l h =
     rw (p .read, getD-tabulate maxSessions (λ k. OnTable.waitsAt t (suc k)) (s - 1) 0 (omega arith), one) refl
 
 module _ (t : List ℕ) (s : ℕ) {x : ℕ} (e : x ≡ OnTable.waitsAt t s) where
-  pub wait-none : x ≡ 0 → record { item = 0; holder = 0 } ≡ nextWait t s
+  pub wait-none : x ≡ 0 → record { session = s; item = 0; holder = 0 } ≡ OnTable.wait t s
   unfolding waitsFor
   wait-none z = rw (← e, z) refl
 
-  pub wait-some : (x ≡ 0 → ⊥) → {h : ℕ} → h ≡ item t x .holder → record { item = x; holder = h } ≡ nextWait t s
+  pub wait-some : (x ≡ 0 → ⊥) → {h : ℕ} → h ≡ item t x .holder → record { session = s; item = x; holder = h } ≡ OnTable.wait t s
   unfolding waitsFor locks
   wait-some f held = rw (← e, ne-eqb x 0 f, held) refl
 

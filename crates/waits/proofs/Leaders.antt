@@ -1,46 +1,22 @@
 -- Each cycle has exactly one leader, its most senior member; the number of cycles is 0 exactly where no session lies on a cycle.
 use mathlib.Core.Path.{_≡_, refl, sym, ap, _∙_}
 use mathlib.Core.Bool.{Bool, true, false, not, true≢false}
-use Prim.Native.Nat.{ℕ, zero, suc, _+_, _≤_}
+use mathlib.Core.List.{List}
+use Prim.Native.Nat.{ℕ, _+_, _≤_, _<_}
 use native.Mathlib.Omega.{arith}
-use native.Mathlib.Decide.{ℕ-discrete}
+use lib.ListN.{length, getD}
 use borrow.Author.Tests.{not-true}
-use Rattle.lists.proofs.Tests.{and-both, and-intro, fails}
+use Rattle.lists.specs.Lists.{member}
+use Rattle.lists.proofs.Tests.{and-both, and-intro, fails, same?}
+use Rattle.lists.proofs.Laws.{getD-tabulate, length-tabulate, getD-member}
 use Rattle.lists.proofs.Searches.{count-none, count-some, every-at, every-intro}
+use Rattle.lists.proofs.Orders.{StrictTotal}
+use Rattle.item.specs.NextHolder.{isMostSenior, mostSenior}
+use Rattle.item.proofs.MostSenior.{most-senior-inside, most-senior-passes, none-senior}
 use Rattle.waits.specs.Waits.{reached, cycleLength, onCycle, leads, cycles}
-use Rattle.waits.proofs.Reached.{Graph, reached-sum, on-cycle-positive}
-use Rattle.waits.proofs.Members.{member-positive, member-inside, member-within, member-back, member-on-cycle}
-
--- seniority is a strict total order
-pub record Seniority (senior : ℕ → ℕ → Bool) : Type 0 where
-  pub irreflexive : (a : ℕ) → senior a a ≡ false
-  pub transitive : (a b c : ℕ) → senior a b ≡ true → senior b c ≡ true → senior a c ≡ true
-  pub total : (a b : ℕ) → senior a b ≡ false → senior b a ≡ false → a ≡ b
-
--- of f 1 to f n one has none senior to it
-most-senior : {senior : ℕ → ℕ → Bool} → Seniority senior → (n : ℕ) (f : ℕ → ℕ) → 1 ≤ n
-    → (k : ℕ) × (1 ≤ k) × (k ≤ n) × ((j : ℕ) → 1 ≤ j → j ≤ n → senior (f j) (f k) ≡ false)
-most-senior o zero f h = absurd (omega arith)
-most-senior {senior} o (suc zero) f h = (1, omega arith, omega arith, λ j a b. let q : j ≡ 1 = omega arith in rw q (o .irreflexive (f 1)))
-most-senior {senior} o (suc (suc n)) f h = go (most-senior o (suc n) f (omega arith))
-  where
-    go : (k : ℕ) × (1 ≤ k) × (k ≤ suc n) × ((j : ℕ) → 1 ≤ j → j ≤ suc n → senior (f j) (f k) ≡ false)
-        → (k : ℕ) × (1 ≤ k) × (k ≤ suc (suc n)) × ((j : ℕ) → 1 ≤ j → j ≤ suc (suc n) → senior (f j) (f k) ≡ false)
-    go (k, a, b, m) = more (senior (f (suc (suc n))) (f k)) refl
-      where
-        more : (t : Bool) → senior (f (suc (suc n))) (f k) ≡ t
-            → (k : ℕ) × (1 ≤ k) × (k ≤ suc (suc n)) × ((j : ℕ) → 1 ≤ j → j ≤ suc (suc n) → senior (f j) (f k) ≡ false)
-        more true e = (suc (suc n), omega arith, omega arith, all)
-          where
-            all : (j : ℕ) → 1 ≤ j → j ≤ suc (suc n) → senior (f j) (f (suc (suc n))) ≡ false
-            all j c d = elim (ℕ-discrete j (suc (suc n))) [
-              | yes q ↦ rw q (o .irreflexive (f (suc (suc n))))
-              | no q ↦ fails (senior (f j) (f (suc (suc n)))) (λ s. true≢false (sym (o .transitive (f j) (f (suc (suc n))) (f k) s e) ∙ m j c (omega arith)))
-            ]
-        more false e = (k, a, omega arith, all)
-          where
-            all : (j : ℕ) → 1 ≤ j → j ≤ suc (suc n) → senior (f j) (f k) ≡ false
-            all j c d = elim (ℕ-discrete j (suc (suc n))) [ yes q ↦ rw q e | no q ↦ m j c (omega arith) ]
+use Rattle.waits.specs.Cycle.{around, leader, cycle}
+use Rattle.waits.proofs.Reached.{Graph, reached-sum, on-cycle-positive, cycle-returns}
+use Rattle.waits.proofs.Members.{member-positive, member-inside, member-within, member-back, member-on-cycle, member-length}
 
 module _ (next : ℕ → ℕ) (S : ℕ) (senior : ℕ → ℕ → Bool) (t : ℕ) where
   pub leads-on-cycle : leads next S senior t ≡ true → onCycle next S t ≡ true
@@ -52,9 +28,9 @@ module _ (next : ℕ → ℕ) (S : ℕ) (senior : ℕ → ℕ → Bool) (t : ℕ
   unfolding leads
   leads-of on h = and-intro on (every-intro (cycleLength next S t) _ (λ k a b. ap not (h k a b)))
 
-  around : leads next S senior t ≡ true → (k : ℕ) → 1 ≤ k → k ≤ cycleLength next S t → senior (reached next k t) t ≡ false
+  none-around : leads next S senior t ≡ true → (k : ℕ) → 1 ≤ k → k ≤ cycleLength next S t → senior (reached next k t) t ≡ false
   unfolding leads
-  around e k a b = not-true _ (every-at (cycleLength next S t) (λ n. not (senior (reached next n t) t)) (and-both (onCycle next S t) _ e .1) k a b)
+  none-around e k a b = not-true _ (every-at (cycleLength next S t) (λ n. not (senior (reached next n t) t)) (and-both (onCycle next S t) _ e .1) k a b)
 
 -- no session lies on a cycle: no cycle is counted
 pub cycles-none : (next : ℕ → ℕ) (S : ℕ) (senior : ℕ → ℕ → Bool) → ((t : ℕ) → 1 ≤ t → t ≤ S → onCycle next S t ≡ false) → cycles next S senior ≡ 0
@@ -66,23 +42,10 @@ module _ {next : ℕ → ℕ} {S : ℕ} (g : Graph next S) (senior : ℕ → ℕ
   pub leads-all : (t : ℕ) → 1 ≤ t → leads next S senior t ≡ true → (k : ℕ) → senior (reached next k t) t ≡ false
   leads-all t low e k =
       let r = member-within g t low (leads-on-cycle next S senior t e) k in
-      ap (λ (u : ℕ). senior u t) (sym (r .3)) ∙ around next S senior t e (r .0) (r .1) (r .2)
+      ap (λ (u : ℕ). senior u t) (sym (r .3)) ∙ none-around next S senior t e (r .0) (r .1) (r .2)
 
-module _ {next : ℕ → ℕ} {S : ℕ} (g : Graph next S) {senior : ℕ → ℕ → Bool} (o : Seniority senior) where
-  -- the cycle of t has a leader
-  pub leader-of : (t : ℕ) → 1 ≤ t → onCycle next S t ≡ true → (k : ℕ) × (leads next S senior (reached next k t) ≡ true)
-  leader-of t low on = go (most-senior o (cycleLength next S t) (λ n. reached next n t) (on-cycle-positive next S t on))
-    where
-      go : (k : ℕ) × (1 ≤ k) × (k ≤ cycleLength next S t) × ((j : ℕ) → 1 ≤ j → j ≤ cycleLength next S t → senior (reached next j t) (reached next k t) ≡ false)
-          → (k : ℕ) × (leads next S senior (reached next k t) ≡ true)
-      go (k, a, b, m) = (k, leads-of next S senior (reached next k t) (member-on-cycle g t low on k) all)
-        where
-          all : (n : ℕ) → 1 ≤ n → n ≤ cycleLength next S (reached next k t) → senior (reached next n (reached next k t)) (reached next k t) ≡ false
-          all n _ _ =
-              let r = member-within g t low on (n + k) in
-              ap (λ (u : ℕ). senior u (reached next k t)) (reached-sum next n k (n + k) t refl ∙ sym (r .3)) ∙ m (r .0) (r .1) (r .2)
-
-  -- and no other
+module _ {next : ℕ → ℕ} {S : ℕ} (g : Graph next S) {senior : ℕ → ℕ → Bool} (o : StrictTotal senior) where
+  -- a cycle has one leader
   pub leader-unique : (t : ℕ) → 1 ≤ t → leads next S senior t ≡ true → (k : ℕ) → leads next S senior (reached next k t) ≡ true → reached next k t ≡ t
   leader-unique t low e k f =
       let on = leads-on-cycle next S senior t e in
@@ -98,6 +61,89 @@ module _ {next : ℕ → ℕ} {S : ℕ} (g : Graph next S) {senior : ℕ → ℕ
       let r = member-back g t low on i in
       let q : reached next (j + r .0) u ≡ reached next j t = sym (reached-sum next j (r .0) (j + r .0) u refl) ∙ ap (reached next j) (r .2) in
       sym (leader-unique u (member-positive g t low on i) e (j + r .0) (rw q f)) ∙ q
+
+-- the members, from t on
+module _ (next : ℕ → ℕ) (S : ℕ) (t : ℕ) where
+  pub around-length : length (around next S t) ≡ cycleLength next S t
+  unfolding around
+  around-length = length-tabulate (cycleLength next S t) (λ k. reached next k t)
+
+  pub around-at : (k : ℕ) → k < cycleLength next S t → getD (around next S t) k 0 ≡ reached next k t
+  unfolding around
+  around-at k h = getD-tabulate (cycleLength next S t) (λ k. reached next k t) k 0 h
+
+module _ {next : ℕ → ℕ} {S : ℕ} (g : Graph next S) {senior : ℕ → ℕ → Bool} (o : StrictTotal senior) where
+  module _ (t : ℕ) (low : 1 ≤ t) (on : onCycle next S t ≡ true) where
+    abbrev sessions : List ℕ
+    sessions = around next S t
+
+    sessions-length : length sessions ≡ cycleLength next S t
+    sessions-length = around-length next S t
+
+    sessions-at : (k : ℕ) → k < cycleLength next S t → getD sessions k 0 ≡ reached next k t
+    sessions-at = around-at next S t
+
+    sessions-some : 0 < length sessions
+    sessions-some = omega (arith, sessions-length, on-cycle-positive next S t on)
+
+    -- whoever is reached from t is one of them
+    sessions-all : (k : ℕ) → member (reached next k t) sessions ≡ true
+    unfolding reached
+    sessions-all k = go (member-within g t low on k)
+      where
+        at-place : (j : ℕ) → j < cycleLength next S t → reached next j t ≡ reached next k t → member (reached next k t) sessions ≡ true
+        at-place j h e = sym (ap (λ (u : ℕ). member u sessions) (sessions-at j h ∙ e)) ∙ getD-member sessions j (omega (arith, sessions-length))
+
+        go : (j : ℕ) × (1 ≤ j) × (j ≤ cycleLength next S t) × (reached next j t ≡ reached next k t) → member (reached next k t) sessions ≡ true
+        go (j, a, b, e) = elim (same? j (cycleLength next S t)) [
+          | yes z ↦ at-place 0 (omega arith) (sym (cycle-returns next S t on) ∙ ap (λ (n : ℕ). reached next n t) (sym z) ∙ e)
+          | no z ↦ at-place j (omega arith) e
+        ]
+
+    -- the leader is reached from t
+    pub leader-member : (k : ℕ) × (k < cycleLength next S t) × (leader next S senior t ≡ reached next k t)
+    unfolding leader
+    leader-member =
+        let k = mostSenior senior sessions in
+        let inside : k < cycleLength next S t = omega (arith, sessions-length, most-senior-inside o sessions sessions-some) in
+        (k, inside, sessions-at k inside)
+
+    leader-passes : isMostSenior senior sessions (leader next S senior t) ≡ true
+    unfolding leader
+    leader-passes = most-senior-passes o sessions sessions-some
+
+    -- the leader lies on the cycle, and none is senior to it
+    pub leader-leads : leads next S senior (leader next S senior t) ≡ true
+    leader-leads =
+        let u = leader next S senior t in
+        let r = leader-member in
+        leads-of next S senior u (rw (r .2) (member-on-cycle g t low on (r .0)))
+        (λ k _ _. none-senior senior sessions u (reached next k u) leader-passes
+        (ap (λ (v : ℕ). member (reached next k v) sessions) (r .2) ∙ ap (λ (v : ℕ). member v sessions) (reached-sum next k (r .0) (k + r .0) t refl)
+        ∙ sessions-all (k + r .0)))
+
+    -- so the cycle has one
+    pub leader-of : (k : ℕ) × (leads next S senior (reached next k t) ≡ true)
+    leader-of = let r = leader-member in (r .0, rw (r .2) at leader-leads)
+
+  module _ (t : ℕ) (low : 1 ≤ t) (on : onCycle next S t ≡ true) (k : ℕ) where
+    -- each member has the same leader
+    leader-same : leader next S senior (reached next k t) ≡ leader next S senior t
+    leader-same =
+        let u = reached next k t in
+        let a = leader-member u (member-positive g t low on k) (member-on-cycle g t low on k) in
+        let b = leader-member t low on in
+        let e = a .2 ∙ reached-sum next (a .0) k (a .0 + k) t refl in
+        let p = leader-leads u (member-positive g t low on k) (member-on-cycle g t low on k) in
+        let q = leader-leads t low on in
+        e
+        ∙ leaders-equal g o t low on (a .0 + k) (b .0) (rw (e) at p) (rw (b .2) at q)
+        ∙ sym (b .2)
+
+    -- and the same cycle
+    pub cycle-same : (at : ℕ → ℕ) → cycle at next S senior (reached next k t) ≡ cycle at next S senior t
+    unfolding cycle
+    cycle-same at = rw (member-length g t low on k, leader-same) refl
 
   -- no cycle is counted: no session lies on one
   pub none-on-cycle : cycles next S senior ≡ 0 → (t : ℕ) → 1 ≤ t → onCycle next S t ≡ false

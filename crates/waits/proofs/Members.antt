@@ -2,13 +2,13 @@
 use mathlib.Core.Path.{_≡_, refl, sym, ap, _∙_}
 use mathlib.Core.Bool.{Bool, true, false}
 use mathlib.Core.Logic.{_≢_, _⊎_, inl, inr}
-use Prim.Native.Nat.{ℕ, zero, suc, _≤_}
+use Prim.Native.Nat.{ℕ, zero, suc, _+_, _-_, _≤_, _<_}
 use native.Mathlib.Omega.{arith}
 use lib.Dec.{eqb}
 use borrow.Author.Tests.{eqb-true, eqb-false}
 use Rattle.lists.proofs.Searches.{some-or-none}
 use Rattle.waits.specs.Waits.{reached, cycleLength, onCycle}
-use Rattle.waits.proofs.Reached.{Graph, reached-suc, reached-swap, reached-past, within, returns, on-cycle-positive, cycle-returns, back-positive, back-inside, reached-inside, on-cycle-found, cycle-length-least}
+use Rattle.waits.proofs.Reached.{Graph, reached-sum, reached-suc, reached-swap, reached-past, within, returns, on-cycle-positive, cycle-returns, back-positive, back-inside, reached-inside, on-cycle-found, cycle-length-least}
 
 module _ {next : ℕ → ℕ} {S : ℕ} (g : Graph next S) where
   -- whoever waits for none lies on no cycle
@@ -74,6 +74,13 @@ module _ {next : ℕ → ℕ} {S : ℕ} (g : Graph next S) where
         let r = member-back t low on k in
         let s = member-shorter u (member-positive t low on k) (member-on-cycle t low on k) (r .0) in
         omega (arith, member-shorter t low on k, ap (cycleLength next S) (r .2))
+
+    -- fewer waits than the cycle is long lead from a member to another
+    pub members-differ : (i j : ℕ) → i < j → j < i + cycleLength next S t → reached next i t ≢ reached next j t
+    members-differ i j h l e =
+        let u = reached next i t in
+        let back : reached next (j - i) u ≡ u = reached-sum next (j - i) i j t (omega arith) ∙ sym e in
+        omega (arith, member-length i, cycle-length-least g u (member-positive t low on i) (j - i) (omega arith) back)
 
     -- whom t waits for
     pub next-positive : 1 ≤ next t

@@ -1,4 +1,5 @@
 pub mod Waits
 pub mod Walk
+pub mod Cycle
 pub mod OnTable
 pub mod Places

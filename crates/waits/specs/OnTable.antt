@@ -4,7 +4,9 @@ use mathlib.Core.List.{List}
 use Rattle.session.specs.Seniority.{senior}
 use Rattle.item.specs.Record.{Lock, unpacked}
 use Rattle.table.specs.Layout as Table
+use Rattle.waits.specs.declared.Wait.{Wait}
 use Rattle.waits.specs.Waits
+use Rattle.waits.specs.Cycle
 
 -- what the record of item x says
 unfoldable pub locks : List ℕ → ℕ → Lock
@@ -25,3 +27,15 @@ cycleLength table t = Waits.cycleLength (waitsFor table) (Table.sessionsOf table
 -- the number of standing cycles
 abbrev pub cycles : List ℕ → ℕ
 cycles table = Waits.cycles (waitsFor table) (Table.sessionsOf table) senior
+
+-- session t, the item at which it waits, and the session for which it waits
+abbrev pub wait : List ℕ → ℕ → Wait
+wait table t = Cycle.wait (waitsAt table) (waitsFor table) t
+
+-- the most senior member of the cycle on which t lies
+abbrev pub leader : List ℕ → ℕ → ℕ
+leader table t = Cycle.leader (waitsFor table) (Table.sessionsOf table) senior t
+
+-- the cycle on which t lies, from there and once round
+abbrev pub cycle : List ℕ → ℕ → List Wait
+cycle table t = Cycle.cycle (waitsAt table) (waitsFor table) (Table.sessionsOf table) senior t

@@ -1,13 +1,12 @@
--- The places of the sessions as the code keeps them, and the wait of one session.
+-- The places of the sessions as the code keeps them.
 use Prim.Native.Nat.{ℕ, suc}
 use mathlib.Core.Path.{_≡_}
 use mathlib.Core.List.{List}
 use Rattle.lists.specs.Lists.{tabulate}
 use Rattle.message.specs.Limits.{maxSessions}
 use Rattle.table.specs.Layout.{itemsOf, Formed}
-use Rattle.waits.specs.declared.Wait.{Wait}
 use Rattle.waits.specs.Waits
-use Rattle.waits.specs.OnTable.{locks, waitsAt, waitsFor}
+use Rattle.waits.specs.OnTable.{locks}
 
 -- for each session the item at which it waits, or 0, where the first n items alone count
 abbrev pub placesAmong : ℕ → List ℕ → List ℕ
@@ -21,7 +20,3 @@ places table = placesAmong (itemsOf table) table
 pub record WithPlaces (table at : List ℕ) : Type 0 where
   pub formed : Formed table
   pub read : at ≡ places table
-
--- the item at which session t waits, and the session for which it waits
-abbrev pub nextWait : List ℕ → ℕ → Wait
-nextWait table t = record { item = waitsAt table t; holder = waitsFor table t }

@@ -5,11 +5,12 @@ ghost use Prim.Native.Nat.{_-_, _≤_};
 ghost use Rattle.message.specs.Limits.{maxSessions};
 ghost use Rattle.table.specs.Layout.{sessionsOf, itemsOf, Formed, HasItem};
 ghost use Rattle.waits.specs.Walk.{walkFromSession, walkFromItem};
-ghost use Rattle.waits.specs.OnTable.{locks, cycleLength};
-ghost use Rattle.waits.specs.Places.{places, placesAmong, WithPlaces, nextWait};
+ghost use Rattle.waits.specs.OnTable.{locks, cycleLength, wait};
+ghost use Rattle.waits.specs.Places.{places, placesAmong, WithPlaces};
 
-// A session's wait: the item at which it waits and the holder of that item. Both are 0 where it waits for none.
+// A session, the item at which it waits and the holder of that item. Both are 0 where it waits for none.
 pub struct Wait {
+    pub session: u8,
     pub item: u8,
     pub holder: u8,
 }
@@ -52,14 +53,19 @@ pub fn places(t: &[u8]) -> [u8; MAX_SESSIONS]
 // The wait of session s.
 pub fn next(t: &[u8], at: &[u8; MAX_SESSIONS], s: u8) -> Wait
     requires { ⌜ WithPlaces (now t) (now at) × (1 ≤ s) × (s ≤ maxSessions) ⌝ }
-    ensures { λ r. ⌜ r ≡ nextWait (now (t .entry)) s ⌝ }
+    ensures { λ r. ⌜ r ≡ wait (now (t .entry)) s ⌝ }
 {
     let k = s as usize - 1;
     let item = at[k];
     if item == 0 {
-        return Wait { item: 0, holder: 0 };
+        return Wait {
+            session: s,
+            item: 0,
+            holder: 0,
+        };
     }
     Wait {
+        session: s,
         item,
         holder: table::holder(t, item),
     }
@@ -96,11 +102,19 @@ fn walk_from_item(t: &[u8], at: &[u8; MAX_SESSIONS], me: u8, x: u8, steps: u8) -
     if r == 0 { 0 } else { r + 1 }
 }
 
+// The length of the cycle on which session `me` lies, or 0, where the places are read already.
+pub fn cycle_length_at(t: &[u8], at: &[u8; MAX_SESSIONS], me: u8) -> u8
+    requires { ⌜ WithPlaces (now t) (now at) × (1 ≤ me) × (me ≤ sessionsOf (now t)) ⌝ }
+    ensures { λ r. ⌜ r ≡ cycleLength (now (t .entry)) me ⌝ }
+{
+    walk_from_session(t, at, me, me, 2 * table::sessions(t))
+}
+
 // The length of the cycle on which session `me` lies, or 0.
 pub fn cycle_length(t: &[u8], me: u8) -> u8
     requires { ⌜ Formed (now t) × (1 ≤ me) × (me ≤ sessionsOf (now t)) ⌝ }
     ensures { λ r. ⌜ r ≡ cycleLength (now (t .entry)) me ⌝ }
 {
     let at = places(t);
-    walk_from_session(t, &at, me, me, 2 * table::sessions(t))
+    cycle_length_at(t, &at, me)
 }

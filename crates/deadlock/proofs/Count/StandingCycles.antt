@@ -3,9 +3,9 @@ use mathlib.Core.Path.{_∙_, _≡_, sym}
 use mathlib.Core.Bool.{cond, true}
 use mathlib.Core.Logic.{_≢_, _⊎_, inl, inr}
 use Prim.Native.Nat.{_+_, _≤_, ℕ}
+use Rattle.lists.proofs.Orders.{StrictTotal}
 use Rattle.waits.proofs.Reached.{Graph}
 use Rattle.waits.proofs.Members.{next-on-cycle, next-positive}
-use Rattle.waits.proofs.Leaders.{Seniority}
 use Rattle.waits.proofs.Changes.{cycles-add, cycles-same}
 use Rattle.deadlock.specs.Machine.{Laws, onCycle, Rules, State, waitsFor}
 use Rattle.deadlock.specs.World.{Edge}
@@ -16,7 +16,7 @@ use Rattle.deadlock.proofs.StateWaits.{edge-waitsFor, graph-of, waitsFo
 use Rattle.deadlock.proofs.Core.Kept.{links-of}
 
 module _ (R : Rules) (L : Laws R) where
-  seniority-of : Seniority (R .senior)
+  seniority-of : StrictTotal (R .senior)
   seniority-of = record { irreflexive = L .irreflexive; transitive = L .transitive; total = L .total }
 
   -- ---- one state

@@ -6,10 +6,11 @@ use mathlib.Core.Option.{some}
 use mathlib.Core.Logic.{_≢_, _⊎_, inl, inr}
 use Prim.Native.Nat.{_+_, _≤_, ℕ}
 use native.Mathlib.Omega.{arith}
+use Rattle.lists.specs.Lists.{sumUpTo}
 use Rattle.lists.proofs.Tests.{same?}
 use Rattle.deadlock.specs.Machine.{isLive, Message, Rules, Sends, Session, SessionStep}
 use Rattle.message.specs.Kind
-use Rattle.deadlock.specs.Counts.{behindRequest, countKind, except, freshProbes, isStored, sentTo, sumUpTo, unlessCleaned}
+use Rattle.deadlock.specs.Counts.{behindRequest, countKind, except, freshProbes, isStored, sentTo, unlessCleaned}
 use Rattle.deadlock.specs.Walks.{FirstApart, Walk}
 use Rattle.deadlock.specs.World.{Edge, HolderIs, isVictim, isWaiting, Links, Live, Mail, Queued, stageOf, VictimIn, World}
 use Rattle.deadlock.specs.Coverage.{AbortPending, cleansElsewhere, cleansFromOthers, cleansFromQueue, Coverage, CycleDeclared, probeReaches, rebroadcastDue, stores, underWay}

@@ -7,12 +7,12 @@ use Prim.Native.Nat.{_+_, _≤_, suc, zero, ℕ}
 use native.Mathlib.Omega.{arith}
 use lib.Dec.{eqb}
 use borrow.Author.Tests.{eqb-false, eqb-true, ne-eqb}
-use Rattle.lists.specs.Lists.{filter}
+use Rattle.lists.specs.Lists.{filter, sumUpTo}
 use Rattle.lists.proofs.Tests.{by-test, eqb-self, same?}
 use Rattle.deadlock.specs.Lists.{bit, occurs, without}
 use Rattle.deadlock.specs.Machine.{Message, probe, probesFrom, probesTo, rebroadcast, rebroadcasts, resends, Rules, Sends, Session, toEach, up}
 use Rattle.message.specs.Kind
-use Rattle.deadlock.specs.Counts.{cleansSent, countKind, except, freshProbes, isStored, probeOf, probesBy, sentTo, sumOver, sumUpTo, unlessCleaned}
+use Rattle.deadlock.specs.Counts.{cleansSent, countKind, except, freshProbes, isStored, probeOf, probesBy, sentTo, sumOver, unlessCleaned}
 use Rattle.deadlock.proofs.Laws.Lists.{bit-le, occurs-oneTo, zero-or-more}
 use Rattle.deadlock.proofs.Laws.Routes.{countKind-append}
 use Rattle.deadlock.proofs.Laws.Counts.{cleansOf-sentTo, cleansOf-some}

@@ -1,52 +1,17 @@
--- `cycle_length` meets its contract: the walk from a session to itself, with twice as many steps as sessions, finds its cycle.
-use native.Mathlib.Omega.{arith}
+-- `cycle_length` meets its contract: the places are read, and the walk goes by them.
 use borrow.Author.Needs.{needs}
-use mathlib.Core.Path.{_≡_}
-use Prim.Native.Nat.{_≤_}
-use Rattle.message.specs.Limits.{maxSessions}
-use Rattle.table.specs.Layout.{sessionsOf}
-use Rattle.table.proofs.Laws.{sized-facts, header-fits}
-use Rattle.waits.proofs.Laws.{walk-cycle}
 use Rattle.waits.proofs.cycle_length.Statement.{statement}
 use Rattle.waits.proofs.cycle_length.Tie as tie
-
-abbrev begin : tie.After-places → tie.Start
-begin c = c .before .before
-
--- the sessions of the table
-most : (c : tie.After-sessions) → (c .sessions .result ≡ sessionsOf (begin (c .before .before) .args .t .now)) × (c .sessions .result ≤ maxSessions)
-most c =
-    let s = begin (c .before .before) in
-    let b = sized-facts (s .args .t .now) (s .pre .0 .sized) in (c .sessions .ensures, omega (arith, c .sessions .ensures))
 
 places-requires : tie.Need-places-requires
 places-requires c κs = search needs
 
-sessions-requires : tie.Need-sessions-requires
-sessions-requires c κs = let s = begin (c .before) in header-fits (s .args .t .now) (s .pre .0 .sized)
-
-mul-walk-from-session : tie.Need-mul-walk-from-session
-mul-walk-from-session c = omega (arith, most c .1)
-
-walk-from-session-requires : tie.Need-walk-from-session-requires
-walk-from-session-requires c κs =
-    let b = c .before .before in
-    let p = begin b .pre in
-    let m = most c in
-    (record { formed = p .0; read = b .places .ensures }, p .1, omega (arith, m .0, m .1))
+cycle-length-at-requires : tie.Need-cycle-length-at-requires
+cycle-length-at-requires c κs =
+    let p = c .before .before .before .pre in (record { formed = p .0; read = c .before .places .ensures }, p .1, p .2)
 
 returns : tie.Need-returns
-returns c =
-    let s = begin (c .before .before .before) in
-    let p = s .pre in
-    rw (← walk-cycle (s .args .t .now) (p .0) (s .args .me) (p .1), ← most (c .before) .0) (c .walk-from-session .ensures)
+returns c = search needs
 
 pub cycle-length-spec : {M : Type 1} → statement M
-cycle-length-spec =
-    tie.close
-    (tie.spec
-    places-requires
-    sessions-requires
-    mul-walk-from-session
-    walk-from-session-requires
-    returns)
+cycle-length-spec = tie.close (tie.spec places-requires cycle-length-at-requires returns)
