@@ -3,6 +3,7 @@ use mathlib.Core.Path.{_≡_, refl, _∙_}
 use mathlib.Core.Bool.{Bool, true, false, cond, not, _&&_}
 use mathlib.Core.List.{List, [], _∷_, _++_}
 use Prim.Native.Nat.{ℕ, _≤_}
+use native.Mathlib.Omega.{arith}
 use lib.Dec.{eqb}
 use lib.ListN.{length}
 use borrow.Author.Tests.{le-leb, eqb-true, eq-eqb, ne-eqb}
@@ -11,12 +12,14 @@ use Rattle.lists.proofs.Tests.{and-both, between-intro, fails, within}
 use Rattle.message.specs.Limits.{maxSessions, maxItems}
 use Rattle.mailbox.specs.Layout as Mail
 use Rattle.table.specs.Layout as Table
+use Rattle.table.proofs.Laws as TableLaws
 use Rattle.step.specs.Refusal
 use Rattle.step.specs.Refusal.{Cause, cause, first}
 use Rattle.step.specs.Step.{acted, stepped, refusedAnswer, Formed}
 use Rattle.step.specs.Parts.{Judged}
 use Rattle.step.proofs.Causes.{first-stops, first-goes-on, unmet-not, one-cause}
-use Rattle.lockmgr.specs.Calls.{Config, bufferCauses, judged, startRefusal, step, reportRefusal}
+use Rattle.cycletext.specs.OnTable.{text, textCauses, textAnswer, described, unlessRefused}
+use Rattle.lockmgr.specs.Calls.{Config, bufferCauses, judged, startRefusal, step, reportCauses, reportRefusal, cycleText}
 
 -- a step by what judging answers
 module _ (verb t x : ℕ) (table mail : List ℕ) where
@@ -173,6 +176,9 @@ module _ (t : ℕ) (table : List ℕ) where
       let n = within 1 (Table.sessionsOf table) t (unmet-not known 4 _ (f .1) .0) in
       (record { sized = s .0; formed = f .0 }, n .0, n .1)
 
+  pub report-small : reportRefusal t table ≡ 0 → t ≤ maxSessions
+  report-small e = let f = report-zero e in omega (arith, TableLaws.sized-facts table (f .0 .sized), f .2)
+
   pub report-size : Table.sized table ≡ false → reportRefusal t table ≡ Refusal.badSize
   unfolding reportRefusal first
   report-size e = rw (e) refl
@@ -191,3 +197,14 @@ module _ (t : ℕ) (table : List ℕ) where
       pub report-none : 1 ≤ t → t ≤ Table.sessionsOf table → reportRefusal t table ≡ 0
       unfolding reportRefusal first
       report-none a b = rw (sized, formed, le-leb 1 t a, le-leb t (Table.sessionsOf table) b) refl
+
+  -- the text of a cycle is refused for the same causes, and then for its own
+  module _ (buffer : List ℕ) where
+    pub text-refused : (reportRefusal t table ≡ 0 → ⊥) → cycleText t table buffer ≡ described (textAnswer (reportRefusal t table) 0) buffer
+    unfolding reportRefusal cycleText
+    text-refused h =
+        rw (first-stops (reportCauses t table) (textCauses t table buffer) h, ne-eqb (first (reportCauses t table)) 0 h) refl
+
+    pub text-judged : reportRefusal t table ≡ 0 → cycleText t table buffer ≡ unlessRefused (first (textCauses t table buffer)) (text table t) buffer
+    unfolding reportRefusal cycleText all
+    text-judged e = rw (first-goes-on (reportCauses t table) (textCauses t table buffer) refl e) refl

@@ -1,4 +1,4 @@
--- The calls on bytes (01: desk): from the arguments and both buffers, the answer and both buffers after. RULES is docs/RULES.md.
+-- The calls on bytes (01: desk): from the arguments and the lent buffers, the answer and the buffers after. RULES is docs/RULES.md.
 -- T is the session and X the item that a call names; S, M and C are read from the buffers.
 use Prim.Native.Nat.{ℕ}
 use mathlib.Core.Bool.{cond, not, _&&_}
@@ -13,6 +13,7 @@ use Rattle.waits.specs.OnTable.{cycleLength}
 use Rattle.step.specs.Refusal
 use Rattle.step.specs.Refusal.{Cause, cause, first}
 use Rattle.step.specs.Step.{Stepped, request, deliverToSession, unless, acted}
+use Rattle.cycletext.specs.OnTable.{Described, text, textCauses, unlessRefused}
 use Rattle.lockmgr.specs.declared.Cycle.{Cycle}
 
 -- ---- start
@@ -74,16 +75,23 @@ step verb t x table mail = unless (judged verb t x table mail) table mail (acted
 
 -- ---- report
 -- the report reads the table alone: RULES 4.8
-unfoldable pub reportRefusal : ℕ → List ℕ → ℕ
-reportRefusal t table =
-    first
-    (cause (not (Table.sized table)) Refusal.badSize
+abbrev pub reportCauses : ℕ → List ℕ → List Cause
+reportCauses t table =
+    cause (not (Table.sized table)) Refusal.badSize
     ∷ cause (not (Table.wellFormed table)) Refusal.badTable
     ∷ cause (not (between 1 (Table.sessionsOf table) t)) Refusal.badNumber
-    ∷ [])
+    ∷ []
+
+unfoldable pub reportRefusal : ℕ → List ℕ → ℕ
+reportRefusal t table = first (reportCauses t table)
 
 unfoldable pub report : ℕ → List ℕ → Cycle
 report t table =
     cond (eqb (reportRefusal t table) 0)
     (record { refusal = 0; length = cycleLength table t })
     (record { refusal = reportRefusal t table; length = 0 })
+
+-- ---- cycle text
+-- the causes of a report, and those of the text: RULES 4.11
+unfoldable pub cycleText : ℕ → List ℕ → List ℕ → Described
+cycleText t table buffer = unlessRefused (first (reportCauses t table ++ textCauses t table buffer)) (text table t) buffer

@@ -1,14 +1,16 @@
-// The lock manager (01: the desk): start, step, report and drain on lent bytes, exported to C.
+// The lock manager (01: the desk): start, step, report, cycle text and drain on lent bytes, exported to C.
 use message::MAX_ITEMS;
 use message::MAX_SESSIONS;
 ghost use mathlib.Core.Path.{_≡_};
 ghost use Rattle.step.specs.Refusal.{first};
 ghost use Rattle.step.specs.Step.{stepped, Formed};
 ghost use Rattle.drain.specs.Parts.{pending, Spent};
-ghost use Rattle.lockmgr.specs.Calls.{config, startRefusal, startResult, start, bufferCauses, judged, step, reportRefusal, report};
+ghost use Rattle.cycletext.specs.OnTable.{described};
+ghost use Rattle.lockmgr.specs.Calls.{config, startRefusal, startResult, start, bufferCauses, judged, step, reportRefusal, report, cycleText};
 ghost use Rattle.lockmgr.specs.Run.{buffers};
 ghost use Rattle.lockmgr.specs.Drain.{drainRefusal, drainAnswer, drainResult, drain};
 ghost use Rattle.lockmgr.specs.Parts.{turned, turnOf};
+pub use cycletext::Text;
 pub use step::Answer;
 
 // The answer of a report.
@@ -170,6 +172,18 @@ pub extern "C" fn lockmgr_report(session: u64, table: &[u8]) -> Cycle
         refusal: 0,
         length: waits::cycle_length(table, session as u8),
     }
+}
+
+// The text of the cycle on which a session lies, a line for each member, at the start of a lent buffer.
+#[no_mangle]
+pub extern "C" fn lockmgr_cycle_text(session: u64, table: &[u8], text: &mut [u8]) -> Text
+    ensures { λ r. ⌜ described r (now (text .exit)) ≡ cycleText session (now (table .entry)) (now (text .entry)) ⌝ }
+{
+    let cause = report_refusal(session, table);
+    if cause != 0 {
+        return Text::refused(cause);
+    }
+    cycletext::describe(session as u8, table, text)
 }
 
 // The answer of a drain: how many deliveries it made, and why it ended.

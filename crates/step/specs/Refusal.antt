@@ -39,6 +39,14 @@ noMessage = 8
 abbrev pub mailFull : ℕ
 mailFull = 9
 
+-- RULES 8.10
+abbrev pub noCycle : ℕ
+noCycle = 10
+
+-- RULES 8.11
+abbrev pub shortBuffer : ℕ
+shortBuffer = 11
+
 -- a cause that holds or not
 pub record Cause : Type 0 where
   pub holds : Bool
@@ -47,7 +55,7 @@ pub record Cause : Type 0 where
 abbrev pub cause : Bool → ℕ → Cause
 cause b n = record { holds = b; refusal = n }
 
--- the number of the first cause that holds, or 0: RULES 8.10
+-- the number of the first cause that holds, or 0: RULES 8.0
 unfoldable pub first : List Cause → ℕ
 first [] = 0
 first (c ∷ l) = cond (c .holds) (c .refusal) (first l)

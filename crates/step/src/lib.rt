@@ -51,6 +51,10 @@ impl Answer {
 
     pub const MAIL_FULL: u8 = 9;
 
+    pub const NO_CYCLE: u8 = 10;
+
+    pub const SHORT_BUFFER: u8 = 11;
+
     pub fn refused(refusal: u8) -> Answer
         ensures { λ r. ⌜ r ≡ refusedAnswer refusal ⌝ }
     {

@@ -1,9 +1,9 @@
--- Laws of numbers as text.
+-- Laws of words and numbers as text, and of writing them piece by piece.
 use mathlib.Core.Path.{_≡_, refl, sym, ap, _∙_}
 use mathlib.Core.Bool.{Bool, true, false}
 use mathlib.Core.List.{List, [], _∷_, _++_, append-assoc, append-nil}
 use Prim.Native.Nat.{ℕ, zero, suc, _+_, _-_, _/_, _%_, _^_, _≤_, _<_, zero-le}
-use native.Mathlib.Nat.{add-zero, pow-suc}
+use native.Mathlib.Nat.{add-zero, zero-add, pow-suc}
 use native.Mathlib.Omega.{arith}
 use borrow.Author.Tests.{ltb-true, ltb-false, lt-ltb, le-ltb}
 use lib.Dec.{ltb}
@@ -32,6 +32,34 @@ pub splice-none : (t : List ℕ) (at : ℕ) → splice t at [] ≡ t
 unfolding splice
 splice-none t at = rw (add-zero at) (take-append-drop at t)
 
+-- ---- piece by piece
+abbrev pub total : List (List ℕ) → ℕ
+total [] = 0
+total (p ∷ l) = length p + total l
+
+-- what is done stands at the start of t, which has become x; there is room for the other pieces
+pub record Written (t x : List ℕ) (at : ℕ) (done : List ℕ) (pieces : List (List ℕ)) : Type 0 where
+  pub bytes : x ≡ splice t 0 done
+  pub behind : at ≡ length done
+  pub same : length x ≡ length t
+  pub room : length done + total pieces ≤ length t
+
+pub none-written : (t : List ℕ) (pieces : List (List ℕ)) → total pieces ≤ length t → Written t t 0 [] pieces
+none-written t pieces h = record { bytes = sym (splice-none t 0); behind = refl; same = refl; room = omega arith }
+
+module _ {t x : List ℕ} {at : ℕ} {done piece : List ℕ} {rest : List (List ℕ)} (w : Written t x at done (piece ∷ rest)) where
+  pub piece-fits : at + length piece ≤ length x
+  piece-fits = omega (arith, w .behind, w .same, w .room)
+
+  pub piece-written : {y : List ℕ} {r : ℕ} → y ≡ splice x at piece → r ≡ at + length piece → length y ≡ length x → Written t y r (done ++ piece) rest
+  piece-written e p q = record {
+    bytes = splice-then t 0 done piece (omega (arith, w .room)) (w .bytes) (rw (zero-add) (w .behind)) e;
+    behind = omega (arith, length-append done piece, p, w .behind);
+    same = q ∙ w .same;
+    room = omega (arith, length-append done piece, w .room);
+  }
+
+-- ---- decimal numbers
 -- room for more digits than there are changes nothing
 digits-room : (k j n : ℕ) → n < k → n < j → digits k n ≡ digits j n
 unfolding digits

@@ -1,8 +1,15 @@
--- Numbers as text, in ASCII.
+-- Words and numbers as text, in ASCII.
 use Prim.Native.Nat.{ℕ, zero, suc, _+_, _/_, _%_}
 use mathlib.Core.Bool.{cond}
 use mathlib.Core.List.{List, [], _∷_, _++_}
 use lib.Dec.{ltb}
+use Prim.Native.Char.{code}
+use Prim.Native.String.{String, [] as noCharacters, _∷_ as _then_}
+
+-- the codes of the characters of words
+unfoldable pub ascii : String → List ℕ
+ascii noCharacters = []
+ascii (c then s) = code c ∷ ascii s
 
 -- 0 to 9
 abbrev pub digit : ℕ → ℕ

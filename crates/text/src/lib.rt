@@ -1,4 +1,4 @@
-// Numbers as text in a lent buffer: each function writes at a place and answers the place behind it.
+// Words and numbers as text in a lent buffer: what writes at a place answers the place behind it.
 ghost use mathlib.Core.Path.{_≡_};
 ghost use Prim.Native.Nat.{_+_, _≤_};
 ghost use lib.ListN.{length};
@@ -17,6 +17,19 @@ pub fn put_decimal(out: &mut [u8], at: usize, v: u64) -> usize
     let next = put_decimal(out, at, v / 10);
     out[next] = b'0' + (v % 10) as u8;
     next + 1
+}
+
+// How many digits v has.
+pub fn decimal_length(v: u64) -> usize
+    ensures { λ r. ⌜ r ≡ length (decimal v) ⌝ }
+{
+    let mut n: usize = 1;
+    let mut left = v;
+    while left >= 10 {
+        left /= 10;
+        n += 1;
+    }
+    n
 }
 
 // Writes bytes as they are.

@@ -2,9 +2,8 @@
 use mathlib.Core.Path.{_≡_, refl, sym, _∙_}
 use native.Mathlib.Omega.{arith}
 use borrow.Author.Tests.{ne-eqb}
-use Rattle.table.proofs.Laws as TableLaws
 use Rattle.lockmgr.specs.Calls.{reportRefusal, report}
-use Rattle.lockmgr.proofs.Judging.{report-zero}
+use Rattle.lockmgr.proofs.Judging.{report-zero, report-small}
 use borrow.Author.Needs.{needs}
 use Rattle.lockmgr.proofs.lockmgr_report.Statement.{statement}
 use Rattle.lockmgr.proofs.lockmgr_report.Tie as tie
@@ -24,10 +23,7 @@ returns c =
     rw (ne-eqb (reportRefusal (a .session) (a .table .now)) 0 (λ z. c .if1 .taken (e ∙ z)), e) refl
 
 cast-cycle-length : tie.Need-cast-cycle-length
-cast-cycle-length c =
-    let a = c .before .before .before .args in
-    let f = report-zero (a .session) (a .table .now) (admitted c) in
-    omega (arith, TableLaws.sized-facts (a .table .now) (f .0 .sized), f .2)
+cast-cycle-length c = let a = c .before .before .before .args in omega (arith, report-small (a .session) (a .table .now) (admitted c))
 
 cycle-length-requires : tie.Need-cycle-length-requires
 cycle-length-requires c κs = let a = c .before .before .before .args in report-zero (a .session) (a .table .now) (admitted c)

@@ -1,0 +1,5 @@
+pub mod Laws
+pub mod Round
+pub mod Reading
+pub mod Longest
+pub mod Theorem
