@@ -1,7 +1,7 @@
-//! The four calls, by whoever answers them.
+//! The five calls, by whoever answers them.
 
 use crate::fast;
-use model::{Answer, Config, Cycle, Drained, Misreading};
+use model::{Answer, Config, Cycle, Drained, Misreading, Text};
 
 pub use crate::library::Library;
 
@@ -11,9 +11,10 @@ pub trait Calls {
         -> Answer;
     fn report(&self, session: u64, table: &[u8]) -> Cycle;
     fn drain(&self, limit: u64, table: &mut [u8], mail: &mut [u8]) -> Drained;
+    fn cycle_text(&self, session: u64, table: &[u8], text: &mut [u8]) -> Text;
 }
 
-/// Calls made of four functions.
+/// Calls made of five functions.
 macro_rules! calls {
     ($name:ident, $module:path) => {
         impl Calls for $name {
@@ -32,6 +33,10 @@ macro_rules! calls {
             fn drain(&self, limit: u64, table: &mut [u8], mail: &mut [u8]) -> Drained {
                 use $module as answers;
                 answers::drain(limit, table, mail)
+            }
+            fn cycle_text(&self, session: u64, table: &[u8], text: &mut [u8]) -> Text {
+                use $module as answers;
+                answers::cycle_text(session, table, text)
             }
         }
     };
@@ -60,5 +65,8 @@ impl Calls for Misread {
     }
     fn drain(&self, limit: u64, table: &mut [u8], mail: &mut [u8]) -> Drained {
         model::drain_as(self.0, limit, table, mail)
+    }
+    fn cycle_text(&self, session: u64, table: &[u8], text: &mut [u8]) -> Text {
+        model::cycle_text(session, table, text)
     }
 }

@@ -10,7 +10,8 @@ use crate::numbers::{
 };
 use model::demand3::Demand3;
 use model::layout::{
-    ITEM_SIZE, JUNIORS, KIND, MAX_SESSIONS, SESSION_SIZE, STAGE, TABLE_ITEMS, TABLE_SESSIONS,
+    ITEM_SIZE, JUNIORS, KIND, MAX_SESSIONS, MAX_TEXT, SESSION_SIZE, STAGE, TABLE_ITEMS,
+    TABLE_SESSIONS,
 };
 use model::scenario::Random;
 use model::{Answer, Config, Drained, Ending, Misreading, ACCEPTED};
@@ -42,6 +43,9 @@ const ROUND: &[(&str, u64, u64, Case)] = &[
     ("clean that circles, more room", 2, 1, circles_wide),
     ("clean that circles, largest", 1, 15, circles_largest),
     ("clean that circles, long", 1, 100, circles_long),
+    ("text of a cycle", 10, 1, texts),
+    ("text of a cycle, more sessions", 2, 1, texts_wide),
+    ("text of a cycle, largest", 1, 10, texts_largest),
     ("many messages at once", 1, 5, many_sends),
     ("broken form", 2, 1, broken),
     ("broken form, largest", 1, 20, broken_largest),
@@ -144,6 +148,49 @@ fn any_limit(random: &mut Random) -> u64 {
         3 => (1 << random.between(8, 63)) + random.between(0, 2),
         _ => limit(random),
     }
+}
+
+/// A report and a text on the same session.
+fn read(
+    comparison: &mut Comparison,
+    random: &mut Random,
+    session: u64,
+    buffers: &Buffers,
+) -> Outcome {
+    comparison.report(session, buffers)?;
+    let room = match random.between(1, 4) {
+        1 => 0,
+        2 => random.between(1, 100) as usize,
+        3 => random.between(101, 500) as usize,
+        _ => MAX_TEXT - random.between(0, 1) as usize,
+    };
+    comparison.cycle_text(session, room, buffers)?;
+    Ok(())
+}
+
+/// The text for a session into a far longer buffer and into none and, if there is
+/// one, into buffers of its length, one byte more, one less, and any number less.
+fn every_room(
+    comparison: &mut Comparison,
+    random: &mut Random,
+    session: u64,
+    buffers: &Buffers,
+) -> Outcome {
+    let room = match random.between(1, 8) {
+        // None but a few if the upper bits were lost.
+        1 => (1 << 16) + random.between(0, 40) as usize,
+        _ => MAX_TEXT + random.between(1000, 2000) as usize,
+    };
+    let length = comparison.cycle_text(session, room, buffers)?.length;
+    comparison.cycle_text(session, 0, buffers)?;
+    if length > 0 {
+        let length = usize::from(length);
+        let less = random.between(1, length as u64 - 1) as usize;
+        for room in [less, length - 1, length, length + 1] {
+            comparison.cycle_text(session, room, buffers)?;
+        }
+    }
+    Ok(())
 }
 
 /// Any well-formed buffers, mostly small.
@@ -272,7 +319,8 @@ fn run(comparison: &mut Comparison, random: &mut Random, config: Config, steps: 
         if random.one_in(40) {
             started.step(comparison, any_step(random, config))?;
         } else if random.one_in(10) {
-            comparison.report(config.any_session(random), &started.buffers)?;
+            let session = config.any_session(random);
+            read(comparison, random, session, &started.buffers)?;
         } else if random.one_in(drain_one_in) {
             started.drain(comparison, any_limit(random))?;
         } else if delivering_all || random.between(1, 10) <= deliver_in_ten {
@@ -376,14 +424,8 @@ fn long_cycle(comparison: &mut Comparison, random: &mut Random) -> Outcome {
             ));
         }
     }
-    let length = comparison
-        .report(config.any_session(random), &started.buffers)?
-        .length;
-    if u64::from(length) != sessions {
-        return Err(format!(
-            "a cycle of {sessions} sessions is reported as {length}"
-        ));
-    }
+    let session = config.any_session(random);
+    texts_of(comparison, random, session, sessions, &started.buffers)?;
     // Some of the mail that the cycle brings.
     for _ in 0..200 {
         let Some(m) = Schedule::Any.choose(random, &started.buffers) else {
@@ -400,7 +442,67 @@ fn long_cycle(comparison: &mut Comparison, random: &mut Random) -> Outcome {
     Ok(())
 }
 
-/// A few steps, a report and drains on well-formed buffers.
+/// A report and texts on a session that lies on a cycle of so many.
+fn texts_of(
+    comparison: &mut Comparison,
+    random: &mut Random,
+    session: u64,
+    members: u64,
+    buffers: &Buffers,
+) -> Outcome {
+    let length = comparison.report(session, buffers)?.length;
+    if u64::from(length) != members {
+        return Err(format!(
+            "a cycle of {members} sessions is reported as {length}"
+        ));
+    }
+    every_room(comparison, random, session, buffers)
+}
+
+/// Texts on a forged cycle of so many: on a member and on any session.
+fn forged_cycle(
+    comparison: &mut Comparison,
+    random: &mut Random,
+    config: Config,
+    members: u64,
+) -> Outcome {
+    let (buffers, member) = forge::cycle(random, config, members as usize);
+    texts_of(comparison, random, member.into(), members, &buffers)?;
+    let session = config.any_session(random);
+    every_room(comparison, random, session, &buffers)
+}
+
+fn texts(comparison: &mut Comparison, random: &mut Random) -> Outcome {
+    let drawn = forge::config(random);
+    let config = Config {
+        sessions: drawn.sessions.max(2),
+        items: drawn.items.max(2),
+        ..drawn
+    };
+    let members = random.between(2, config.sessions.min(config.items));
+    forged_cycle(comparison, random, config, members)
+}
+
+/// Cycles of every length.
+fn texts_wide(comparison: &mut Comparison, random: &mut Random) -> Outcome {
+    let members = random.between(2, LARGEST.sessions);
+    let config = Config {
+        sessions: random.between(members, LARGEST.sessions),
+        items: random.between(members, LARGEST.items),
+        capacity: 1,
+    };
+    forged_cycle(comparison, random, config, members)
+}
+
+fn texts_largest(comparison: &mut Comparison, random: &mut Random) -> Outcome {
+    let config = Config {
+        capacity: 1,
+        ..LARGEST
+    };
+    forged_cycle(comparison, random, config, LARGEST.sessions)
+}
+
+/// A few steps, a report, a text and drains on well-formed buffers.
 fn some_steps(
     comparison: &mut Comparison,
     random: &mut Random,
@@ -434,7 +536,8 @@ fn some_steps(
             }
         }
     }
-    comparison.report(config.any_session(random), buffers)?;
+    let session = config.any_session(random);
+    read(comparison, random, session, buffers)?;
     comparison.drain(limit(random), buffers)?;
     Ok(())
 }
@@ -712,13 +815,13 @@ fn broken_forms(
             ));
         }
         comparison.coverage.broken(way.name);
-        comparison.report(session, &buffers)?;
+        read(comparison, random, session, &buffers)?;
     }
     Ok(())
 }
 
-/// One to three changes anywhere, then a step, a report and a drain, sometimes
-/// with numbers out of bounds too, so that causes meet each other.
+/// One to three changes anywhere, then a step, a report, a text and a drain,
+/// sometimes with numbers out of bounds too, so that causes meet each other.
 fn damaged(comparison: &mut Comparison, random: &mut Random) -> Outcome {
     let (config, mut buffers) = forged_buffers(random);
     let changes = if random.one_in(3) {
@@ -740,7 +843,7 @@ fn damaged(comparison: &mut Comparison, random: &mut Random) -> Outcome {
         verb = odd_number(random, verb, LAST_VERB);
     }
     comparison.step(verb, session, item, &mut buffers)?;
-    comparison.report(session, &buffers)?;
+    read(comparison, random, session, &buffers)?;
     comparison.drain(limit(random), &mut buffers)?;
     Ok(())
 }
@@ -810,7 +913,7 @@ fn other_bounds(comparison: &mut Comparison, random: &mut Random) -> Outcome {
     buffers.table[TABLE_ITEMS] += LESS_ITEMS as u8;
     let (_, session, item) = any_call(random, config);
     comparison.step(REQUEST, session, item, &mut buffers)?;
-    comparison.report(session, &buffers)?;
+    read(comparison, random, session, &buffers)?;
     comparison.drain(limit(random), &mut buffers)?;
     Ok(())
 }
@@ -826,8 +929,7 @@ fn numbers(comparison: &mut Comparison, random: &mut Random) -> Outcome {
     comparison.step(verb, odd_session, item, &mut buffers)?;
     comparison.step(verb, session, odd_item, &mut buffers)?;
     comparison.step(verb, odd_session, odd_item, &mut buffers)?;
-    comparison.report(odd_session, &buffers)?;
-    Ok(())
+    read(comparison, random, odd_session, &buffers)
 }
 
 /// Starts with right and wrong numbers and lengths, on bytes of any kind.
@@ -868,14 +970,14 @@ fn starts(comparison: &mut Comparison, random: &mut Random) -> Outcome {
         // The same numbers carried by the buffers.
         buffers.set_numbers(config);
         comparison.step(REQUEST, 1, 1, &mut buffers)?;
-        comparison.report(1, &buffers)?;
+        read(comparison, random, 1, &buffers)?;
         comparison.drain(limit(random), &mut buffers)?;
     }
     Ok(())
 }
 
 /// Every byte of small buffers in turn with every value: a step, a drain and,
-/// for the table, a report.
+/// for the table, a report and a text.
 pub fn every_value(comparison: &mut Comparison) -> Outcome {
     let mut random = Random::new(0);
     let config = Config::new(2, 2, 2);
@@ -914,8 +1016,8 @@ pub fn every_place(comparison: &mut Comparison) -> Outcome {
     Ok(())
 }
 
-/// A step, a drain and, for a byte of the table, a report, with one byte set,
-/// counted through the table and then the mail.
+/// A step, a drain and, for a byte of the table, a report and a text, with one
+/// byte set, counted through the table and then the mail.
 fn one_change(
     comparison: &mut Comparison,
     random: &mut Random,
@@ -931,7 +1033,7 @@ fn one_change(
     }
     let (verb, session, item) = any_call(random, config);
     if place < changed.table.len() {
-        comparison.report(session, &changed)?;
+        read(comparison, random, session, &changed)?;
     }
     comparison.step(verb, session, item, &mut changed)?;
     comparison.drain(random.between(0, 1), &mut changed)?;

@@ -1,4 +1,4 @@
-//! One call to the subject and to the model, on equal bytes: answers, both
+//! One call to the subject and to the model, on equal bytes: answers, all
 //! buffers and the bytes beside them are compared.
 
 use crate::calls::Calls;
@@ -9,7 +9,8 @@ use model::layout::{
     MAIL_CAPACITY, MAIL_COUNT, MAIL_HEADER, QUEUE, QUEUE_LENGTH, ROUTE_ITEM, ROUTE_SESSION,
     ROUTE_SIZE, TABLE_HEADER, TABLE_ITEMS, TABLE_SESSIONS,
 };
-use model::{Answer, Config, Cycle, Drained};
+use model::{Answer, Config, Cycle, Drained, Text};
+use std::fmt::Debug;
 
 /// The two buffers of a lock manager.
 #[derive(Clone, PartialEq, Eq, Debug, Default)]
@@ -158,6 +159,9 @@ pub struct Comparison {
     pub coverage: Coverage,
     table: Guarded,
     mail: Guarded,
+    text: Guarded,
+    /// The first byte of the last pattern in the buffer of a text.
+    pattern: u8,
     after: Buffers,
 }
 
@@ -168,6 +172,8 @@ impl Comparison {
             coverage: Coverage::new(),
             table: Guarded::default(),
             mail: Guarded::default(),
+            text: Guarded::default(),
+            pattern: 0,
             after: Buffers::default(),
         }
     }
@@ -179,17 +185,10 @@ impl Comparison {
         self.after.mail.clone_from(&buffers.mail);
     }
 
-    /// Fails unless the subject left what the model left.
-    fn same_bytes(&self, call: &str, before: &Buffers) -> Result<(), String> {
-        let table = self.table.differs(&self.after.table);
-        let mail = self.mail.differs(&self.after.mail);
-        let found = table
-            .map(|text| format!("table: {text}"))
-            .or(mail.map(|text| format!("mail: {text}")));
-        match found {
-            None => Ok(()),
-            Some(text) => Err(format!("{call} {}: {text}", sizes(before))),
-        }
+    /// Fails unless the subject left in both buffers what the model left.
+    fn same_buffers(&self, call: &str, before: &Buffers) -> Result<(), String> {
+        same_bytes(call, before, "table", &self.table, &self.after.table)?;
+        same_bytes(call, before, "mail", &self.mail, &self.after.mail)
     }
 
     pub fn start(&mut self, config: Config, buffers: &mut Buffers) -> Result<u8, String> {
@@ -199,11 +198,8 @@ impl Comparison {
         let after = &mut self.after;
         let expected = model::start(config, &mut after.table, &mut after.mail);
         let call = format!("start {config:?}");
-        if found != expected {
-            let sizes = sizes(buffers);
-            return Err(format!("{call} {sizes}: answers {found}, not {expected}"));
-        }
-        self.same_bytes(&call, buffers)?;
+        same_answer(&call, buffers, found, expected)?;
+        self.same_buffers(&call, buffers)?;
         self.coverage.start(config, buffers, expected);
         std::mem::swap(buffers, &mut self.after);
         Ok(expected)
@@ -222,13 +218,9 @@ impl Comparison {
             .step(verb, session, item, self.table.lent(), self.mail.lent());
         let after = &mut self.after;
         let expected = model::step(verb, session, item, &mut after.table, &mut after.mail);
-        if found != expected {
-            let sizes = sizes(buffers);
-            return Err(format!(
-                "step {verb} {session} {item} {sizes}: answers {found:?}, not {expected:?}"
-            ));
-        }
-        self.same_bytes(&format!("step {verb} {session} {item}"), buffers)?;
+        let call = format!("step {verb} {session} {item}");
+        same_answer(&call, buffers, found, expected)?;
+        self.same_buffers(&call, buffers)?;
         self.coverage.step([verb, session, item], buffers, expected);
         std::mem::swap(buffers, &mut self.after);
         Ok(expected)
@@ -238,15 +230,9 @@ impl Comparison {
         self.table.load(&buffers.table);
         let found = self.subject.report(session, self.table.lent());
         let expected = model::report(session, &buffers.table);
-        if found != expected {
-            let sizes = sizes(buffers);
-            return Err(format!(
-                "report {session} {sizes}: answers {found:?}, not {expected:?}"
-            ));
-        }
-        if let Some(text) = self.table.differs(&buffers.table) {
-            return Err(format!("report {session} {}: {text}", sizes(buffers)));
-        }
+        let call = format!("report {session}");
+        same_answer(&call, buffers, found, expected)?;
+        same_bytes(&call, buffers, "table", &self.table, &buffers.table)?;
         self.coverage.report(session, buffers, expected);
         Ok(expected)
     }
@@ -258,16 +244,66 @@ impl Comparison {
         let after = &mut self.after;
         let expected = model::drain(limit, &mut after.table, &mut after.mail);
         let call = format!("drain {limit}");
-        if found != expected {
-            let sizes = sizes(buffers);
-            return Err(format!(
-                "{call} {sizes}: answers {found:?}, not {expected:?}"
-            ));
-        }
-        self.same_bytes(&call, buffers)?;
+        same_answer(&call, buffers, found, expected)?;
+        self.same_buffers(&call, buffers)?;
         self.coverage.drain(limit, buffers, expected);
         std::mem::swap(buffers, &mut self.after);
         Ok(expected)
+    }
+
+    /// A text into a buffer of so many bytes. These hold a pattern, which is
+    /// another one at each call.
+    pub fn cycle_text(
+        &mut self,
+        session: u64,
+        room: usize,
+        buffers: &Buffers,
+    ) -> Result<Text, String> {
+        self.pattern = self.pattern.wrapping_add(1);
+        let byte = |place: usize| self.pattern.wrapping_add(place as u8);
+        let mut text: Vec<u8> = (0..room).map(byte).collect();
+        self.table.load(&buffers.table);
+        self.text.load(&text);
+        let found = self
+            .subject
+            .cycle_text(session, self.table.lent(), self.text.lent());
+        let expected = model::cycle_text(session, &buffers.table, &mut text);
+        let call = format!("cycle text {session} into {room} bytes");
+        same_answer(&call, buffers, found, expected)?;
+        same_bytes(&call, buffers, "text", &self.text, &text)?;
+        same_bytes(&call, buffers, "table", &self.table, &buffers.table)?;
+        self.coverage.cycle_text(session, buffers, expected, &text);
+        Ok(expected)
+    }
+}
+
+/// Fails unless the subject answered what the model answered.
+fn same_answer<A: PartialEq + Debug>(
+    call: &str,
+    before: &Buffers,
+    found: A,
+    expected: A,
+) -> Result<(), String> {
+    if found == expected {
+        return Ok(());
+    }
+    let sizes = sizes(before);
+    Err(format!(
+        "{call} {sizes}: answers {found:?}, not {expected:?}"
+    ))
+}
+
+/// Fails unless the subject left these bytes in one of its buffers.
+fn same_bytes(
+    call: &str,
+    before: &Buffers,
+    name: &str,
+    found: &Guarded,
+    expected: &[u8],
+) -> Result<(), String> {
+    match found.differs(expected) {
+        None => Ok(()),
+        Some(text) => Err(format!("{call} {}: {name}: {text}", sizes(before))),
     }
 }
 

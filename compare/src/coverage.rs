@@ -1,7 +1,7 @@
 //! What the compared calls have met: refusals, endings of drains, pairs of kind
 //! and stage, the branches of every rule, ways to break the form, sizes and
-//! numbers, searches of a full mail. A place that was never met makes the
-//! comparison worthless, so it fails then.
+//! numbers, searches of a full mail, texts of cycles. A place that was never met
+//! makes the comparison worthless, so it fails then.
 
 use crate::comparison::{held, queue, Buffers};
 use crate::numbers::{
@@ -9,10 +9,10 @@ use crate::numbers::{
     TO_SESSION, WAITING, WITHDRAWING,
 };
 use model::layout::{
-    AWAITED, BODY_A, BODY_B, DIRECTION, HOLDER, JUNIORS, KIND, MAX_SESSIONS, ROUTE_ITEM,
-    ROUTE_SESSION, ROUTE_SIZE, STAGE, TABLE_HEADER,
+    AWAITED, BODY_A, BODY_B, DIRECTION, HOLDER, JUNIORS, KIND, MAX_SESSIONS, MAX_TEXT, ROUTE_ITEM,
+    ROUTE_SESSION, ROUTE_SIZE, STAGE, TABLE_HEADER, TABLE_ITEMS, TABLE_SESSIONS,
 };
-use model::{Answer, Config, Cycle, Drained, Ending, Refusal, ACCEPTED};
+use model::{Answer, Config, Cycle, Drained, Ending, Refusal, Text, ACCEPTED};
 use std::collections::BTreeMap;
 use std::fmt::{self, Display, Formatter};
 
@@ -20,9 +20,9 @@ use std::fmt::{self, Display, Formatter};
 pub const AT_LEAST: u64 = 1_000;
 
 /// The calls and the refusals that each can give.
-const CALLS: [(&str, &[Refusal]); 4] = [
+const CALLS: [(&str, &[Refusal]); 5] = [
     ("start", &[Refusal::BadSize]),
-    ("step", &Refusal::ALL),
+    ("step", Refusal::ALL.split_at(Refusal::MailFull as usize).0),
     (
         "report",
         &[Refusal::BadSize, Refusal::BadTable, Refusal::BadNumber],
@@ -31,12 +31,23 @@ const CALLS: [(&str, &[Refusal]); 4] = [
         "drain",
         &[Refusal::BadSize, Refusal::BadTable, Refusal::BadMail],
     ),
+    (
+        "cycle text",
+        &[
+            Refusal::BadSize,
+            Refusal::BadTable,
+            Refusal::BadNumber,
+            Refusal::NoCycle,
+            Refusal::ShortBuffer,
+        ],
+    ),
 ];
 
 const START: usize = 0;
 const STEP: usize = 1;
 const REPORT: usize = 2;
 const DRAIN: usize = 3;
+const CYCLE_TEXT: usize = 4;
 
 /// Refusals and, first, an accepted call.
 const ANSWERS: usize = Refusal::ALL.len() + 1;
@@ -209,6 +220,48 @@ const DRAINS: &[&str] = &[
     "empty mail on a list from start, demand 3 checked",
 ];
 
+/// The members of a cycle are at least so many.
+const SHORTEST_CYCLE: usize = 2;
+
+/// One byte less than the longest text has.
+const ONE_LESS: usize = MAX_TEXT - 1;
+
+/// Lines of texts by the digits of session, item and holder.
+const LINES: [&str; 8] = [
+    "a line with 1, 1 and 1 digits",
+    "a line with 1, 1 and 2 digits",
+    "a line with 1, 2 and 1 digits",
+    "a line with 1, 2 and 2 digits",
+    "a line with 2, 1 and 1 digits",
+    "a line with 2, 1 and 2 digits",
+    "a line with 2, 2 and 1 digits",
+    "a line with 2, 2 and 2 digits",
+];
+
+/// Other texts.
+const TEXTS: &[&str] = &[
+    "asked about the most senior member",
+    "asked about another member",
+    "a member in the queue of a higher-numbered held item too",
+    "a member in the queue of a lower-numbered free item too",
+    "the longest text, in 3045 bytes",
+    "the longest text, in more",
+    "a shorter text in 3045 bytes",
+    "a shorter text in 3044 bytes",
+    "exact buffer",
+    "buffer one byte longer",
+    "buffer 1000 bytes longer or more",
+    "buffer of 65536 bytes or more",
+    "too short: 3044 bytes for the longest text",
+    "too short: one byte less",
+    "too short: length 0",
+    "too short: any other length",
+    "on no cycle: waits for none",
+    "on no cycle: waits lead to a session that waits for none",
+    "on no cycle: waits lead into a cycle",
+    "on no cycle: buffer of length 0",
+];
+
 /// Named counts, in the order of their list.
 struct Group {
     title: &'static str,
@@ -240,6 +293,9 @@ pub struct Coverage {
     situations: Group,
     searches: Group,
     drains: Group,
+    texts: Group,
+    /// Texts by the members of their cycle.
+    cycles: [u64; MAX_SESSIONS + 1],
     breaks: Group,
 }
 
@@ -261,6 +317,8 @@ impl Coverage {
                 &[SEARCHES_BY_PLACE.as_flattened(), OTHER_SEARCHES].concat(),
             ),
             drains: Group::new("Drains", DRAINS),
+            texts: Group::new("Texts of cycles", &[&LINES, TEXTS].concat()),
+            cycles: [0; MAX_SESSIONS + 1],
             breaks: Group::new("Ways to break the form", &breaks),
         }
     }
@@ -378,6 +436,91 @@ impl Coverage {
             if count == capacity {
                 drains.hit("64 sessions, 64 items, capacity 4096, mail full");
             }
+        }
+    }
+
+    /// The text is the whole buffer after the call.
+    pub(crate) fn cycle_text(
+        &mut self,
+        session: u64,
+        buffers: &Buffers,
+        answer: Text,
+        text: &[u8],
+    ) {
+        const NO_CYCLE: u8 = Refusal::NoCycle as u8;
+        const SHORT_BUFFER: u8 = Refusal::ShortBuffer as u8;
+        self.count(CYCLE_TEXT, answer.refusal, &[session], buffers);
+        let texts = &mut self.texts;
+        match (answer.refusal, text.len()) {
+            (ACCEPTED, _) => {
+                let (lines, rest) = text.split_at(answer.length.into());
+                self.written(session, buffers, lines, rest);
+            }
+            (NO_CYCLE, room) => {
+                texts.hit(on_no_cycle(buffers, session as u8));
+                if room == 0 {
+                    texts.hit("on no cycle: buffer of length 0");
+                }
+            }
+            (SHORT_BUFFER, 0) => texts.hit("too short: length 0"),
+            (SHORT_BUFFER, ONE_LESS) => texts.hit("too short: 3044 bytes for the longest text"),
+            (SHORT_BUFFER, room) => {
+                let whole = model::cycle_text(session, &buffers.table, &mut [0; MAX_TEXT]);
+                texts.hit(match usize::from(whole.length) - room {
+                    1 => "too short: one byte less",
+                    _ => "too short: any other length",
+                });
+            }
+            _ => {}
+        }
+    }
+
+    /// A text that was written, and the rest of its buffer.
+    fn written(&mut self, session: u64, buffers: &Buffers, text: &[u8], rest: &[u8]) {
+        let texts = &mut self.texts;
+        let (mut members, mut higher, mut lower) = (Vec::new(), false, false);
+        for line in String::from_utf8_lossy(text).lines() {
+            let numbers: Vec<usize> = line.split(' ').filter_map(|w| w.parse().ok()).collect();
+            let [member, item, _] = numbers[..] else {
+                panic!("a line of a text: {line}");
+            };
+            let two_digits = |place: usize, &number: &usize| 2 * place + usize::from(number > 9);
+            texts.hit(LINES[numbers.iter().fold(0, two_digits)]);
+            members.push(member);
+            let is_held = |other| buffers.item(other)[HOLDER] != 0;
+            let queues = || queues_of(buffers, member as u8);
+            higher |= queues().any(|other| other > item && is_held(other));
+            lower |= queues().any(|other| other < item);
+        }
+        self.cycles[members.len()] += 1;
+        texts.hit(if members[0] as u64 == session {
+            "asked about the most senior member"
+        } else {
+            "asked about another member"
+        });
+        if higher {
+            texts.hit("a member in the queue of a higher-numbered held item too");
+        }
+        if lower {
+            texts.hit("a member in the queue of a lower-numbered free item too");
+        }
+        // From the greatest length on nothing need be counted.
+        let room = text.len() + rest.len();
+        match (text.len() == MAX_TEXT, room) {
+            (true, MAX_TEXT) => texts.hit("the longest text, in 3045 bytes"),
+            (true, _) => texts.hit("the longest text, in more"),
+            (false, MAX_TEXT) => texts.hit("a shorter text in 3045 bytes"),
+            (false, ONE_LESS) => texts.hit("a shorter text in 3044 bytes"),
+            _ => {}
+        }
+        match rest.len() {
+            0 => texts.hit("exact buffer"),
+            1 => texts.hit("buffer one byte longer"),
+            1000.. => texts.hit("buffer 1000 bytes longer or more"),
+            _ => {}
+        }
+        if room >= 1 << 16 {
+            texts.hit("buffer of 65536 bytes or more");
         }
     }
 
@@ -642,6 +785,11 @@ impl Coverage {
                 missing.push(format!("drains that end with {ending:?}: {count} times"));
             }
         }
+        for (members, &count) in self.cycles.iter().enumerate().skip(SHORTEST_CYCLE) {
+            if count == 0 {
+                missing.push(format!("a text of a cycle of {members}"));
+            }
+        }
         for (row, (_, kind)) in KINDS.iter().enumerate() {
             for (column, stage) in STAGES.iter().enumerate() {
                 if self.pairs[row][column] == 0 {
@@ -659,7 +807,7 @@ impl Coverage {
         missing
     }
 
-    fn groups(&self) -> [&Group; 6] {
+    fn groups(&self) -> [&Group; 7] {
         [
             &self.items,
             &self.sessions,
@@ -667,8 +815,29 @@ impl Coverage {
             &self.situations,
             &self.searches,
             &self.drains,
+            &self.texts,
         ]
     }
+}
+
+/// The items of a well-formed table in whose queues a session stands.
+fn queues_of(buffers: &Buffers, session: u8) -> impl Iterator<Item = usize> + '_ {
+    let items = 1..=usize::from(buffers.table[TABLE_ITEMS]);
+    items.filter(move |&item| queue(buffers.item(item)).contains(&session))
+}
+
+/// Where the waits of a session that lies on no cycle lead: into a cycle if there
+/// are as many in a row as sessions.
+fn on_no_cycle(buffers: &Buffers, mut session: u8) -> &'static str {
+    for waits in 0..buffers.table[TABLE_SESSIONS] {
+        let mut holders = queues_of(buffers, session).map(|item| buffers.item(item)[HOLDER]);
+        match holders.find(|&holder| holder != 0) {
+            None if waits == 0 => return "on no cycle: waits for none",
+            None => return "on no cycle: waits lead to a session that waits for none",
+            Some(holder) => session = holder,
+        }
+    }
+    "on no cycle: waits lead into a cycle"
 }
 
 /// Buffers of accepted calls, with S, M and C as large as can be.
@@ -689,13 +858,13 @@ impl Display for Coverage {
             out,
             "Calls by refusal (0: accepted; -: not given by that call)"
         )?;
-        write!(out, "  {:8}", "")?;
+        write!(out, "  {:10}", "")?;
         for refusal in 0..ANSWERS {
             write!(out, "{refusal:>9}")?;
         }
         writeln!(out)?;
         for (row, (call, refusals)) in CALLS.iter().enumerate() {
-            write!(out, "  {call:8}")?;
+            write!(out, "  {call:10}")?;
             for (refusal, count) in self.refusals[row].iter().enumerate() {
                 if refusal == usize::from(ACCEPTED) || gives(refusals, refusal) {
                     write!(out, "{count:>9}")?;
@@ -726,6 +895,16 @@ impl Display for Coverage {
             write!(out, "  {kind:10}")?;
             for count in self.pairs[row] {
                 write!(out, "{count:>12}")?;
+            }
+            writeln!(out)?;
+        }
+
+        writeln!(out, "\nTexts by the members of their cycle")?;
+        for first in (SHORTEST_CYCLE..=MAX_SESSIONS).step_by(9) {
+            let last = first + 8;
+            write!(out, "  {:10}", format!("{first} to {last}"))?;
+            for count in &self.cycles[first..=last] {
+                write!(out, "{count:>9}")?;
             }
             writeln!(out)?;
         }

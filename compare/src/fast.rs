@@ -1,4 +1,4 @@
-//! The four calls written for speed, as a measure for the library: the form
+//! The five calls written for speed, as a measure for the library: the form
 //! is checked by loops without early exit that the compiler can vectorise, and
 //! the buffers are changed in place. Tested equal to the model.
 
@@ -13,7 +13,7 @@ use model::layout::{
     TABLE_ITEMS, TABLE_SESSIONS,
 };
 use model::mailbox::count;
-use model::{Answer, Config, Cycle, Drained, Ending, Refusal, Verb, ACCEPTED};
+use model::{Answer, Config, Cycle, Drained, Ending, Refusal, Text, Verb, ACCEPTED};
 
 type SessionBytes = [u8; SESSION_SIZE];
 type ItemBytes = [u8; ITEM_SIZE];
@@ -298,18 +298,25 @@ fn item_record(table: &[u8], size: Size, item: usize) -> &ItemBytes {
     table[item_at(size.sessions, item)].try_into().unwrap()
 }
 
-/// The length of the cycle on which a session lies, or 0.
-fn cycle_length(table: &[u8], size: Size, session: u8) -> u8 {
-    // Whom each session waits for; the lowest-numbered item is written last.
-    let mut waits_for = [0u8; MAX_SESSIONS + 1];
+/// For each session what is noted of its wait, given the item and the holder, or
+/// 0 where it waits for none. The lowest-numbered item is written last.
+#[inline(always)]
+fn waits(table: &[u8], size: Size, noted: impl Fn(usize, u8) -> u8) -> [u8; MAX_SESSIONS + 1] {
+    let mut waits = [0u8; MAX_SESSIONS + 1];
     for item in (1..=size.items).rev() {
         let record = item_record(table, size, item);
         if record[HOLDER] != 0 {
             for &waiting in &record[QUEUE][..usize::from(record[QUEUE_LENGTH])] {
-                waits_for[usize::from(waiting)] = record[HOLDER];
+                waits[usize::from(waiting)] = noted(item, record[HOLDER]);
             }
         }
     }
+    waits
+}
+
+/// The length of the cycle on which a session lies, or 0.
+fn cycle_length(table: &[u8], size: Size, session: u8) -> u8 {
+    let waits_for = waits(table, size, |_, holder| holder);
     let mut at = session;
     for length in 1..=size.sessions as u8 {
         at = waits_for[usize::from(at)];
@@ -346,23 +353,104 @@ pub fn start(config: Config, table: &mut [u8], mail: &mut [u8]) -> u8 {
     ACCEPTED
 }
 
-pub fn report(session: u64, table: &[u8]) -> Cycle {
-    let refused = |refusal: Refusal| Cycle {
-        refusal: refusal as u8,
-        length: 0,
-    };
-    let Some(size) = size(table) else {
-        return refused(Refusal::BadSize);
-    };
+/// The causes of a call that reads the table alone; the numbers that the table
+/// carries, and the session.
+fn judge_reading(session: u64, table: &[u8]) -> Result<(Size, u8), Refusal> {
+    let size = size(table).ok_or(Refusal::BadSize)?;
     if !table_well_formed(table, size) {
-        return refused(Refusal::BadTable);
+        return Err(Refusal::BadTable);
     }
-    let Some(session) = within(session, size.sessions) else {
-        return refused(Refusal::BadNumber);
-    };
-    Cycle {
-        refusal: ACCEPTED,
-        length: cycle_length(table, size, session as u8),
+    let session = within(session, size.sessions).ok_or(Refusal::BadNumber)?;
+    Ok((size, session as u8))
+}
+
+pub fn report(session: u64, table: &[u8]) -> Cycle {
+    match judge_reading(session, table) {
+        Ok((size, session)) => Cycle {
+            refusal: ACCEPTED,
+            length: cycle_length(table, size, session),
+        },
+        Err(refusal) => Cycle {
+            refusal: refusal as u8,
+            length: 0,
+        },
+    }
+}
+
+pub fn cycle_text(session: u64, table: &[u8], text: &mut [u8]) -> Text {
+    match try_cycle_text(session, table, text) {
+        Ok(length) => Text {
+            refusal: ACCEPTED,
+            length: length as u16,
+        },
+        Err(refusal) => Text {
+            refusal: refusal as u8,
+            length: 0,
+        },
+    }
+}
+
+/// The cycle is gone round twice: for its most senior session and the length of
+/// the text, then to write it.
+fn try_cycle_text(session: u64, table: &[u8], text: &mut [u8]) -> Result<usize, Refusal> {
+    let (size, session) = judge_reading(session, table)?;
+    let waits_at = waits(table, size, |item, _| item as u8);
+    let holder = |item: u8| item_record(table, size, item.into())[HOLDER];
+
+    let (mut at, mut first, mut length) = (session, session, 0);
+    for _ in 0..size.sessions {
+        let item = waits_at[usize::from(at)];
+        if item == 0 {
+            return Err(Refusal::NoCycle);
+        }
+        // A session's number stands in two lines: as the holder, and as it waits.
+        length += SESSION.len() + AT_ITEM.len() + HELD_BY.len() + 1;
+        length += 2 * digits(at) + digits(item);
+        first = first.min(at);
+        at = holder(item);
+        if at == session {
+            break;
+        }
+    }
+    if at != session {
+        return Err(Refusal::NoCycle);
+    }
+    let mut rest = text.get_mut(..length).ok_or(Refusal::ShortBuffer)?;
+    at = first;
+    while !rest.is_empty() {
+        let item = waits_at[usize::from(at)];
+        rest = put_number(put(rest, SESSION), at);
+        rest = put_number(put(rest, AT_ITEM), item);
+        at = holder(item);
+        rest = put_number(put(rest, HELD_BY), at);
+        rest = put(rest, b"\n");
+    }
+    Ok(length)
+}
+
+const SESSION: &[u8; 8] = b"session ";
+const AT_ITEM: &[u8; 16] = b" waits for item ";
+const HELD_BY: &[u8; 17] = b" held by session ";
+
+/// The digits of a number up to 99.
+fn digits(number: u8) -> usize {
+    1 + usize::from(number > 9)
+}
+
+/// Writes bytes; what is left behind them.
+fn put<'a, const N: usize>(text: &'a mut [u8], bytes: &[u8; N]) -> &'a mut [u8] {
+    let (place, rest) = text.split_at_mut(N);
+    place.copy_from_slice(bytes);
+    rest
+}
+
+/// Writes a number up to 99.
+fn put_number(text: &mut [u8], number: u8) -> &mut [u8] {
+    let ones = b'0' + number % 10;
+    if number > 9 {
+        put(text, &[b'0' + number / 10, ones])
+    } else {
+        put(text, &[ones])
     }
 }
 

@@ -1,7 +1,7 @@
 //! Buffers that no list of steps need reach: well-formed ones with any records
 //! and messages, and ones with the form broken.
 
-use crate::comparison::Buffers;
+use crate::comparison::{queue, Buffers};
 use crate::numbers::{
     kind, CLEANING, GROWING, ROLLED_BACK, SHRINKING, TO_ITEM, TO_SESSION, WAITING, WITHDRAWING,
 };
@@ -130,17 +130,60 @@ fn item_record(random: &mut Random, config: Config, record: &mut [u8]) {
 
 /// An item with this holder, or 0, for which so many others wait, in any order.
 pub fn set_item(random: &mut Random, config: Config, record: &mut [u8], holder: u8, length: usize) {
-    let mut others: Vec<u8> = (1..=config.sessions as u8)
-        .filter(|&session| session != holder)
-        .collect();
-    for k in 0..length {
-        let other = random.between(k as u64, others.len() as u64 - 1) as usize;
-        others.swap(k, other);
-    }
+    let others = (1..=config.sessions as u8).filter(|&session| session != holder);
     record.fill(0);
     record[HOLDER] = holder;
-    record[QUEUE_LENGTH] = length as u8;
-    record[QUEUE][..length].copy_from_slice(&others[..length]);
+    set_queue(record, &some_of(random, others.collect(), length));
+}
+
+fn set_queue(record: &mut [u8], queue: &[u8]) {
+    record[QUEUE_LENGTH] = queue.len() as u8;
+    record[QUEUE].fill(0);
+    record[QUEUE][..queue.len()].copy_from_slice(queue);
+}
+
+/// So many of these numbers, in any order.
+fn some_of(random: &mut Random, mut numbers: Vec<u8>, count: usize) -> Vec<u8> {
+    for k in 0..count {
+        let other = random.between(k as u64, numbers.len() as u64 - 1) as usize;
+        numbers.swap(k, other);
+    }
+    numbers.truncate(count);
+    numbers
+}
+
+/// Well-formed buffers in which so many sessions wait in a cycle; one of them.
+/// They may stand in other queues too: in those of items that nobody holds, and
+/// of higher-numbered ones than the one at which they wait.
+pub fn cycle(random: &mut Random, config: Config, members: usize) -> (Buffers, u8) {
+    let mut buffers = well_formed(random, config, 0);
+    let sessions = some_of(random, (1..=config.sessions as u8).collect(), members);
+    let items = some_of(random, (1..=config.items as u8).collect(), members);
+    let holders = sessions.iter().cycle().skip(1);
+    for (&item, &holder) in items.iter().zip(holders) {
+        let others = Filling::draw(random).of(random, config.sessions - 1) as usize;
+        set_item(
+            random,
+            config,
+            buffers.item_mut(item.into()),
+            holder,
+            others,
+        );
+    }
+    for (&session, &last) in sessions.iter().zip(&items) {
+        for item in 1..=last {
+            let record = buffers.item_mut(item.into());
+            let mut queue = queue(record).to_vec();
+            if item == last && !queue.contains(&session) {
+                queue.push(session);
+            }
+            if item < last && record[HOLDER] != 0 {
+                queue.retain(|&waiting| waiting != session);
+            }
+            set_queue(record, &queue);
+        }
+    }
+    (buffers, sessions[0])
 }
 
 const KINDS_TO_ITEM: [u8; 6] = [

@@ -3,7 +3,7 @@
 //! declarations of its calls are those of include/lockmgr.h.
 
 use crate::calls::Calls;
-use model::{Answer, Config, Cycle, Drained};
+use model::{Answer, Config, Cycle, Drained, Text};
 use std::ffi::{c_char, c_int, c_void, CStr, CString};
 use std::{mem, ptr};
 
@@ -27,6 +27,12 @@ struct LockmgrDrained {
     refusal: u8,
     made: u64,
     ending: u8,
+}
+
+#[repr(C)]
+struct LockmgrText {
+    refusal: u8,
+    length: u16,
 }
 
 extern "C" {
@@ -59,6 +65,14 @@ extern "C" {
         mail: *mut u8,
         mail_len: usize,
     ) -> LockmgrDrained;
+
+    fn lockmgr_cycle_text(
+        session: u64,
+        table: *const u8,
+        table_len: usize,
+        text: *mut u8,
+        text_len: usize,
+    ) -> LockmgrText;
 }
 
 // From the C library.
@@ -71,6 +85,7 @@ type Start = unsafe extern "C" fn(u64, u64, u64, *mut u8, usize, *mut u8, usize)
 type Step = unsafe extern "C" fn(u64, u64, u64, *mut u8, usize, *mut u8, usize) -> LockmgrAnswer;
 type Report = unsafe extern "C" fn(u64, *const u8, usize) -> LockmgrCycle;
 type Drain = unsafe extern "C" fn(u64, *mut u8, usize, *mut u8, usize) -> LockmgrDrained;
+type CycleText = unsafe extern "C" fn(u64, *const u8, usize, *mut u8, usize) -> LockmgrText;
 
 /// The functions of a library.
 pub struct Library {
@@ -78,6 +93,8 @@ pub struct Library {
     step: Step,
     report: Report,
     drain: Drain,
+    /// None in an earlier library, which has no such call.
+    cycle_text: Option<CycleText>,
 }
 
 /// Every name is looked up when the library is loaded. It stays the library's own,
@@ -91,13 +108,14 @@ impl Library {
         step: lockmgr_step,
         report: lockmgr_report,
         drain: lockmgr_drain,
+        cycle_text: Some(lockmgr_cycle_text),
     };
 
     /// A shared library, which is never unloaded.
     ///
     /// # Safety
     /// The path names a build of this library with the interface of
-    /// include/lockmgr.h.
+    /// include/lockmgr.h, or an earlier one.
     pub unsafe fn load(path: &str) -> Result<Library, String> {
         let c_path = CString::new(path).map_err(|_| format!("no path: {path}"))?;
         // SAFETY: the path ends in a zero. What loading runs is the caller's promise.
@@ -122,12 +140,29 @@ impl Library {
                 step: mem::transmute::<*mut c_void, Step>(find(c"lockmgr_step")?),
                 report: mem::transmute::<*mut c_void, Report>(find(c"lockmgr_report")?),
                 drain: mem::transmute::<*mut c_void, Drain>(find(c"lockmgr_drain")?),
+                cycle_text: find(c"lockmgr_cycle_text")
+                    .ok()
+                    .map(|function| mem::transmute::<*mut c_void, CycleText>(function)),
             })
         }
     }
+
+    pub fn has_cycle_text(&self) -> bool {
+        self.cycle_text.is_some()
+    }
 }
 
-/// The pointer that C passes for these bytes: null if there are none.
+/// The pointer that C passes for bytes that are only read: null if there are
+/// none.
+fn const_pointer(bytes: &[u8]) -> *const u8 {
+    if bytes.is_empty() {
+        ptr::null()
+    } else {
+        bytes.as_ptr()
+    }
+}
+
+/// The same for bytes that may be written.
 fn pointer(bytes: &mut [u8]) -> *mut u8 {
     if bytes.is_empty() {
         ptr::null_mut()
@@ -182,13 +217,8 @@ impl Calls for Library {
     }
 
     fn report(&self, session: u64, table: &[u8]) -> Cycle {
-        let pointer = if table.is_empty() {
-            ptr::null()
-        } else {
-            table.as_ptr()
-        };
         // SAFETY: the pointer is good for its length, and report only reads.
-        let cycle = unsafe { (self.report)(session, pointer, table.len()) };
+        let cycle = unsafe { (self.report)(session, const_pointer(table), table.len()) };
         Cycle {
             refusal: cycle.refusal,
             length: cycle.length,
@@ -210,6 +240,26 @@ impl Calls for Library {
             refusal: drained.refusal,
             made: drained.made,
             ending: drained.ending,
+        }
+    }
+
+    /// Not for an earlier library without this call.
+    fn cycle_text(&self, session: u64, table: &[u8], text: &mut [u8]) -> Text {
+        let cycle_text = self.cycle_text.expect("the library writes texts");
+        // SAFETY: each pointer is good for its length, the table is only read, and
+        // a `&mut` overlaps nothing.
+        let written = unsafe {
+            cycle_text(
+                session,
+                const_pointer(table),
+                table.len(),
+                pointer(text),
+                text.len(),
+            )
+        };
+        Text {
+            refusal: written.refusal,
+            length: written.length,
         }
     }
 }

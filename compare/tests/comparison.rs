@@ -10,7 +10,9 @@ use model::layout::{
     ROUTE_ITEM, ROUTE_SESSION, ROUTE_SIZE,
 };
 use model::mailbox::{count, kind};
-use model::{Answer, Config, Cycle, Drained, Misreading, Refusal, ACCEPTED};
+use model::table::Table;
+use model::waits::{cycle_waits, text_of};
+use model::{Answer, Config, Cycle, Drained, Misreading, Refusal, Text, ACCEPTED};
 
 #[test]
 fn fast_answers_like_the_model() {
@@ -72,6 +74,28 @@ enum Wrong {
     TraceOfDrain,
     /// A drain that has used all places again leaves the oldest body twice.
     TraceOfMove,
+    /// A text begins with the session asked about.
+    AskedFirst,
+    /// A text lacks its last line.
+    LastLine,
+    /// A text names the item behind the one at which a session waits.
+    NextItem,
+    /// A text names the first item in whose queue a session stands, held or not.
+    FirstItem,
+    /// A text names the last item in whose queue a session stands.
+    LastItem,
+    /// A text says that the holder waits and the waiting session holds.
+    Exchanged,
+    /// Only the lowest byte of a session number counts for a text.
+    NarrowMember,
+    /// Only the lower two bytes of a buffer's length count for a text.
+    NarrowRoom,
+    /// A text leaves a zero behind it.
+    TraceOfText,
+    /// A refused text leaves a trace in its buffer.
+    TraceOfRefusedText,
+    /// Without a buffer a session on no cycle is refused with 11.
+    ShortFirst,
 }
 
 impl Calls for Wrong {
@@ -154,6 +178,46 @@ impl Calls for Wrong {
         }
         drained
     }
+
+    fn cycle_text(&self, session: u64, table: &[u8], text: &mut [u8]) -> Text {
+        let session = if *self == Wrong::NarrowMember {
+            session & 255
+        } else {
+            session
+        };
+        let room = if *self == Wrong::NarrowRoom {
+            text.len() & 0xFFFF
+        } else {
+            text.len()
+        };
+        let refused = |refusal: Refusal| Text {
+            refusal: refusal as u8,
+            length: 0,
+        };
+        let answer = model::cycle_text(session, table, &mut text[..room].to_vec());
+        if answer.refusal != ACCEPTED {
+            match (self, text) {
+                (Wrong::TraceOfRefusedText, [first, ..]) => *first = 0,
+                (Wrong::ShortFirst, []) if answer == refused(Refusal::NoCycle) => {
+                    return refused(Refusal::ShortBuffer);
+                }
+                _ => {}
+            }
+            return answer;
+        }
+        let lines = self.lines(session as u8, table);
+        let Some((place, rest)) = text.split_at_mut_checked(lines.len()) else {
+            return refused(Refusal::ShortBuffer);
+        };
+        place.copy_from_slice(lines.as_bytes());
+        if let (Wrong::TraceOfText, [behind, ..]) = (self, rest) {
+            *behind = 0;
+        }
+        Text {
+            refusal: ACCEPTED,
+            length: lines.len() as u16,
+        }
+    }
 }
 
 impl Wrong {
@@ -205,6 +269,35 @@ impl Wrong {
         }
         Some(answer)
     }
+
+    /// The lines of a text for a member of a cycle.
+    fn lines(&self, session: u8, table: &[u8]) -> String {
+        let records = Table::decode(table).unwrap();
+        let mut waits = cycle_waits(&records, session);
+        match self {
+            Wrong::AskedFirst => {
+                let asked = waits.iter().position(|wait| wait.session == session);
+                waits.rotate_left(asked.unwrap());
+            }
+            Wrong::LastLine => {
+                waits.pop();
+            }
+            _ => {}
+        }
+        for wait in &mut waits {
+            let waiting = wait.session;
+            let stands = |&item: &u8| records.item(item).queue.contains(&waiting);
+            let mut items = (1..=records.items.len() as u8).filter(stands);
+            match self {
+                Wrong::NextItem => wait.item += 1,
+                Wrong::FirstItem => wait.item = items.next().unwrap(),
+                Wrong::LastItem => wait.item = items.next_back().unwrap(),
+                Wrong::Exchanged => std::mem::swap(&mut wait.session, &mut wait.holder),
+                _ => {}
+            }
+        }
+        text_of(&waits)
+    }
 }
 
 #[test]
@@ -227,6 +320,17 @@ fn every_wrong_byte_is_found() {
         Wrong::TraceOfRefusedDrain,
         Wrong::TraceOfDrain,
         Wrong::TraceOfMove,
+        Wrong::AskedFirst,
+        Wrong::LastLine,
+        Wrong::NextItem,
+        Wrong::FirstItem,
+        Wrong::LastItem,
+        Wrong::Exchanged,
+        Wrong::NarrowMember,
+        Wrong::NarrowRoom,
+        Wrong::TraceOfText,
+        Wrong::TraceOfRefusedText,
+        Wrong::ShortFirst,
     ] {
         let found = difference(wrong);
         println!("{wrong:?}: {found:?}");

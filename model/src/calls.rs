@@ -1,4 +1,4 @@
-//! The four calls on numbers and byte buffers.
+//! The five calls on numbers and byte buffers.
 
 use crate::config::Config;
 use crate::item::ToSessions;
@@ -7,7 +7,7 @@ use crate::mailbox::{count, route, Direction, Mailbox, Message, Route};
 use crate::misreading::Misreading;
 use crate::session::{Stage, ToItems};
 use crate::table::Table;
-use crate::waits::cycle_members;
+use crate::waits::{cycle_members, cycle_waits, text_of};
 use std::ops::Range;
 
 /// What a step answers.
@@ -53,6 +53,13 @@ impl Ending {
     pub const ALL: [Ending; 3] = [Ending::Empty, Ending::Full, Ending::Limit];
 }
 
+/// What the text of a cycle answers. F-4: "The answer is the length".
+#[derive(Clone, Copy, PartialEq, Eq, Debug, Default)]
+pub struct Text {
+    pub refusal: u8,
+    pub length: u16,
+}
+
 /// Why a call is refused (01: turned back), in the order of the causes.
 #[derive(Clone, Copy, PartialEq, Eq, Debug)]
 #[repr(u8)]
@@ -75,10 +82,14 @@ pub enum Refusal {
     NoMessage = 8,
     /// "count after the step would pass C"
     MailFull = 9,
+    /// F-4: "a session on no ring"
+    NoCycle = 10,
+    /// F-4: "a buffer too short for the whole text"
+    ShortBuffer = 11,
 }
 
 impl Refusal {
-    pub const ALL: [Refusal; 9] = [
+    pub const ALL: [Refusal; 11] = [
         Refusal::BadVerb,
         Refusal::BadSize,
         Refusal::BadTable,
@@ -88,6 +99,8 @@ impl Refusal {
         Refusal::WrongItem,
         Refusal::NoMessage,
         Refusal::MailFull,
+        Refusal::NoCycle,
+        Refusal::ShortBuffer,
     ];
 }
 
@@ -310,10 +323,44 @@ pub fn report(session: u64, table: &[u8]) -> Cycle {
 }
 
 fn try_report(session: u64, table: &[u8]) -> Result<u8, Refusal> {
+    let (records, session) = judge_reading(session, table)?;
+    Ok(cycle_members(&records, session).len() as u8)
+}
+
+/// The causes of a call that reads the table alone, 2, 3 and 5, in their order.
+fn judge_reading(session: u64, table: &[u8]) -> Result<(Table, u8), Refusal> {
     let (sessions, _) = Table::size(table).ok_or(Refusal::BadSize)?;
     let records = Table::decode(table).ok_or(Refusal::BadTable)?;
     let session = number(session, sessions)?;
-    Ok(cycle_members(&records, session).len() as u8)
+    Ok((records, session))
+}
+
+/// F-4: the text of the ring on which a session lies, written "into the caller's
+/// buffer"; "what follows it in the buffer is untouched".
+pub fn cycle_text(session: u64, table: &[u8], text: &mut [u8]) -> Text {
+    match try_cycle_text(session, table, text) {
+        Ok(length) => Text {
+            refusal: ACCEPTED,
+            length,
+        },
+        Err(refusal) => Text {
+            refusal: refusal as u8,
+            length: 0,
+        },
+    }
+}
+
+/// F-4: "Refusals 2, 3 and 5 come first, then 10 [..] and 11".
+fn try_cycle_text(session: u64, table: &[u8], text: &mut [u8]) -> Result<u16, Refusal> {
+    let (records, session) = judge_reading(session, table)?;
+    let waits = cycle_waits(&records, session);
+    if waits.is_empty() {
+        return Err(Refusal::NoCycle);
+    }
+    let lines = text_of(&waits);
+    let place = text.get_mut(..lines.len()).ok_or(Refusal::ShortBuffer)?;
+    place.copy_from_slice(lines.as_bytes());
+    Ok(lines.len() as u16)
 }
 
 /// F-2: "one call that delivers the oldest entry, again and again, until the

@@ -1,4 +1,4 @@
-//! Bounds, sizes and places of the two buffers, each named here once. Later
+//! Bounds, sizes and places of the buffers, each named here once. Later
 //! bytes are appended: to the ends of the records, and behind the items.
 //! "All multi-byte values are little-endian and unsigned".
 
@@ -10,6 +10,9 @@ pub const MAX_ITEMS: usize = 64;
 
 /// "C from 1 to 4,096".
 pub const MAX_CAPACITY: usize = 4096;
+
+/// The length of the longest text: that of a cycle of all sessions.
+pub const MAX_TEXT: usize = 3045;
 
 /// The table: "S, M, then the session records, then the item records".
 pub const TABLE_SESSIONS: usize = 0;

@@ -20,8 +20,8 @@ pub mod table;
 pub mod waits;
 
 pub use calls::{
-    drain, drain_as, report, start, step, step_as, Answer, Cycle, Drained, Ending, Refusal, Verb,
-    ACCEPTED,
+    cycle_text, drain, drain_as, report, start, step, step_as, Answer, Cycle, Drained, Ending,
+    Refusal, Text, Verb, ACCEPTED,
 };
 pub use config::Config;
 pub use misreading::Misreading;

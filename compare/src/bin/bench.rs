@@ -12,7 +12,7 @@ use compare::numbers::{
     TO_SESSION, WAITING,
 };
 use model::layout::{
-    route_at, AWAITED, HELD, HOLDER, JUNIORS, QUEUE, QUEUE_LENGTH, ROUTE_ITEM, STAGE,
+    route_at, AWAITED, HELD, HOLDER, JUNIORS, MAX_TEXT, QUEUE, QUEUE_LENGTH, ROUTE_ITEM, STAGE,
 };
 use model::scenario::Random;
 use model::{Config, Drained, ACCEPTED};
@@ -44,6 +44,8 @@ const STEPS: f64 = 0.2;
 enum Call {
     Step(u64, u64, u64),
     Report(u64),
+    /// The text is written over the bytes of the mail, which the call does not get.
+    CycleText(u64),
 }
 
 struct Row {
@@ -233,6 +235,25 @@ fn search_rows() -> Vec<Row> {
     rows
 }
 
+/// Texts of cycles, and none for a session that waits for none. Where the table is
+/// full, sessions 1 and 2 wait for each other, and session S for none.
+fn text_rows(config: Config) -> Vec<Row> {
+    let row = |name, session, contents| Row {
+        name,
+        call: Call::CycleText(session),
+        buffers: Buffers {
+            mail: vec![0; MAX_TEXT],
+            ..buffers(config, 0, contents)
+        },
+        floor_target: None,
+    };
+    vec![
+        row("cycle text, cycle of 2", 1, Table::Full),
+        row("cycle text, cycle of S", 1, Table::Cycle),
+        row("cycle text, no cycle", config.sessions, Table::Full),
+    ]
+}
+
 fn rows(config: Config, count: u64) -> Vec<Row> {
     let n = config.sessions;
     let full = count == config.capacity;
@@ -293,6 +314,11 @@ fn refusal(subject: &dyn Calls, call: Call, buffers: &mut Buffers) -> u8 {
             let cycle = subject.report(black_box(session), &buffers.table);
             black_box(cycle).refusal
         }
+        Call::CycleText(session) => {
+            let Buffers { table, mail: text } = buffers;
+            let written = subject.cycle_text(black_box(session), table, text);
+            black_box(written).refusal
+        }
     }
 }
 
@@ -317,7 +343,7 @@ fn floor(call: Call, buffers: &Buffers) -> u8 {
     let table = sum(black_box(&buffers.table));
     match call {
         Call::Step(..) => table ^ sum(black_box(&buffers.mail)),
-        Call::Report(_) => table,
+        Call::Report(_) | Call::CycleText(_) => table,
     }
 }
 
@@ -330,7 +356,8 @@ struct Libraries {
     before: Option<Library>,
 }
 
-/// Nanoseconds of one call by library, model, floor, fast and an earlier library.
+/// Nanoseconds of one call by library, model, floor, fast and an earlier library,
+/// if it has the call.
 fn measure_call(row: &Row, libraries: &Libraries) -> Vec<f64> {
     fn by<'a>(subject: &'a dyn Calls, call: Call) -> Subject<'a> {
         Box::new(move |copy| {
@@ -346,7 +373,11 @@ fn measure_call(row: &Row, libraries: &Libraries) -> Vec<f64> {
         }),
         by(&Fast, call),
     ];
-    let before = libraries.before.as_ref();
+    let has_call = |before: &&Library| match call {
+        Call::CycleText(_) => before.has_cycle_text(),
+        Call::Step(..) | Call::Report(_) => true,
+    };
+    let before = libraries.before.as_ref().filter(has_call);
     subjects.extend(before.map(|before| by(before, call)));
     measure(&row.buffers, TURNS, &subjects)
 }
@@ -576,6 +607,8 @@ fn bench(libraries: &Libraries) {
     println!("In a search half of the mail goes in one direction, and the message found is");
     println!("dropped; an absent one is refused with 8. One item: all messages are of it.");
     println!("Other direction: all are of the session and the item, in the other direction.");
+    println!("A cycle text is asked for in a full table, or in a cycle of all sessions; on no");
+    println!("cycle it is refused with 10.");
     if libraries.before.is_some() {
         println!("before: an earlier library.");
     }
@@ -592,6 +625,7 @@ fn bench(libraries: &Libraries) {
         for count in counts {
             print(count, rows(config, count), libraries, &mut missed);
         }
+        print(0, text_rows(config), libraries, &mut missed);
     }
     header(LONG_QUEUE, libraries);
     print(1, long_queue_rows(), libraries, &mut missed);
