@@ -117,16 +117,18 @@ static void print_answer(lockmgr_answer answer)
     printf("\n");
 }
 
-/* Text of several lines, indented. */
+/* Lines, indented. The last one may end with a line feed or not. */
 static void print_indented(const char *text)
 {
-    printf("      ");
+    char last = '\n';
     for (; *text; text++) {
-        putchar(*text);
-        if (*text == '\n')
+        if (last == '\n')
             printf("      ");
+        putchar(*text);
+        last = *text;
     }
-    printf("\n");
+    if (last != '\n')
+        printf("\n");
 }
 
 static int same(lockmgr_answer one, lockmgr_answer other)
@@ -213,6 +215,20 @@ static void drain(unsigned deliveries, const char *meaning)
             edit(session, lockmgr_awaited(before, session));
 }
 
+/* The cycle in words: what the owner of the edit that will be undone is told. */
+static void tell(unsigned victim, const char *expected)
+{
+    uint8_t bytes[LOCKMGR_MAX_TEXT];
+    char text[sizeof bytes + 1] = "";
+    lockmgr_text cycle = lockmgr_cycle_text(victim, table, sizeof table, bytes, sizeof bytes);
+    memcpy(text, bytes, cycle.length);
+    printf("\n      text of the cycle of session %u: %s, %u bytes\n", victim,
+           lockmgr_refusal_text(cycle.refusal), cycle.length);
+    print_indented(text);
+    expect("refusal of the text", cycle.refusal, LOCKMGR_ACCEPTED);
+    expect("difference of the text:", strcmp(text, expected) != 0, 0);
+}
+
 /* What the reports say, and where the sessions are. */
 static void look(unsigned cycle_length, unsigned stage_of_1, unsigned stage_of_2)
 {
@@ -251,6 +267,8 @@ int main(void)
 
     printf("\nThe probe finds it\n\n");
     PLAY(found);
+    tell(2, "session 1 waits for item 2 held by session 2\n"
+            "session 2 waits for item 1 held by session 1\n");
 
     printf("\nThe victim is rolled back\n\n");
     drain(10, "Session 2 learns that it is the victim. It sends a clean around the cycle,\n"

@@ -6,8 +6,8 @@
  * session there. Sessions and items talk only by messages, which stand in a
  * mailbox until you deliver them. When sessions come to wait for each other in
  * a cycle, probes find it: the most junior session of the cycle, the victim, is
- * rolled back and gives up everything that it holds. You call four functions
- * on numbers and two byte buffers. The library allocates nothing, keeps nothing
+ * rolled back and gives up everything that it holds. You call five functions
+ * on numbers and byte buffers. The library allocates nothing, keeps nothing
  * between calls, does no input or output and starts no threads.
  *
  * Its limits: 1 to 64 sessions, 1 to 64 items, 1 to 4096 messages. Locks are
@@ -29,7 +29,8 @@
  *      meant for the session.
  *   4. lockmgr_drain delivers, oldest first, until the mail is empty, in one
  *      call.
- *   5. lockmgr_report tells, at any time, whether a session lies on a cycle.
+ *   5. lockmgr_report tells, at any time, whether a session lies on a cycle, and
+ *      lockmgr_cycle_text writes in words who waits there for whom.
  *   6. There is no call to end it: drop the buffers, or start again on them.
  *
  * Sessions and items are numbered from 1. Session 1 is the most senior, the
@@ -59,21 +60,23 @@
  *
  * THE BUFFERS
  *
- * Both buffers are yours. A call borrows them until it returns and keeps no
- * pointer. What the library asks of you, because no code can check it:
+ * All buffers are yours: the table, the mail, and the one for the text of a
+ * cycle. A call borrows them until it returns and keeps no pointer. What the
+ * library asks of you, because no code can check it:
  *
  *   - a pointer with a length other than 0 points to that many bytes;
- *   - the two buffers do not overlap;
+ *   - the buffers of one call do not overlap;
  *   - one call at a time works on a buffer. Calls on different buffers may run
  *     at the same time in different threads.
  *
- * A null pointer is allowed with length 0, and is refused with
- * LOCKMGR_BAD_SIZE like every other wrong length; with another length it
- * crashes, as it does in any C library. Any contents are allowed: every call
+ * A null pointer is allowed with length 0. As table or mail it is refused with
+ * LOCKMGR_BAD_SIZE like every other wrong length; for a text it is a buffer of
+ * 0 bytes, which is too short. With another length it crashes, as it does in any
+ * C library. Any contents are allowed: every call
  * judges the bytes first and refuses those that are not well-formed. A refused
- * call leaves every byte as it was. The buffers need no alignment and hold no
- * pointers and no padding, so that you may copy them, store them in a file,
- * send them elsewhere and go on there (see VERSIONS).
+ * call leaves every byte as it was. The buffers need no alignment; table and
+ * mail hold no pointers and no padding, so that you may copy them, store them
+ * in a file, send them elsewhere and go on there (see VERSIONS).
  *
  * All numbers in calls are 64 bits wide, so that nothing you pass is cut off
  * before it is judged: 257 is not taken for 1.
@@ -193,13 +196,13 @@
  * Before 1.0 a new minor number may lengthen an argument list or an answer, or
  * change a rule: recompile. Callers that start with lockmgr_options keep
  * compiling. What is guaranteed is proved for a lock manager that one minor
- * version has served from its start on. For this 0.2 and 0.3 count as one,
- * since no rule changed between them.
+ * version has served from its start on. For this 0.2 to 0.4 count as one, since
+ * calls were added and no rule changed between them.
  *
  * LOCKMGR_LAYOUT_VERSION numbers the bytes of table and mail. The buffers do
  * not carry it. If you store or send them, store that number and
  * LOCKMGR_VERSION beside them, and go on only with a library of the same
- * layout, major and minor number, 0.2 and 0.3 again counting as one. There is
+ * layout, major and minor number, 0.2 to 0.4 again counting as one. There is
  * no conversion: let the sessions end under the old version and start anew
  * under the new one.
  * Buffers of another layout are no danger, since every call judges them, and
@@ -218,9 +221,9 @@ extern "C" {
 /* ---- Version ------------------------------------------------------------ */
 
 #define LOCKMGR_VERSION_MAJOR 0
-#define LOCKMGR_VERSION_MINOR 3
+#define LOCKMGR_VERSION_MINOR 4
 #define LOCKMGR_VERSION_PATCH 0
-#define LOCKMGR_VERSION "0.3.0"
+#define LOCKMGR_VERSION "0.4.0"
 
 /* One number that grows with the version. */
 #define LOCKMGR_VERSION_NUMBER \
@@ -234,6 +237,7 @@ extern "C" {
 #define LOCKMGR_MAX_SESSIONS 64   /* sessions: 1 to 64 */
 #define LOCKMGR_MAX_ITEMS 64      /* items: 1 to 64 */
 #define LOCKMGR_MAX_CAPACITY 4096 /* messages in the mailbox: 1 to 4096 */
+#define LOCKMGR_MAX_TEXT 3045     /* bytes of the text of a cycle, at most */
 
 /* Bytes of a table for so many sessions and items, of a mail for so many
  * messages. Constant expressions if the arguments are constants. */
@@ -344,8 +348,9 @@ enum lockmgr_verb {
  * that holds is answered. All other fields of a refused answer are 0, and the
  * buffers are as they were.
  *
- * lockmgr_start gives only 2; lockmgr_drain gives only 2, 3 and 4;
- * lockmgr_report gives only 2, 3 and 5; lockmgr_step gives any.
+ * lockmgr_start gives only 2; lockmgr_step gives 1 to 9; lockmgr_drain gives
+ * only 2, 3 and 4; lockmgr_report gives only 2, 3 and 5; lockmgr_cycle_text
+ * gives only 2, 3, 5, 10 and 11.
  */
 enum lockmgr_refusal {
     /* The call was accepted. */
@@ -355,14 +360,14 @@ enum lockmgr_refusal {
     /* Start: a number of sessions, items or messages is 0 or above its bound,
      * or a buffer has not the length that belongs to them.
      * Step, drain: the same of the numbers that the two buffers themselves
-     * carry. Report: the same of the table. */
+     * carry. Report, cycle text: the same of the table. */
     LOCKMGR_BAD_SIZE = 2,
-    /* Step, drain, report: the table is not well-formed. */
+    /* Step, drain, report, cycle text: the table is not well-formed. */
     LOCKMGR_BAD_TABLE = 3,
     /* Step, drain: the mail is not well-formed. */
     LOCKMGR_BAD_MAIL = 4,
     /* Step: the session or the item is 0 or above the number that there are.
-     * Report: the same of the session. */
+     * Report, cycle text: the same of the session. */
     LOCKMGR_BAD_NUMBER = 5,
     /* Step: a request by a session that is not growing, or a release by one
      * that is neither growing nor shrinking. */
@@ -374,7 +379,11 @@ enum lockmgr_refusal {
     LOCKMGR_NO_MESSAGE = 8,
     /* Step: the messages that it sends do not fit into the mail. A message
      * that is delivered makes room for one. */
-    LOCKMGR_MAIL_FULL = 9
+    LOCKMGR_MAIL_FULL = 9,
+    /* Cycle text: the session lies on no cycle. */
+    LOCKMGR_NO_CYCLE = 10,
+    /* Cycle text: the buffer is shorter than the text. */
+    LOCKMGR_SHORT_BUFFER = 11
 };
 
 /* Stages of a session; see above. */
@@ -459,6 +468,12 @@ typedef struct {
     uint8_t length;  /* how many sessions the cycle has on which the session
                       * lies; 0 if it lies on none */
 } lockmgr_cycle;
+
+/* The answer of a cycle text. */
+typedef struct {
+    uint8_t refusal; /* enum lockmgr_refusal; 0 if the text was written */
+    uint16_t length; /* how many bytes the text has; 0 if it was refused */
+} lockmgr_text;
 
 /* ---- Calls ------------------------------------------------------------- */
 
@@ -553,10 +568,45 @@ lockmgr_drained lockmgr_drain(uint64_t limit,
  */
 lockmgr_cycle lockmgr_report(uint64_t session, const uint8_t *table, size_t table_len);
 
+/*
+ * Writes the cycle on which the session lies in words, at the start of the
+ * buffer: a line for each member, from the most senior on and once round, with
+ * the item at which it waits and the holder of that item, as in lockmgr_report.
+ *
+ *   session 1 waits for item 2 held by session 2
+ *   session 2 waits for item 1 held by session 1
+ *
+ * Each line ends with a line feed, the last one too. No zero byte follows, and
+ * bytes behind the text stay as they were. It is the same text whichever member
+ * is asked about, and no two cycles have the same: each three numbers in it are
+ * a member, its item and the holder.
+ *
+ * Nothing is written if the text does not fit as a whole. It has
+ * LOCKMGR_MAX_TEXT bytes at most, with 64 sessions on the cycle. All this is
+ * proved.
+ *
+ * When to ask: right after a step that declared a deadlock. On a lock manager
+ * that was started, answer.victim and answer.initiator then lie on one cycle,
+ * which is proved too; the deliveries that follow dissolve it. Who only drains
+ * cannot ask in between.
+ *
+ *   uint8_t text[LOCKMGR_MAX_TEXT];
+ *   if (answer.victim != 0) {
+ *       lockmgr_text cycle = lockmgr_cycle_text(answer.victim, table, sizeof table,
+ *                                               text, sizeof text);
+ *       fwrite(text, 1, cycle.length, stdout);
+ *   }
+ */
+/* clang-format off */
+lockmgr_text lockmgr_cycle_text(uint64_t session,
+                                const uint8_t *table, size_t table_len,
+                                uint8_t *text, size_t text_len);
+/* clang-format on */
+
 /* ---- Helpers ------------------------------------------------------------ */
 
 /*
- * What follows is written in this header, on top of the four calls or beside
+ * What follows is written in this header, on top of the five calls or beside
  * them. It is tested but no part of the proved library.
  */
 
@@ -580,8 +630,8 @@ static inline const char *lockmgr_text_(const char *const *texts, size_t count, 
 static inline const char *lockmgr_refusal_text(uint64_t refusal)
 {
     static const char *const texts[] = {
-        "accepted",   "bad verb",    "bad size",   "bad table",  "bad mail",
-        "bad number", "wrong stage", "wrong item", "no message", "mail full",
+        "accepted",    "bad verb",   "bad size",   "bad table", "bad mail", "bad number",
+        "wrong stage", "wrong item", "no message", "mail full", "no cycle", "short buffer",
     };
     return lockmgr_text_(texts, sizeof texts / sizeof texts[0], refusal);
 }

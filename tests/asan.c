@@ -222,6 +222,47 @@ static void drains(uint64_t limit, manager m, unsigned refusal, uint64_t made, u
     CHECK(drained.refusal == refusal && drained.made == made && drained.ending == ending);
 }
 
+/* The text of a cycle of so many sessions into a buffer of so many bytes must
+ * answer this refusal; the length that it answers. */
+static size_t text_into(size_t room, uint64_t session, buffer table, unsigned members,
+                        unsigned refusal)
+{
+    buffer text = new_buffer(room), before = resized(text, room);
+    lockmgr_text answer =
+        lockmgr_cycle_text(session, table.bytes, table.length, text.bytes, text.length);
+    unsigned lines = 0;
+    calls++;
+    accepted += answer.refusal == LOCKMGR_ACCEPTED;
+    CHECK(answer.refusal == refusal);
+    CHECK(answer.length <= room && answer.length <= LOCKMGR_MAX_TEXT);
+    for (size_t k = 0; k < answer.length; k++) {
+        lines += text.bytes[k] == '\n';
+        before.bytes[k] = text.bytes[k];
+    }
+    CHECK(lines == (refusal == LOCKMGR_ACCEPTED ? members : 0));
+    CHECK(equal(text, before));
+    drop(text);
+    drop(before);
+    return answer.length;
+}
+
+/* Texts into several buffers; what the report answered tells what they must. */
+static void texts(uint64_t session, buffer table, lockmgr_cycle cycle)
+{
+    unsigned off_cycle = cycle.refusal ? cycle.refusal : LOCKMGR_NO_CYCLE;
+    if (cycle.length == 0) {
+        text_into(0, session, table, 0, off_cycle);
+        text_into(LOCKMGR_MAX_TEXT, session, table, 0, off_cycle);
+        return;
+    }
+    size_t length =
+        text_into(LOCKMGR_MAX_TEXT + 100, session, table, cycle.length, LOCKMGR_ACCEPTED);
+    text_into(length, session, table, cycle.length, LOCKMGR_ACCEPTED);
+    text_into(length - 1, session, table, cycle.length, LOCKMGR_SHORT_BUFFER);
+    text_into(0, session, table, cycle.length, LOCKMGR_SHORT_BUFFER);
+}
+
+/* A report, and texts beside it. */
 static lockmgr_cycle report(uint64_t session, buffer table)
 {
     buffer before = resized(table, table.length);
@@ -232,6 +273,7 @@ static lockmgr_cycle report(uint64_t session, buffer table)
           cycle.refusal == LOCKMGR_BAD_TABLE || cycle.refusal == LOCKMGR_BAD_NUMBER);
     CHECK(cycle.length <= LOCKMGR_MAX_SESSIONS);
     CHECK(cycle.refusal == LOCKMGR_ACCEPTED || cycle.length == 0);
+    texts(session, table, cycle);
     CHECK(equal(table, before));
     drop(before);
     return cycle;
@@ -461,6 +503,11 @@ static void test_null(void)
     drains(UINT64_MAX, no_mail, LOCKMGR_BAD_SIZE, 0, 0);
     drains(0, nothing, LOCKMGR_BAD_SIZE, 0, 0);
     CHECK(report(1, none).refusal == LOCKMGR_BAD_SIZE);
+    /* No buffer for the text of session 1, which lies on no cycle, and no table. */
+    lockmgr_text text = lockmgr_cycle_text(1, m.table.bytes, m.table.length, NULL, 0);
+    CHECK(text.refusal == LOCKMGR_NO_CYCLE && text.length == 0);
+    text = lockmgr_cycle_text(1, NULL, 0, NULL, 0);
+    CHECK(text.refusal == LOCKMGR_BAD_SIZE && text.length == 0);
     drop_both(m);
 }
 
@@ -647,6 +694,25 @@ static void test_forged(config c)
     }
 }
 
+/* The longest text: each of 64 sessions waits for the next, the last for the
+ * first. */
+static void test_longest_text(void)
+{
+    config c = {LOCKMGR_MAX_SESSIONS, LOCKMGR_MAX_ITEMS, 1};
+    manager m = fresh(c);
+    for (unsigned k = 1; k <= LOCKMGR_MAX_SESSIONS; k++) {
+        uint8_t *item = m.table.bytes + LOCKMGR_ITEM_PLACE(c.sessions, k);
+        item[LOCKMGR_ITEM_HOLDER] = (uint8_t)(k % LOCKMGR_MAX_SESSIONS + 1);
+        item[LOCKMGR_ITEM_QUEUE_LENGTH] = 1;
+        item[LOCKMGR_ITEM_QUEUE] = (uint8_t)k;
+    }
+    for (unsigned k = 1; k <= LOCKMGR_MAX_SESSIONS; k++)
+        CHECK(report(k, m.table).length == LOCKMGR_MAX_SESSIONS);
+    CHECK(text_into(LOCKMGR_MAX_TEXT, 1, m.table, LOCKMGR_MAX_SESSIONS, LOCKMGR_ACCEPTED) ==
+          LOCKMGR_MAX_TEXT);
+    drop_both(m);
+}
+
 int main(void)
 {
     static const char *const names[] = {
@@ -660,6 +726,7 @@ int main(void)
         test_null();
         test_full();
         test_circling();
+        test_longest_text();
         for (size_t k = 0; k < LENGTH(sizes); k++) {
             test_start(sizes[k].config);
             test_runs(sizes[k].config, sizes[k].steps);

@@ -56,6 +56,7 @@ static void test_version(void)
     CHECK(LOCKMGR_MAIL_SIZE(7) == 4 + 6 * 7);
     CHECK(LOCKMGR_ROUTE_PLACE(2) == 4 + 3 * 2);
     CHECK(LOCKMGR_BODY_PLACE(7, 2) == 4 + 3 * (7 + 2));
+    CHECK(LOCKMGR_MAX_TEXT == 3045);
     CHECK(LOCKMGR_CAPACITY(64, 64) == 449 && LOCKMGR_CAPACITY(S, M) == C);
 }
 
@@ -76,7 +77,7 @@ static void check_texts(const char *text(uint64_t number), unsigned first, unsig
 
 static void test_texts(void)
 {
-    check_texts(lockmgr_refusal_text, LOCKMGR_ACCEPTED, LOCKMGR_MAIL_FULL);
+    check_texts(lockmgr_refusal_text, LOCKMGR_ACCEPTED, LOCKMGR_SHORT_BUFFER);
     check_texts(lockmgr_verb_text, LOCKMGR_REQUEST, LOCKMGR_DELIVER_TO_SESSION);
     check_texts(lockmgr_stage_text, LOCKMGR_GROWING, LOCKMGR_ROLLED_BACK);
     check_texts(lockmgr_kind_text, LOCKMGR_MSG_REQUEST, LOCKMGR_MSG_WITHDRAWN);
