@@ -21,4 +21,5 @@ pub record Texts : Type 0 where
   pub differ : (table other : List ℕ) (t u : ℕ) → cycle table t ≢ cycle other u → text table t ≢ text other u
   -- a cycle has one text, whichever member is asked about
   pub one-text : (table : List ℕ) → Formed table → (t k : ℕ) → 1 ≤ t → cycleLength table t ≢ 0 → text table (reached (waitsFor table) k t) ≡ text table t
+  -- no text is longer than that
   pub fits : (table : List ℕ) → Formed table → (t : ℕ) → 1 ≤ t → length (text table t) ≤ longest
