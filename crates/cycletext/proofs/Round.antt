@@ -23,6 +23,7 @@ use Rattle.waits.specs.OnTable.{waitsFor, cycleLength, wait, leader}
 use Rattle.waits.proofs.Laws.{graph}
 use Rattle.waits.proofs.Leaders.{around-length, around-at, leader-member}
 use Rattle.waits.proofs.Members.{member-positive, member-inside, member-length}
+use Rattle.waits.proofs.Reached.{positive-on-cycle}
 use Rattle.step.specs.Refusal
 use Rattle.step.specs.Refusal.{first}
 use Rattle.cycletext.specs.Text.{line, lines}
@@ -74,8 +75,7 @@ module _ (t : List ℕ) (me : ℕ) where
 
 module _ {t at : List ℕ} {me n : ℕ} (o : OnCycle t at me n) where
   lies-on-cycle : onCycle (waitsFor t) (sessionsOf t) me ≡ true
-  unfolding onCycle
-  lies-on-cycle = rw (← o .long, ne-eqb n 0 (λ z. omega (arith, o .some))) refl
+  lies-on-cycle = positive-on-cycle (waitsFor t) (sessionsOf t) me (omega (arith, o .long, o .some))
 
   -- what the code asks of a session whose wait it reads
   pub readable : (k : ℕ) {s : ℕ} → s ≡ ahead t me k → WithPlaces t at × (1 ≤ s) × (s ≤ maxSessions)
