@@ -71,12 +71,12 @@
  *
  * A null pointer is allowed with length 0. As table or mail it is refused with
  * LOCKMGR_BAD_SIZE like every other wrong length; for a text it is a buffer of
- * 0 bytes, which is too short. With another length it crashes, as it does in any
- * C library. Any contents are allowed: every call
- * judges the bytes first and refuses those that are not well-formed. A refused
- * call leaves every byte as it was. The buffers need no alignment; table and
- * mail hold no pointers and no padding, so that you may copy them, store them
- * in a file, send them elsewhere and go on there (see VERSIONS).
+ * 0 bytes, which is too short. With another length it crashes, as it does in
+ * any C library. Any contents are allowed: every call judges the bytes first
+ * and refuses those that are not well-formed. A refused call leaves every byte
+ * as it was. The buffers need no alignment; table and mail hold no pointers and
+ * no padding, so that you may copy them, store them in a file, send them
+ * elsewhere and go on there (see VERSIONS).
  *
  * All numbers in calls are 64 bits wide, so that nothing you pass is cut off
  * before it is judged: 257 is not taken for 1.

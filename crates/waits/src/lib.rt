@@ -8,7 +8,7 @@ ghost use Rattle.waits.specs.Walk.{walkFromSession, walkFromItem};
 ghost use Rattle.waits.specs.OnTable.{locks, cycleLength, wait};
 ghost use Rattle.waits.specs.Places.{places, placesAmong, WithPlaces};
 
-// A session, the item at which it waits and the holder of that item. Both are 0 where it waits for none.
+// A session, the item at which it waits and the holder of that item. Item and holder are 0 where it waits for none.
 pub struct Wait {
     pub session: u8,
     pub item: u8,
