@@ -25,7 +25,7 @@ use Rattle.waits.specs.OnTable.{locks}
 use Rattle.step.specs.Step as Step
 use Rattle.step.specs.Step.{Stepped, stepped, refusedAnswer, hindered, delivered, sessionActs, overfull, plan, acted, committed, stageForbids, maskForbids, nothingToDeliver}
 use Rattle.lockmgr.specs.Calls.{judged, step}
-use Rattle.step.proofs.Causes.{unmet}
+use Rattle.refusal.proofs.Causes.{unmet}
 use Rattle.lockmgr.proofs.Judging.{judged-zero}
 use Rattle.step.proofs.Acting.{by-verb, request-plan, release-plan}
 use Rattle.deadlock.specs.Machine

@@ -24,8 +24,8 @@ use Rattle.waits.proofs.Laws.{graph}
 use Rattle.waits.proofs.Leaders.{around-length, around-at, leader-member}
 use Rattle.waits.proofs.Members.{member-positive, member-inside, member-length}
 use Rattle.waits.proofs.Reached.{positive-on-cycle}
-use Rattle.step.specs.Refusal
-use Rattle.step.specs.Refusal.{first}
+use Rattle.refusal.specs.Refusal
+use Rattle.refusal.specs.Refusal.{first}
 use Rattle.cycletext.specs.Text.{line, lines}
 use Rattle.cycletext.specs.OnTable.{text, textCauses}
 use Rattle.cycletext.specs.Parts.{OnCycle, waitsFrom}

@@ -6,8 +6,8 @@ use lib.Dec.{eqb, ltb}
 use lib.ListN.{length}
 use Rattle.buffer.specs.Bytes.{splice}
 use Rattle.waits.specs.OnTable.{cycleLength, cycle}
-use Rattle.step.specs.Refusal
-use Rattle.step.specs.Refusal.{Cause, cause}
+use Rattle.refusal.specs.Refusal
+use Rattle.refusal.specs.Refusal.{Cause, cause}
 use Rattle.cycletext.specs.declared.Text.{Text}
 use Rattle.cycletext.specs.Text.{lines}
 

@@ -1,7 +1,6 @@
 // The text of a cycle of waits (02: the ring in words): a line for each member, from the most senior on.
 use message::MAX_SESSIONS;
 use session::Session;
-use step::Answer;
 use waits::Wait;
 ghost use mathlib.Core.Path.{_≡_};
 ghost use Prim.Native.Nat.{_≤_};
@@ -9,7 +8,7 @@ ghost use lib.ListN.{length};
 ghost use Rattle.buffer.specs.Bytes.{splice};
 ghost use Rattle.table.specs.Layout.{sessionsOf, Formed};
 ghost use Rattle.waits.specs.OnTable.{leader};
-ghost use Rattle.step.specs.Refusal.{first};
+ghost use Rattle.refusal.specs.Refusal.{first};
 ghost use Rattle.cycletext.specs.Text.{line, lines};
 ghost use Rattle.cycletext.specs.OnTable.{text, textCauses, described, textAnswer, unlessRefused};
 ghost use Rattle.cycletext.specs.Parts.{longestLine, OnCycle, waitsFrom};
@@ -118,12 +117,12 @@ pub fn describe(me: u8, t: &[u8], out: &mut [u8]) -> Text
     let at = waits::places(t);
     let n = waits::cycle_length_at(t, &at, me);
     if n == 0 {
-        return Text::refused(Answer::NO_CYCLE);
+        return Text::refused(refusal::NO_CYCLE);
     }
     let from = leader(t, &at, me, n);
     if out.len() < LONGEST {
         if out.len() < lines_length(t, &at, from, n) {
-            return Text::refused(Answer::SHORT_BUFFER);
+            return Text::refused(refusal::SHORT_BUFFER);
         }
     }
     let length = put_lines(out, t, &at, from, n);

@@ -27,8 +27,8 @@ use Rattle.mailbox.proofs.Laws as MailLaws
 use Rattle.mailbox.proofs.EntryLaws.{EntryFacts, entry-facts}
 use Rattle.table.specs.Layout as Table
 use Rattle.waits.specs.OnTable.{locks}
-use Rattle.step.specs.Refusal
-use Rattle.step.specs.Refusal.{first}
+use Rattle.refusal.specs.Refusal
+use Rattle.refusal.specs.Refusal.{first}
 use Rattle.step.specs.Step as Step
 use Rattle.step.specs.Step.{Plan, Formed, delivered, sessionActs, sessionPlan, itemPlan, plan, stepCauses, overfull, stepped, refusedAnswer}
 use Rattle.step.specs.Parts.{Judged, concluded}

@@ -7,7 +7,7 @@ use mathlib.Core.List.{List}
 use lib.Dec.{leb}
 use lib.ListN.{length, drop}
 use Rattle.mailbox.specs.Layout.{capacityOf, countOf, entriesOf, mailBytes, Kept}
-use Rattle.step.specs.Refusal.{mailFull}
+use Rattle.refusal.specs.Refusal.{mailFull}
 use Rattle.step.specs.Step.{Stepped, Formed}
 use Rattle.drain.specs.declared.Delivery.{Delivery}
 

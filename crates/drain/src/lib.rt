@@ -1,5 +1,4 @@
 // One delivery of a drain, on buffers that were judged. Entries that the drain has delivered, spent ones, stand at the front of the mailbox until they go out all at once.
-use step::Answer;
 ghost use mathlib.Core.Path.{_≡_};
 ghost use mathlib.Core.Bool.{true};
 ghost use Prim.Native.Nat.{_+_, _≤_};
@@ -33,7 +32,7 @@ fn room_refusal(mail: &[u8], k: usize, n: usize) -> u8
     if mailbox::count(mail) - k + n <= mailbox::capacity(mail) {
         return 0;
     }
-    Answer::MAIL_FULL
+    refusal::MAIL_FULL
 }
 
 // Makes places for n entries more: the first k, which are spent, go out where the free places are too few. How many are spent after.

@@ -17,7 +17,7 @@ use Rattle.mailbox.specs.Layout as Mail
 use Rattle.table.specs.Layout as Table
 use Rattle.waits.specs.Waits
 use Rattle.waits.specs.OnTable.{locks}
-use Rattle.step.specs.Refusal
+use Rattle.refusal.specs.Refusal
 use Rattle.step.specs.Step as Step
 use Rattle.lockmgr.specs.Calls
 use Rattle.lockmgr.specs.Run

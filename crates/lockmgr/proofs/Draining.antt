@@ -11,8 +11,7 @@ use borrow.Author.Tests.{eq-eqb, ne-eqb, eqb-true, eqb-false, ltb-true, ltb-fals
 use Rattle.lists.proofs.Tests.{by-test, by-answer, and-both, and-intro, cond-same}
 use Rattle.mailbox.specs.Entry.{Entry, toItem}
 use Rattle.mailbox.specs.Layout.{countOf, entryAt}
-use Rattle.step.specs.Refusal
-use Rattle.step.specs.Refusal.{first}
+use Rattle.refusal.specs.Refusal
 use Rattle.step.specs.Step.{Stepped, Formed, stepped, refusedAnswer}
 use Rattle.drain.specs.Oldest.{verbOf, oldestActed}
 use Rattle.drain.specs.Parts.{Outcome, outcome, outcomeOf}

@@ -13,11 +13,11 @@ use Rattle.message.specs.Limits.{maxSessions, maxItems}
 use Rattle.mailbox.specs.Layout as Mail
 use Rattle.table.specs.Layout as Table
 use Rattle.table.proofs.Laws as TableLaws
-use Rattle.step.specs.Refusal
-use Rattle.step.specs.Refusal.{Cause, cause, first}
+use Rattle.refusal.specs.Refusal
+use Rattle.refusal.specs.Refusal.{Cause, cause, first}
 use Rattle.step.specs.Step.{acted, stepped, refusedAnswer, Formed}
 use Rattle.step.specs.Parts.{Judged}
-use Rattle.step.proofs.Causes.{first-stops, first-goes-on, unmet-not, one-cause}
+use Rattle.refusal.proofs.Causes.{first-stops, first-goes-on, unmet-not, one-cause}
 use Rattle.cycletext.specs.OnTable.{text, textCauses, textAnswer, described, unlessRefused}
 use Rattle.lockmgr.specs.Calls.{Config, bufferCauses, judged, startRefusal, step, reportCauses, reportRefusal, cycleText}
 

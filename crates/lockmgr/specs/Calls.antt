@@ -10,8 +10,8 @@ use Rattle.message.specs.Limits.{maxSessions, maxItems}
 use Rattle.mailbox.specs.Layout as Mail
 use Rattle.table.specs.Layout as Table
 use Rattle.waits.specs.OnTable.{cycleLength}
-use Rattle.step.specs.Refusal
-use Rattle.step.specs.Refusal.{Cause, cause, first}
+use Rattle.refusal.specs.Refusal
+use Rattle.refusal.specs.Refusal.{Cause, cause, first}
 use Rattle.step.specs.Step.{Stepped, request, deliverToSession, unless, acted}
 use Rattle.cycletext.specs.OnTable.{Described, text, textCauses, unlessRefused}
 use Rattle.lockmgr.specs.declared.Cycle.{Cycle}

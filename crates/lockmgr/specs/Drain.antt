@@ -6,8 +6,8 @@ use lib.Dec.{eqb}
 use lib.ListN.{length}
 use Rattle.mailbox.specs.Entry.{Entry}
 use Rattle.mailbox.specs.Layout as Mail
-use Rattle.step.specs.Refusal
-use Rattle.step.specs.Refusal.{first}
+use Rattle.refusal.specs.Refusal
+use Rattle.refusal.specs.Refusal.{first}
 use Rattle.drain.specs.Oldest.{verbOf}
 use Rattle.lockmgr.specs.declared.Drained.{Drained}
 use Rattle.lockmgr.specs.Calls.{bufferCauses}

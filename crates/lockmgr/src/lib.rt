@@ -2,7 +2,7 @@
 use message::MAX_ITEMS;
 use message::MAX_SESSIONS;
 ghost use mathlib.Core.Path.{_≡_};
-ghost use Rattle.step.specs.Refusal.{first};
+ghost use Rattle.refusal.specs.Refusal.{first};
 ghost use Rattle.step.specs.Step.{stepped, Formed};
 ghost use Rattle.drain.specs.Parts.{pending, Spent};
 ghost use Rattle.cycletext.specs.OnTable.{described};
@@ -25,28 +25,28 @@ fn start_refusal(sessions: u64, items: u64, capacity: u64, table: &[u8], mail: &
     ensures { λ r. ⌜ r ≡ startRefusal (config sessions items capacity) (now (table .entry)) (now (mail .entry)) ⌝ }
 {
     if sessions < 1 {
-        return Answer::BAD_SIZE;
+        return refusal::BAD_SIZE;
     }
     if (MAX_SESSIONS as u64) < sessions {
-        return Answer::BAD_SIZE;
+        return refusal::BAD_SIZE;
     }
     if items < 1 {
-        return Answer::BAD_SIZE;
+        return refusal::BAD_SIZE;
     }
     if (MAX_ITEMS as u64) < items {
-        return Answer::BAD_SIZE;
+        return refusal::BAD_SIZE;
     }
     if capacity < 1 {
-        return Answer::BAD_SIZE;
+        return refusal::BAD_SIZE;
     }
     if (mailbox::MAX_CAPACITY as u64) < capacity {
-        return Answer::BAD_SIZE;
+        return refusal::BAD_SIZE;
     }
     if table.len() != table::size(sessions as u8, items as u8) {
-        return Answer::BAD_SIZE;
+        return refusal::BAD_SIZE;
     }
     if mail.len() != mailbox::size(capacity as usize) {
-        return Answer::BAD_SIZE;
+        return refusal::BAD_SIZE;
     }
     0
 }
@@ -76,16 +76,16 @@ fn buffers_refusal(table: &[u8], mail: &[u8]) -> u8
     ensures { λ r. ⌜ r ≡ first (bufferCauses (now (table .entry)) (now (mail .entry))) ⌝ }
 {
     if !table::sized(table) {
-        return Answer::BAD_SIZE;
+        return refusal::BAD_SIZE;
     }
     if !mailbox::sized(mail) {
-        return Answer::BAD_SIZE;
+        return refusal::BAD_SIZE;
     }
     if !table::well_formed(table) {
-        return Answer::BAD_TABLE;
+        return refusal::BAD_TABLE;
     }
     if !mailbox::well_formed(mail, table::sessions(table), table::items(table)) {
-        return Answer::BAD_MAIL;
+        return refusal::BAD_MAIL;
     }
     0
 }
@@ -95,26 +95,26 @@ fn judge(verb: u64, session: u64, item: u64, table: &[u8], mail: &[u8]) -> u8
     ensures { λ r. ⌜ r ≡ judged verb session item (now (table .entry)) (now (mail .entry)) ⌝ }
 {
     if verb < step::REQUEST {
-        return Answer::BAD_VERB;
+        return refusal::BAD_VERB;
     }
     if step::DELIVER_TO_SESSION < verb {
-        return Answer::BAD_VERB;
+        return refusal::BAD_VERB;
     }
     let cause = buffers_refusal(table, mail);
     if cause != 0 {
         return cause;
     }
     if session < 1 {
-        return Answer::BAD_NUMBER;
+        return refusal::BAD_NUMBER;
     }
     if (table::sessions(table) as u64) < session {
-        return Answer::BAD_NUMBER;
+        return refusal::BAD_NUMBER;
     }
     if item < 1 {
-        return Answer::BAD_NUMBER;
+        return refusal::BAD_NUMBER;
     }
     if (table::items(table) as u64) < item {
-        return Answer::BAD_NUMBER;
+        return refusal::BAD_NUMBER;
     }
     0
 }
@@ -142,16 +142,16 @@ fn report_refusal(session: u64, table: &[u8]) -> u8
     ensures { λ r. ⌜ r ≡ reportRefusal session (now (table .entry)) ⌝ }
 {
     if !table::sized(table) {
-        return Answer::BAD_SIZE;
+        return refusal::BAD_SIZE;
     }
     if !table::well_formed(table) {
-        return Answer::BAD_TABLE;
+        return refusal::BAD_TABLE;
     }
     if session < 1 {
-        return Answer::BAD_NUMBER;
+        return refusal::BAD_NUMBER;
     }
     if (table::sessions(table) as u64) < session {
-        return Answer::BAD_NUMBER;
+        return refusal::BAD_NUMBER;
     }
     0
 }

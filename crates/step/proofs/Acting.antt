@@ -30,12 +30,12 @@ use Rattle.mailbox.proofs.EntryLaws.{entry-facts}
 use Rattle.table.specs.Layout as Table
 use Rattle.table.proofs.Laws as TableLaws
 use Rattle.waits.specs.OnTable.{locks}
-use Rattle.step.specs.Refusal
-use Rattle.step.specs.Refusal.{cause, first}
+use Rattle.refusal.specs.Refusal
+use Rattle.refusal.specs.Refusal.{cause, first}
 use Rattle.step.specs.Step as Step
 use Rattle.step.specs.Step.{Stepped, delivered, sessionActs, sessionPlan, itemPlan, plan, stepCauses, hindered, overfull, acted, stepped, refusedAnswer, unless, committed, nothingToDeliver}
 use Rattle.step.specs.Parts.{Judged, Fitting, fitting, roomMade, concluded}
-use Rattle.step.proofs.Causes.{first-stops, first-goes-on, unmet}
+use Rattle.refusal.proofs.Causes.{first-stops, first-goes-on, unmet}
 
 -- what a step that was judged knows of its buffers
 module _ (t x : ℕ) (table mail : List ℕ) (j : Judged t x table mail) where

@@ -29,11 +29,11 @@ use Rattle.table.proofs.Laws as TableLaws
 use Rattle.waits.specs.OnTable.{locks}
 use Rattle.wellformed.proofs.Sessions.{SessionKept, session-kept, request-kept, release-kept}
 use Rattle.wellformed.proofs.Items.{ItemKept, item-kept, unpacked-lock, packed-lock}
-use Rattle.step.specs.Refusal.{first}
+use Rattle.refusal.specs.Refusal.{first}
 use Rattle.step.specs.Step as Step
 use Rattle.step.specs.Step.{Plan, Stepped, Formed, delivered, sessionActs, sessionPlan, itemPlan, plan, stepCauses, overfull, acted, stepped, refusedAnswer, committed}
 use Rattle.step.specs.Parts.{Judged, concluded}
-use Rattle.step.proofs.Causes.{unmet}
+use Rattle.refusal.proofs.Causes.{unmet}
 use Rattle.step.proofs.Acting.{by-verb, delivers, acted-refused, acted-concluded}
 
 -- what is planned on a well-formed table and well-formed entries is so again

@@ -1,3 +1,2 @@
-pub mod Causes
 pub mod Acting
 pub mod Form

@@ -8,7 +8,7 @@ use lib.ListN.{length}
 use Rattle.mailbox.specs.Entry.{Entry}
 use Rattle.mailbox.specs.Layout as Mail
 use Rattle.table.specs.Layout as Table
-use Rattle.step.specs.Refusal
+use Rattle.refusal.specs.Refusal
 use Rattle.step.specs.Step.{Plan, Stepped, Formed, request, release, delivered, overfull, stepped, refusedAnswer, committed}
 
 -- a step was judged: both buffers are well-formed, and its session and item are there

@@ -22,8 +22,8 @@ use Rattle.mailbox.specs.Layout as Mail
 use Rattle.table.specs.Layout as Table
 use Rattle.waits.specs.OnTable.{locks, cycleLength}
 use Rattle.step.specs.declared.Answer.{Answer}
-use Rattle.step.specs.Refusal
-use Rattle.step.specs.Refusal.{Cause, cause, first}
+use Rattle.refusal.specs.Refusal
+use Rattle.refusal.specs.Refusal.{Cause, cause, first}
 
 -- both buffers are well-formed (01: in form)
 pub record Formed (table mail : List ℕ) : Type 0 where

@@ -17,7 +17,7 @@ ghost use Rattle.mailbox.specs.Entry.{unused};
 ghost use Rattle.mailbox.specs.Layout.{capacityOf, entriesOf, mailBytes, Kept};
 ghost use Rattle.table.specs.Layout.{HasSession, HasItem, Formed, sessionsOf, wellFormed, session, withItem};
 ghost use Rattle.waits.specs.OnTable.{cycleLength};
-ghost use Rattle.step.specs.Refusal.{first};
+ghost use Rattle.refusal.specs.Refusal.{first};
 ghost use Rattle.step.specs.Step.{refusedAnswer, acceptedAnswer, delivered, sessionActs, stageForbids, maskForbids, stepCauses, sessionPlan, itemPlan, stepped, answered, acted};
 ghost use Rattle.step.specs.Parts.{Judged, Acting, fitting, roomMade, concluded};
 
@@ -32,29 +32,6 @@ pub struct Answer {
 }
 
 impl Answer {
-    // The causes for which a call is refused.
-    pub const BAD_VERB: u8 = 1;
-
-    pub const BAD_SIZE: u8 = 2;
-
-    pub const BAD_TABLE: u8 = 3;
-
-    pub const BAD_MAIL: u8 = 4;
-
-    pub const BAD_NUMBER: u8 = 5;
-
-    pub const WRONG_STAGE: u8 = 6;
-
-    pub const WRONG_ITEM: u8 = 7;
-
-    pub const NO_MESSAGE: u8 = 8;
-
-    pub const MAIL_FULL: u8 = 9;
-
-    pub const NO_CYCLE: u8 = 10;
-
-    pub const SHORT_BUFFER: u8 = 11;
-
     pub fn refused(refusal: u8) -> Answer
         ensures { λ r. ⌜ r ≡ refusedAnswer refusal ⌝ }
     {
@@ -137,9 +114,9 @@ fn step_refusal(verb: u64, t: u8, x: u8, k: usize, table: &[u8], mail: &[u8]) ->
     let none = (verb >= DELIVER_TO_ITEM)
         & (verb <= DELIVER_TO_SESSION)
         & (k == mailbox::count(mail));
-    let route = cause(none, Answer::NO_MESSAGE, 0);
-    let mask = cause(masked, Answer::WRONG_ITEM, route);
-    cause(staged, Answer::WRONG_STAGE, mask)
+    let route = cause(none, refusal::NO_MESSAGE, 0);
+    let mask = cause(masked, refusal::WRONG_ITEM, route);
+    cause(staged, refusal::WRONG_STAGE, mask)
 }
 
 // What session t does in a step.
@@ -197,7 +174,7 @@ fn commit_session(t: u8, k: usize, r: SessionStep, table: &mut [u8], mail: &mut 
     let session = r.session;
     let sent = outbox.n;
     if !make_room(mail, k, sent) {
-        return Answer::refused(Answer::MAIL_FULL);
+        return Answer::refused(refusal::MAIL_FULL);
     }
     mailbox::post(mail, mailbox::TO_ITEM, t, outbox);
     table::put_session(table, t, session);
@@ -215,7 +192,7 @@ fn commit_item(t: u8, x: u8, k: usize, r: ItemStep, table: &mut [u8], mail: &mut
     let event = r.event;
     let sent = outbox.n;
     if !make_room(mail, k, sent) {
-        return Answer::refused(Answer::MAIL_FULL);
+        return Answer::refused(refusal::MAIL_FULL);
     }
     mailbox::post(mail, mailbox::TO_SESSION, x, outbox);
     table::put_item(table, x, item);

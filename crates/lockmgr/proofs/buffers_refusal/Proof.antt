@@ -5,7 +5,7 @@ use Rattle.lists.proofs.Tests.{admits, refuses}
 use Rattle.mailbox.specs.Layout as Mail
 use Rattle.table.specs.Layout as Table
 use Rattle.table.proofs.Laws as TableLaws
-use Rattle.step.specs.Refusal.{first}
+use Rattle.refusal.specs.Refusal.{first}
 use borrow.Author.Needs.{needs}
 use Rattle.lockmgr.proofs.buffers_refusal.Statement.{statement}
 use Rattle.lockmgr.proofs.buffers_refusal.Tie as tie

@@ -5,7 +5,7 @@ use Prim.Native.Nat.{_≤_}
 use lib.ListN.{length}
 use Rattle.table.specs.Layout.{header}
 use Rattle.table.proofs.Laws as TableLaws
-use Rattle.step.specs.Refusal.{first}
+use Rattle.refusal.specs.Refusal.{first}
 use Rattle.lockmgr.specs.Calls.{bufferCauses}
 use Rattle.lockmgr.proofs.Judging.{buffers-zero, judged-verb, judged-buffers, judged-number, judged-none}
 use borrow.Author.Needs.{needs}

@@ -15,7 +15,7 @@ use Rattle.mailbox.specs.Layout.{Kept, countOf, entriesOf}
 use Rattle.mailbox.proofs.Laws.{getD-entries}
 use Rattle.table.specs.Layout as Table
 use Rattle.waits.specs.OnTable.{locks}
-use Rattle.step.specs.Refusal.{first}
+use Rattle.refusal.specs.Refusal.{first}
 use Rattle.step.specs.Step.{stepCauses, delivered, sessionActs}
 use Rattle.step.proofs.Acting.{mail-kept, item-packed, juniors-whole, acts-few, acted-refused, acted-concluded, delivers, item-acts, session-acts}
 use Rattle.step.proofs.Form.{plan-keeps}

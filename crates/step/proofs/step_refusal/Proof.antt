@@ -1,7 +1,7 @@
 -- The tests of the code are the causes in their order.
 use mathlib.Core.Path.{refl}
 use Rattle.mailbox.proofs.Laws.{length-entries}
-use Rattle.step.specs.Refusal.{first}
+use Rattle.refusal.specs.Refusal.{first}
 use Rattle.step.proofs.Acting.{item-max, mail-head}
 use borrow.Author.Needs.{needs}
 use Rattle.step.proofs.step_refusal.Statement.{statement}

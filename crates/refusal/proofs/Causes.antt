@@ -8,7 +8,7 @@ use lib.Dec.{eqb}
 use borrow.Author.Tests.{eqb-false, not-true, not-false}
 use Rattle.lists.specs.Lists.{all}
 use Rattle.lists.proofs.Tests.{and-both}
-use Rattle.step.specs.Refusal.{Cause, cause, first}
+use Rattle.refusal.specs.Refusal.{Cause, cause, first}
 
 -- a cause has a number other than 0
 abbrev pub numbered : Cause → Bool
