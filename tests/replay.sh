@@ -3,48 +3,24 @@
 # with a failing exit for everything that is wrong.
 set -euo pipefail
 cd "$(dirname "${BASH_SOURCE[0]}")/.."
-folder=$(mktemp -d)
-trap 'rm -rf "$folder"' EXIT
-failures=0
-
-fault() {
-    echo "FAILED: $1"
-    failures=$((failures + 1))
-}
-
-# refuses TEXT COMMAND..: the command fails, with one line that has the text.
-refuses() {
-    local text=$1
-    shift
-    if "$@" > "$folder/out" 2> "$folder/err"; then
-        fault "accepted: $*"
-    elif [ "$(wc -l < "$folder/err")" != 1 ] || ! grep -qF -- "$text" "$folder/err"; then
-        fault "$* says: $(cat "$folder/err")"
-    fi
-}
-
-# steps TEXT..: a file with these lines.
-steps() {
-    printf '%s\n' "$@" > "$folder/steps"
-    echo "$folder/steps"
-}
+. tests/lists.sh
 
 input=scripts/replay-input
 refuses "No such file" $input "$folder/missing"
 refuses "Is a directory" $input "$folder"
 refuses "more than one file" $input a b
-refuses "no line with the numbers" $input "$(steps '# nothing')"
-refuses "line 1: expected the numbers" $input "$(steps '2')"
-refuses "line 2: number of sessions 0 is not 1 to 64" $input "$(steps '#' '0 1')"
-refuses "line 1: number of sessions 65" $input "$(steps '65 1')"
-refuses "line 1: number of items 65" $input "$(steps '1 65')"
-refuses "line 1: number of items 99999999999999999999" $input "$(steps '1 99999999999999999999')"
-refuses "line 3: expected a verb, a session and an item" $input "$(steps '2 2' '1 1 1' '1 1')"
-refuses "line 2: no verb is called 'ask'" $input "$(steps '2 2' 'ask 1 1')"
-refuses "line 2: verb 256 is not 0 to 255" $input "$(steps '2 2' '256 1 1')"
-refuses "line 2: session 256" $input "$(steps '2 2' '1 256 1')"
-refuses "line 2: item '-1' is no number" $input "$(steps '2 2' '1 1 -1')"
-refuses "line 2: item 'x' is no number" $input "$(steps '2 2' '1 1 x')"
+refuses "no line with the numbers" $input "$(list '# nothing')"
+refuses "line 1: expected the numbers" $input "$(list '2')"
+refuses "line 2: number of sessions 0 is not 1 to 64" $input "$(list '#' '0 1')"
+refuses "line 1: number of sessions 65" $input "$(list '65 1')"
+refuses "line 1: number of items 65" $input "$(list '1 65')"
+refuses "line 1: number of items 99999999999999999999" $input "$(list '1 99999999999999999999')"
+refuses "line 3: expected a verb, a session and an item" $input "$(list '2 2' '1 1 1' '1 1')"
+refuses "line 2: no verb is called 'ask'" $input "$(list '2 2' 'ask 1 1')"
+refuses "line 2: verb 256 is not 0 to 255" $input "$(list '2 2' '256 1 1')"
+refuses "line 2: session 256" $input "$(list '2 2' '1 256 1')"
+refuses "line 2: item '-1' is no number" $input "$(list '2 2' '1 1 -1')"
+refuses "line 2: item 'x' is no number" $input "$(list '2 2' '1 1 x')"
 { echo '2 2'; seq 4096 | sed 's/.*/9 0 255/'; } > "$folder/longest"
 $input "$folder/longest" > "$folder/in" || fault "4096 steps are refused"
 build/bin/replay < "$folder/in" > "$folder/out"
@@ -106,5 +82,4 @@ refuses "ends before step 22" $trace "$folder/in" "$folder/out2"
 echo bad > "$folder/out2"
 refuses "the library answers otherwise" $trace "$folder/in" "$folder/out2"
 
-[ $failures = 0 ] || exit 1
-echo "lists of steps: no fault"
+verdict "lists of steps"

@@ -9,3 +9,4 @@ pub mod fast;
 pub mod forge;
 pub mod library;
 pub mod numbers;
+pub mod program;

@@ -3,6 +3,7 @@
 //! differ or if something was not reached. `replays PROGRAM bench` times the
 //! longest input instead.
 
+use compare::program::Program;
 use model::layout::{MAX_CAPACITY, MAX_ITEMS, MAX_SESSIONS};
 use model::mailbox::{count, Direction, Mailbox};
 use model::replay::{CAPACITY, MAX_STEPS};
@@ -10,10 +11,7 @@ use model::scenario::Random;
 use model::session::Stage;
 use model::table::Table;
 use model::{Config, Refusal, Verb, ACCEPTED};
-use std::env;
-use std::io::Write;
-use std::process::{Command, ExitCode, Stdio};
-use std::time::{Duration, Instant};
+use std::process::ExitCode;
 
 const RUNS: u64 = 520;
 
@@ -162,45 +160,9 @@ impl Recorder {
     }
 }
 
-/// What the program writes to standard output.
-fn output(program: &str, input: &[u8]) -> std::io::Result<Vec<u8>> {
-    let mut child = Command::new(program)
-        .stdin(Stdio::piped())
-        .stdout(Stdio::piped())
-        .spawn()?;
-    let mut stdin = child.stdin.take().expect("a pipe");
-    let bytes = input.to_vec();
-    // The program may stop reading early: then writing fails, as it should.
-    let writer = std::thread::spawn(move || drop(stdin.write_all(&bytes)));
-    let written = child.wait_with_output()?.stdout;
-    writer.join().expect("the writer ends");
-    Ok(written)
-}
-
-/// The median time of some runs.
-fn median(mut run: impl FnMut()) -> Duration {
-    let mut times: Vec<Duration> = (0..15)
-        .map(|_| {
-            let begin = Instant::now();
-            run();
-            begin.elapsed()
-        })
-        .collect();
-    times.sort();
-    times[times.len() / 2]
-}
-
-/// The longest run at the greatest numbers: the program, started anew each time, and
-/// the model in this process.
-fn bench(program: &str, input: &[u8]) {
-    let ours = median(|| drop(output(program, input).expect("the program runs")));
-    let model = median(|| drop(model::replay(input)));
-    println!("replay of {MAX_STEPS} steps, {MAX_SESSIONS} sessions, {MAX_ITEMS} items: {ours:.1?} (model {model:.1?})");
-}
-
 fn main() -> ExitCode {
-    let Some(program) = env::args().nth(1) else {
-        eprintln!("usage: replays PROGRAM");
+    let Some(program) = Program::from_arguments() else {
+        eprintln!("usage: replays PROGRAM [bench]");
         return ExitCode::from(2);
     };
     let mut random = Random::new(2026);
@@ -255,23 +217,22 @@ fn main() -> ExitCode {
     over.resize(over.len() + 3 * (MAX_STEPS + 1), 0);
     inputs.push(over);
 
-    if env::args().nth(2).is_some_and(|word| word == "bench") {
-        bench(&program, &inputs[0]);
+    if program.bench {
+        let name =
+            format!("replay of {MAX_STEPS} steps, {MAX_SESSIONS} sessions, {MAX_ITEMS} items");
+        program.time(&name, &inputs[0], model::replay);
         return ExitCode::SUCCESS;
     }
 
-    let (mut bad, mut slowest) = (0, Duration::ZERO);
-    for (number, input) in inputs.iter().enumerate() {
-        let begin = Instant::now();
-        let written = output(&program, input).expect("the program runs");
-        slowest = slowest.max(begin.elapsed());
-        let expected = model::replay(input);
-        bad += u64::from(expected == b"bad\n");
-        if written != expected {
-            println!("FAILED: input {number} of {} bytes", input.len());
+    let expected: Vec<Vec<u8>> = inputs.iter().map(|input| model::replay(input)).collect();
+    let bad = expected.iter().filter(|text| *text == b"bad\n").count();
+    let slowest = match program.compare(&inputs, &expected) {
+        Ok(slowest) => slowest,
+        Err(reason) => {
+            println!("FAILED: {reason}");
             return ExitCode::FAILURE;
         }
-    }
+    };
     println!(
         "{} inputs, {runs} of them runs from the start: every byte agrees",
         inputs.len()

@@ -13,7 +13,7 @@ use lib.Seq.{take-suc}
 use Rattle.lists.proofs.Tests.{cond-agrees}
 use Rattle.buffer.specs.Bytes.{splice}
 use Rattle.buffer.proofs.Laws.{set-splice, length-splice, splice-splice}
-use Rattle.text.specs.Text.{digit, space, lineFeed, digits, decimal, spaced, rest}
+use Rattle.text.specs.Text.{digit, space, lineFeed, digits, decimal, spaced, rest, line}
 
 -- a run of bytes written, then a second right behind it
 pub splice-then : {x y : List ℕ} {r : ℕ} (t : List ℕ) (at : ℕ) (a b : List ℕ)
@@ -143,3 +143,7 @@ spaced-none = zero-le
 pub spaced-longer : (k n : ℕ) (l : List ℕ) (m : ℕ) → n < 10 ^ suc k → length (spaced l) ≤ m → length (spaced (n ∷ l)) ≤ 2 + k + m
 unfolding spaced
 spaced-longer k n l m h f = omega (arith, length-append (decimal n) (spaced l), length-decimal k n h)
+
+-- a line whose first number has at most suc k digits
+pub line-short : (k n : ℕ) (l : List ℕ) (m : ℕ) → n < 10 ^ suc k → length (spaced l) ≤ m → length (line n l) ≤ 2 + k + m
+line-short k n l m h f = omega (arith, length-append (decimal n) (rest l), length-decimal k n h, length-rest l)

@@ -38,3 +38,7 @@ spaced (n ∷ l) = space ∷ (decimal n ++ spaced l)
 -- the rest of a line: numbers, single spaces between, and the line feed
 abbrev pub rest : List ℕ → List ℕ
 rest l = spaced l ++ (lineFeed ∷ [])
+
+-- a line of numbers: single spaces between, and the line feed
+abbrev pub line : ℕ → List ℕ → List ℕ
+line n l = decimal n ++ rest l

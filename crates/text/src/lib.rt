@@ -3,7 +3,7 @@ ghost use mathlib.Core.Path.{_≡_};
 ghost use Prim.Native.Nat.{_+_, _≤_};
 ghost use lib.ListN.{length};
 ghost use Rattle.buffer.specs.Bytes.{splice};
-ghost use Rattle.text.specs.Text.{decimal, spaced, rest};
+ghost use Rattle.text.specs.Text.{decimal, spaced, rest, line};
 
 // Writes v in decimal.
 pub fn put_decimal(out: &mut [u8], at: usize, v: u64) -> usize
@@ -68,4 +68,13 @@ pub fn end_line(out: &mut [u8], at: usize, numbers: &[u64]) -> usize
     let next = put_spaced(out, at, numbers);
     out[next] = b'\n';
     next + 1
+}
+
+// Writes a line of numbers: the first, then the others with a space before each, then a line feed.
+pub fn put_line(out: &mut [u8], at: usize, first: u64, others: &[u64]) -> usize
+    requires { ⌜ at + length (line first (now others)) ≤ length (now out) ⌝ }
+    ensures { λ r. ⌜ (now (out .exit) ≡ splice (now (out .entry)) at (line first (now (others .entry)))) × (r ≡ at + length (line first (now (others .entry)))) ⌝ }
+{
+    let next = put_decimal(out, at, first);
+    end_line(out, next, others)
 }

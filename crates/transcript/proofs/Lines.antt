@@ -9,8 +9,8 @@ use Rattle.step.specs.declared.Answer.{Answer}
 use Rattle.lockmgr.specs.Calls.{step}
 use Rattle.lockmgr.specs.Run as Run
 use Rattle.lockmgr.specs.Run.{run, done, left, tallied, counted}
-use Rattle.text.specs.Text.{decimal, spaced, rest}
-use Rattle.text.proofs.Laws.{length-decimal, length-rest, spaced-none, spaced-longer}
+use Rattle.text.specs.Text.{spaced, rest}
+use Rattle.text.proofs.Laws.{length-rest, spaced-none, spaced-longer, line-short}
 use Rattle.transcript.specs.Transcript.{stepLine, stepLines, endLine, printed, longestLine}
 
 -- a byte has at most three digits
@@ -28,8 +28,9 @@ module _ (index : ℕ) (c : Run.Step) (a : Answer) (few : index < 10000) where
         bytes-longer (c .verb) _ 28 v (bytes-longer (c .session) _ 24 t (bytes-longer (c .item) _ 20 x (bytes-longer (a .refusal) _ 16 r
         (bytes-longer (a .sent) _ 12 s (bytes-longer (a .closed) _ 8 k (bytes-longer (a .victim) _ 4 b (bytes-longer (a .initiator) [] 0 i spaced-none)))))))
 
-    pub step-short : length (decimal index) + length (rest (numbers c a)) ≤ longestLine
-    step-short = omega (arith, length-decimal 3 index few, length-rest (numbers c a), numbers-short)
+    pub step-short : length (stepLine index c a) ≤ longestLine
+    unfolding stepLine
+    step-short = line-short 3 index (numbers c a) 32 few numbers-short
 
 module _ (left : ℕ) (y : Run.Tally) (l : left < 100000) (k : y .closed < 10000) (d : y .declared < 10000) (r : y .rolledBack < 10000) where
   pub end-short : length (rest (left ∷ y .closed ∷ y .declared ∷ y .rolledBack ∷ [])) ≤ 22

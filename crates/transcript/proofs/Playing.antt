@@ -5,7 +5,7 @@ use mathlib.Core.List.{List, [], _∷_, _++_, append-assoc}
 use Prim.Native.Nat.{ℕ, suc, _+_, _*_, _≤_, _<_, zero-le}
 use native.Mathlib.Numerals.{add-one}
 use native.Mathlib.Omega.{arith}
-use borrow.Author.Tests.{leb-true, eqb-true, le-leb, lt-leb}
+use borrow.Author.Tests.{leb-true, eqb-true}
 use lib.Dec.{eqb, leb}
 use lib.ListN.{length, drop, replicate, length-append, length-replicate, drop-of-length-le}
 use lib.Seq.{drop-cons}
@@ -28,7 +28,7 @@ use Rattle.tally.specs.declared.Tally.{Tally}
 use Rattle.text.proofs.Laws.{splice-then, splice-none}
 use Rattle.tally.specs.declared.Step.{Step}
 use Rattle.transcript.specs.Input.{sessionsIn, itemsIn, countIn, maxSteps, size, wellFormed, stepAt, stepsIn}
-use Rattle.transcript.specs.Transcript.{bad, stepLine, endLine, replayed, replayStart, capacity, longestLine, longest, transcript, written, write}
+use Rattle.transcript.specs.Transcript.{bad, stepLine, endLine, replayed, replayStart, capacity, longestLine, transcript}
 use Rattle.tally.specs.Steps.{stepOf, tallyOf}
 use Rattle.tally.proofs.Steps.{answerOf, stepTable, stepMail, formed-after, few-more}
 use Rattle.transcript.proofs.Lines.{ahead, ahead-none, ahead-step}
@@ -66,16 +66,6 @@ known input w =
 pub bad-input : (input : List ℕ) → wellFormed input ≡ false → transcript input ≡ bad
 unfolding transcript
 bad-input input e = rw (e) refl
-
--- ---- what `write` leaves
-module _ (input out : List ℕ) where
-  pub write-short : length out < longest → written 0 out ≡ write input out
-  unfolding write
-  write-short h = rw (lt-leb longest (length out) h) refl
-
-  pub write-long : longest ≤ length out → {out′ : List ℕ} {r : ℕ} → out′ ≡ splice out 0 (transcript input) → r ≡ length (transcript input) → written r out′ ≡ write input out
-  unfolding write
-  write-long h e f = rw (le-leb longest (length out) h, e, f) refl
 
 -- ---- step by step
 -- the entries left in a well-formed mailbox can be counted, and are not many

@@ -2,21 +2,20 @@
 use Prim.Native.Nat.{ℕ, suc, _+_, _*_}
 use mathlib.Core.Bool.{cond}
 use mathlib.Core.List.{List, [], _∷_, _++_}
-use lib.Dec.{leb}
-use lib.ListN.{length, replicate}
-use Rattle.buffer.specs.Bytes.{splice}
+use lib.ListN.{replicate}
 use Rattle.mailbox.specs.Layout as Mail
 use Rattle.table.specs.Layout as Table
 use Rattle.step.specs.declared.Answer.{Answer}
 use Rattle.lockmgr.specs.Calls.{Started, config, start}
 use Rattle.lockmgr.specs.Run as Run
 use Rattle.lockmgr.specs.Run.{Ran, run}
-use Rattle.text.specs.Text.{lineFeed, decimal, rest}
-use Rattle.transcript.specs.Input.{sessionsIn, itemsIn, maxSteps, wellFormed, stepsIn}
+use Rattle.text.specs.Text.{ascii, lineFeed, rest, line}
+use Rattle.text.specs.Output.{DecidedBy}
+use Rattle.transcript.specs.Input.{sessionsIn, itemsIn, maxSteps, size, wellFormed, stepsIn}
 
 -- `bad` alone
 abbrev pub bad : List ℕ
-bad = 98 ∷ 97 ∷ 100 ∷ lineFeed ∷ []
+bad = ascii "bad" ++ (lineFeed ∷ [])
 
 -- C
 abbrev pub capacity : ℕ
@@ -34,8 +33,7 @@ replayed input =
 -- per step: index from 1, verb, session, item, refusal, sent, closed, victim, initiator
 unfoldable pub stepLine : ℕ → Run.Step → Answer → List ℕ
 stepLine index c a =
-    decimal index
-    ++ rest (c .verb ∷ c .session ∷ c .item ∷ a .refusal ∷ a .sent ∷ a .closed ∷ a .victim ∷ a .initiator ∷ [])
+    line index (c .verb ∷ c .session ∷ c .item ∷ a .refusal ∷ a .sent ∷ a .closed ∷ a .victim ∷ a .initiator ∷ [])
 
 -- the lines of steps and their answers, the first of which has this index
 unfoldable pub stepLines : ℕ → List Run.Step → List Answer → List ℕ
@@ -44,11 +42,8 @@ stepLines index (c ∷ l) [] = []
 stepLines index (c ∷ l) (a ∷ answers) = stepLine index c a ++ stepLines (suc index) l answers
 
 -- last line: `end`, entries left in the mail, cycles closed, declarations made, sessions reaching stage 6
-abbrev pub endWord : List ℕ
-endWord = 101 ∷ 110 ∷ 100 ∷ []
-
 unfoldable pub endLine : ℕ → Run.Tally → List ℕ
-endLine left y = endWord ++ rest (left ∷ y .closed ∷ y .declared ∷ y .rolledBack ∷ [])
+endLine left y = ascii "end" ++ rest (left ∷ y .closed ∷ y .declared ∷ y .rolledBack ∷ [])
 
 unfoldable pub printed : ℕ → List Run.Step → Ran → List ℕ
 printed index l r = stepLines index l (r .answers) ++ endLine (Mail.countOf (r .mail)) (r .tally)
@@ -65,15 +60,6 @@ longestLine = 4 + 8 * 4 + 1
 abbrev pub longest : ℕ
 longest = longestLine * (maxSteps + 1)
 
--- what `write` answers, and its buffer after
-pub record Written : Type 0 where
-  pub answer : ℕ
-  pub out : List ℕ
-
-abbrev pub written : ℕ → List ℕ → Written
-written answer out = record { answer = answer; out = out }
-
--- the output at the start of the buffer, and its length; a buffer with no room for the longest output stays as it was, and the answer is 0
-unfoldable pub write : List ℕ → List ℕ → Written
-write input out =
-    cond (leb longest (length out)) (written (length (transcript input)) (splice out 0 (transcript input))) (written 0 out)
+-- claimed: a program that reads one byte more than the longest input has read enough
+abbrev pub Enough : Type 0
+Enough = DecidedBy (size maxSteps + 1) transcript

@@ -12,8 +12,9 @@ ghost use Rattle.buffer.specs.Bytes.{splice};
 ghost use Rattle.mailbox.specs.Layout as Mail;
 ghost use Rattle.table.specs.Layout as Table;
 ghost use Rattle.tally.specs.Steps.{stepOf, tallyOf};
+ghost use Rattle.text.specs.Output.{output, atStart, Counts};
 ghost use Rattle.transcript.specs.Input as Input;
-ghost use Rattle.transcript.specs.Transcript.{stepLine, endLine, capacity, longestLine, longest, transcript, written, write};
+ghost use Rattle.transcript.specs.Transcript.{stepLine, endLine, capacity, longestLine, longest, transcript};
 
 // C and the greatest n.
 const CAPACITY: usize = mailbox::MAX_CAPACITY;
@@ -66,7 +67,6 @@ fn put_step(out: &mut [u8], at: usize, index: u64, c: Step, a: Answer) -> usize
     requires { ⌜ (index < 10000) × (at + longestLine ≤ length (now out)) ⌝ }
     ensures { λ r. ⌜ (now (out .exit) ≡ splice (now (out .entry)) at (stepLine index (stepOf c) a)) × (r ≡ at + length (stepLine index (stepOf c) a)) × (r ≤ at + longestLine) ⌝ }
 {
-    let next = text::put_decimal(out, at, index);
     let numbers = [
         c.verb as u64,
         c.session as u64,
@@ -77,7 +77,7 @@ fn put_step(out: &mut [u8], at: usize, index: u64, c: Step, a: Answer) -> usize
         a.victim as u64,
         a.initiator as u64,
     ];
-    text::end_line(out, next, &numbers)
+    text::put_line(out, at, index, &numbers)
 }
 
 // Writes the last line.
@@ -85,8 +85,7 @@ fn put_end(out: &mut [u8], at: usize, left: u64, t: Tally) -> usize
     requires { ⌜ (left < 100000) × (t .closed < 10000) × (t .declared < 10000) × (t .«rolled_back» < 10000) × (at + longestLine ≤ length (now out)) ⌝ }
     ensures { λ r. ⌜ (now (out .exit) ≡ splice (now (out .entry)) at (endLine left (tallyOf t))) × (r ≡ at + length (endLine left (tallyOf t))) × (r ≤ at + longestLine) ⌝ }
 {
-    let word = [b'e', b'n', b'd'];
-    let next = text::put_bytes(out, at, &word);
+    let next = text::put_bytes(out, at, b"end");
     let numbers = [left, t.closed, t.declared, t.rolled_back];
     text::end_line(out, next, &numbers)
 }
@@ -123,14 +122,13 @@ fn play(input: &[u8], table: &mut [u8], mail: &mut [u8], out: &mut [u8]) -> usiz
 
 // Writes what the program prints at the start of `out`, and answers its length. A buffer shorter than LONGEST stays as it was, and the answer is 0.
 pub fn write(input: &[u8], out: &mut [u8]) -> usize
-    ensures { λ r. ⌜ (written r (now (out .exit)) ≡ write (now (input .entry)) (now (out .entry))) × (r ≤ longest) ⌝ }
+    ensures { λ r. ⌜ (output r (now (out .exit)) ≡ atStart longest (transcript (now (input .entry))) (now (out .entry))) × Counts r (now (out .exit)) ⌝ }
 {
     if out.len() < LONGEST {
         return 0;
     }
     if !well_formed(input) {
-        let bad = [b'b', b'a', b'd', b'\n'];
-        return text::put_bytes(out, 0, &bad);
+        return text::put_bytes(out, 0, b"bad\n");
     }
     let mut table = [0u8; table::MAX_SIZE];
     let mut mail = [0u8; mailbox::MAX_SIZE];

@@ -2,9 +2,9 @@
 use native.Mathlib.Omega.{arith}
 use mathlib.Core.List.{[], _∷_}
 use lib.ListN.{length-append}
-use Rattle.text.specs.Text.{rest}
+use Rattle.text.specs.Text.{ascii, rest}
 use Rattle.text.proofs.Laws.{splice-then}
-use Rattle.transcript.specs.Transcript.{endWord, endLine}
+use Rattle.transcript.specs.Transcript.{endLine}
 use Rattle.tally.specs.Steps.{tallyOf}
 use Rattle.transcript.proofs.Lines.{end-short}
 use borrow.Author.Needs.{needs}
@@ -32,7 +32,7 @@ same-length : tie.Need-same-length
 same-length c = search needs
 
 returns : tie.Need-returns
-unfolding endLine
+unfolding endLine ascii
 returns c =
     let s = c .before .before .before .before .before .before .before .before .before .before .before in
     let a = s .args in
@@ -40,9 +40,9 @@ returns c =
     let e = c .before .before .end-line in
     let y = tallyOf (a .t) in
     let l = a .left ∷ y .closed ∷ y .declared ∷ y .rolledBack ∷ [] in
-    let len = length-append endWord (rest l) in
+    let len = length-append (ascii "end") (rest l) in
     let short = end-short (a .left) y (s .pre .0) (s .pre .1) (s .pre .2) (s .pre .3) in (
-      splice-then (a .out .now) (a .at) endWord (rest l) (omega arith) (p .ensures .0) (p .ensures .1) (e .ensures .0),
+      splice-then (a .out .now) (a .at) (ascii "end") (rest l) (omega arith) (p .ensures .0) (p .ensures .1) (e .ensures .0),
       omega (arith, p .ensures .1, e .ensures .1),
       omega (arith, p .ensures .1, e .ensures .1),
     )

@@ -1,7 +1,7 @@
 -- `write` meets its contract: a short buffer is left; any other input is bad; else its steps are played in buffers of the right sizes.
 use mathlib.Core.Path.{_≡_, sym, ap, _∙_}
 use mathlib.Core.Bool.{true}
-use Prim.Native.Nat.{ℕ, _≤_, zero-le}
+use Prim.Native.Nat.{ℕ, _≤_}
 use native.Mathlib.Omega.{arith}
 use borrow.Author.Tests.{not-true, not-false}
 use lib.ListN.{length, replicate, length-replicate}
@@ -11,8 +11,10 @@ use Rattle.message.specs.Limits.{maxSessions, maxItems}
 use Rattle.mailbox.specs.Layout as Mail
 use Rattle.table.specs.Layout as Table
 use Rattle.transcript.specs.Input.{wellFormed}
-use Rattle.transcript.specs.Transcript.{capacity, longest}
-use Rattle.transcript.proofs.Playing.{Known, known, bad-input, write-short, write-long}
+use Rattle.text.specs.Text.{ascii}
+use Rattle.text.proofs.Output.{at-start-short, at-start-long}
+use Rattle.transcript.specs.Transcript.{capacity, longest, transcript}
+use Rattle.transcript.proofs.Playing.{Known, known, bad-input}
 use borrow.Author.Needs.{needs}
 use Rattle.transcript.proofs.write.Statement.{statement}
 use Rattle.transcript.proofs.write.Tie as tie
@@ -34,7 +36,7 @@ lent : (c : tie.After-size) → c .size .result ≤ Table.size maxSessions maxIt
 lent c = let i = input (c .before .before .before) in omega (arith, c .size .ensures)
 
 returns : tie.Need-returns
-returns c = let a = c .before .before .before .args in (write-short (a .input .now) (a .out .now) (c .if1 .taken), zero-le)
+returns c = let a = c .before .before .before .args in at-start-short longest (transcript (a .input .now)) (a .out .now) (c .if1 .taken)
 
 well-formed-requires : tie.Need-well-formed-requires
 well-formed-requires c κs = search needs
@@ -49,13 +51,15 @@ same-length : tie.Need-same-length
 same-length c = search needs
 
 returns-2 : tie.Need-returns-2
+unfolding ascii
 returns-2 c =
     let b = c .before .before .before .before .before .before in
     let a = begin b .args in
     let p = c .before .before .put-bytes in
     let r = b .well-formed in
     let e = bad-input (a .input .now) (sym (r .ensures) ∙ not-true (r .result) (c .before .before .before .before .before .if2 .taken)) in
-    (write-long (a .input .now) (a .out .now) (long b) (p .ensures .0 ∙ ap (splice (a .out .now) 0) (sym e)) (p .ensures .1 ∙ ap length (sym e)), omega (arith, p .ensures .1))
+    at-start-long longest (transcript (a .input .now)) (a .out .now) (long b) (omega (arith, ap length e))
+    (p .ensures .0 ∙ ap (splice (a .out .now) 0) (sym e)) (p .ensures .1 ∙ ap length (sym e))
 
 shared-slice-read-size : tie.Need-shared-slice-read-size
 shared-slice-read-size c = let i = input (c .before) in omega arith
@@ -93,7 +97,7 @@ returns-3 c =
     let p = c .before .before .before .before in
     let b = p .before .before .before .before .before .before .before .before in
     let a = begin b .args in
-    (write-long (a .input .now) (a .out .now) (long b) (p .play .ensures .0) (p .play .ensures .1), p .play .ensures .2)
+    at-start-long longest (transcript (a .input .now)) (a .out .now) (long b) (omega (arith, p .play .ensures .1, p .play .ensures .2)) (p .play .ensures .0) (p .play .ensures .1)
 
 pub write-spec : {M : Type 1} → statement M
 write-spec =
