@@ -43,14 +43,14 @@ def convert(usage, read):
         fail("more than one file; --help says more")
     name = arguments[0] if arguments else "standard input"
     try:
-        if arguments:
-            with open(name, encoding="utf-8") as source:
-                out = read(name, lines(name, source))
-        else:
-            out = read(name, lines(name, sys.stdin))
-        sys.stdout.buffer.write(out)
-        sys.stdout.buffer.flush()
+        with open(arguments[0] if arguments else 0, encoding="utf-8-sig") as source:
+            out = read(name, lines(name, source))
     except OSError as error:
         fail(f"{name}: {error.strerror}")
     except UnicodeDecodeError:
         fail(f"{name}: not a text file")
+    try:
+        with open(1, "wb") as target:
+            target.write(out)
+    except OSError as error:
+        fail(f"standard output: {error.strerror}")

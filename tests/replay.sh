@@ -6,9 +6,7 @@ cd "$(dirname "${BASH_SOURCE[0]}")/.."
 . tests/lists.sh
 
 input=scripts/replay-input
-refuses "No such file" $input "$folder/missing"
-refuses "Is a directory" $input "$folder"
-refuses "more than one file" $input a b
+reader $input examples/two_sessions.steps
 refuses "no line with the numbers" $input "$(list '# nothing')"
 refuses "line 1: expected the numbers" $input "$(list '2')"
 refuses "line 2: number of sessions 0 is not 1 to 64" $input "$(list '#' '0 1')"
@@ -21,6 +19,7 @@ refuses "line 2: verb 256 is not 0 to 255" $input "$(list '2 2' '256 1 1')"
 refuses "line 2: session 256" $input "$(list '2 2' '1 256 1')"
 refuses "line 2: item '-1' is no number" $input "$(list '2 2' '1 1 -1')"
 refuses "line 2: item 'x' is no number" $input "$(list '2 2' '1 1 x')"
+$input "$(list '2 2' '0000000001 01 1')" | cmp - <($input "$(list '2 2' '1 1 1')") || fault "zeros before a number"
 { echo '2 2'; seq 4096 | sed 's/.*/9 0 255/'; } > "$folder/longest"
 $input "$folder/longest" > "$folder/in" || fault "4096 steps are refused"
 build/bin/replay < "$folder/in" > "$folder/out"
@@ -29,12 +28,6 @@ build/bin/trace "$folder/in" "$folder/out" > "$folder/trace" || fault "the trace
 [ "$(grep -cx '      refused: bad verb' "$folder/trace")" = 4096 ] || fault "4096 refusals"
 echo '1 1 1' >> "$folder/longest"
 refuses "line 4098: more than 4096 steps" $input "$folder/longest"
-printf '2 2\n\377\376 1 1\n' > "$folder/bytes"
-refuses "not a text file" $input "$folder/bytes"
-grep -q '^usage' <<< "$($input --help)" || fault "replay-input --help"
-if [ -w /dev/full ] && $input examples/two_sessions.steps > /dev/full 2> "$folder/err"; then
-    fault "a failure to write is silent"
-fi
 
 # tells TEXT..: the trace has these lines.
 tells() {

@@ -22,7 +22,8 @@ impl Program {
         })
     }
 
-    /// What it writes to standard output.
+    /// What it writes to standard output. A run that does not end well is an
+    /// error.
     fn output(&self, input: &[u8]) -> io::Result<Vec<u8>> {
         let mut child = Command::new(&self.path)
             .stdin(Stdio::piped())
@@ -32,9 +33,13 @@ impl Program {
         let bytes = input.to_vec();
         // The program may stop reading early: then writing fails, as it should.
         let writer = thread::spawn(move || drop(stdin.write_all(&bytes)));
-        let written = child.wait_with_output()?.stdout;
+        let run = child.wait_with_output()?;
         writer.join().expect("the writer ends");
-        Ok(written)
+        if run.status.success() {
+            Ok(run.stdout)
+        } else {
+            Err(io::Error::other(run.status.to_string()))
+        }
     }
 
     /// Runs it on every input. The time of the slowest, or which input has

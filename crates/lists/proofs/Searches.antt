@@ -156,6 +156,12 @@ unfolding sumUpTo
 sum-same zero f g h = refl
 sum-same (suc n) f g h = omega (arith, h (suc n) (omega arith) (omega arith), sum-same n f g (λ a lo hi. h a lo (omega arith)))
 
+-- no term is greater than the other sum's
+pub sum-mono : (n : ℕ) (f g : ℕ → ℕ) → ((a : ℕ) → 1 ≤ a → a ≤ n → f a ≤ g a) → sumUpTo n f ≤ sumUpTo n g
+unfolding sumUpTo
+sum-mono zero f g h = zero-le
+sum-mono (suc n) f g h = omega (arith, h (suc n) (omega arith) (omega arith), sum-mono n f g (λ a lo hi. h a lo (omega arith)))
+
 -- one term changes
 pub sum-changed : (n t : ℕ) (f g : ℕ → ℕ) → 1 ≤ t → t ≤ n → ((a : ℕ) → t ≢ a → g a ≡ f a) → sumUpTo n g + f t ≡ sumUpTo n f + g t
 unfolding sumUpTo

@@ -5,9 +5,10 @@ use Prim.Native.Nat.{ℕ, _<_}
 use native.Mathlib.Omega.{arith}
 use lib.ListN.{length}
 use Rattle.lists.proofs.Tests.{fails}
-use Rattle.text.proofs.Output.{refused-longer}
+use Rattle.program.proofs.Laws.{refused-longer}
 use Rattle.transcript.specs.Input.{maxSteps, size, wellFormed}
-use Rattle.transcript.specs.Transcript.{bad, transcript, Enough}
+use Rattle.transcript.specs.Transcript.{bad, transcript}
+use Rattle.transcript.specs.Claims.{Enough}
 use Rattle.transcript.proofs.Playing.{known, bad-input}
 
 longer-bad : (input : List ℕ) → size maxSteps < length input → transcript input ≡ bad

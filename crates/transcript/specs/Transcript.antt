@@ -10,8 +10,7 @@ use Rattle.lockmgr.specs.Calls.{Started, config, start}
 use Rattle.lockmgr.specs.Run as Run
 use Rattle.lockmgr.specs.Run.{Ran, run}
 use Rattle.text.specs.Text.{ascii, lineFeed, rest, line}
-use Rattle.text.specs.Output.{DecidedBy}
-use Rattle.transcript.specs.Input.{sessionsIn, itemsIn, maxSteps, size, wellFormed, stepsIn}
+use Rattle.transcript.specs.Input.{sessionsIn, itemsIn, maxSteps, wellFormed, stepsIn}
 
 -- `bad` alone
 abbrev pub bad : List ℕ
@@ -59,7 +58,3 @@ longestLine = 4 + 8 * 4 + 1
 -- a line for each step, and the last one
 abbrev pub longest : ℕ
 longest = longestLine * (maxSteps + 1)
-
--- claimed: a program that reads one byte more than the longest input has read enough
-abbrev pub Enough : Type 0
-Enough = DecidedBy (size maxSteps + 1) transcript

@@ -12,9 +12,11 @@ ghost use Rattle.buffer.specs.Bytes.{splice};
 ghost use Rattle.mailbox.specs.Layout as Mail;
 ghost use Rattle.table.specs.Layout as Table;
 ghost use Rattle.tally.specs.Steps.{stepOf, tallyOf};
-ghost use Rattle.text.specs.Output.{output, atStart, Counts};
+ghost use Rattle.io.specs.Counts.{Counts};
+ghost use Rattle.program.specs.Program.{output, atStart};
 ghost use Rattle.transcript.specs.Input as Input;
 ghost use Rattle.transcript.specs.Transcript.{stepLine, endLine, capacity, longestLine, longest, transcript};
+ghost use Rattle.transcript.specs.Claims.{readSize};
 
 // C and the greatest n.
 const CAPACITY: usize = mailbox::MAX_CAPACITY;
@@ -24,13 +26,23 @@ const MAX_STEPS: usize = 4096;
 // What stands before the verbs, and the longest input.
 const HEADER: usize = 4;
 
-pub const LONGEST_INPUT: usize = HEADER + 3 * MAX_STEPS;
+const LONGEST_INPUT: usize = HEADER + 3 * MAX_STEPS;
+
+// One byte more, so that a longer input is noticed.
+const ROOM: usize = LONGEST_INPUT + 1;
 
 // The longest line: an index of four digits, eight numbers of three digits and a space, and the line feed.
 const LONGEST_LINE: usize = 4 + 8 * 4 + 1;
 
 // The longest output: a line for each step, and the last one.
 pub const LONGEST: usize = LONGEST_LINE * (MAX_STEPS + 1);
+
+// Room for as much of an input as has to be read.
+pub fn room() -> [u8; ROOM]
+    ensures { λ r. ⌜ readSize ≡ length r ⌝ }
+{
+    [0; ROOM]
+}
 
 // Whether the input is as the program takes it.
 fn well_formed(input: &[u8]) -> bool

@@ -8,6 +8,7 @@ use Prim.Native.Nat.{_+_, _≤_, ℕ}
 use native.Mathlib.Omega.{arith}
 use lib.Dec.{eqb}
 use Rattle.lists.proofs.Tests.{same?}
+use Rattle.lists.proofs.Searches.{sum-mono}
 use Rattle.deadlock.specs.Lists.{bit, occurs}
 use Rattle.deadlock.specs.Machine.{Item, Message, Rules, Sends}
 use Rattle.message.specs.Kind
@@ -17,7 +18,7 @@ use Rattle.deadlock.specs.Coverage.{cleansElsewhere, cleansFromOthers, c
 use Rattle.deadlock.proofs.Laws.Lists.{updated-other, updated-same, zero-or-more}
 use Rattle.deadlock.proofs.Laws.Routes.{countKind-append}
 use Rattle.deadlock.proofs.Probes.PathsStay.{ItemTakes, worldAfterItem}
-use Rattle.deadlock.proofs.Coverage.Sums.{except-mono, freshProbes-append, freshProbes-right, sumOver-mono, sumUpTo-mono}
+use Rattle.deadlock.proofs.Coverage.Sums.{except-mono, freshProbes-append, freshProbes-right, sumOver-mono}
 
 module _ (R : Rules) {w : World} {t x : ℕ} {m : Message} (i : Item) {out : Sends} {mail : Mail} (lo : 1 ≤ x) (hi : x ≤ R .M) (ar : ItemTakes w t x m out mail) where
   abbrev pub after : World
@@ -35,7 +36,7 @@ module _ (R : Rules) {w : World} {t x : ℕ} {m : Message} (i : Item) {out : Sen
 
   cleansElsewhere-ge : (h z : ℕ) → cleansElsewhere R w h z ≤ cleansElsewhere R after h z
   unfolding cleansElsewhere
-  cleansElsewhere-ge h z = sumUpTo-mono _ _ (except-mono z (λ y. countKind Kind.clean (w .down h y)) (λ y. countKind Kind.clean (mail .down h y)) (λ y _. down-kind-ge 4 h y (same? x y))) (R .M)
+  cleansElsewhere-ge h z = sum-mono (R .M) _ _ (λ a _ _. except-mono z (λ y. countKind Kind.clean (w .down h y)) (λ y. countKind Kind.clean (mail .down h y)) (λ y _. down-kind-ge 4 h y (same? x y)) a)
 
   rebroadcastDue-of : (z h : ℕ) → countKind Kind.rebroadcast (w .up h z) ≤ countKind Kind.rebroadcast (mail .up h z) → rebroadcastDue R w z h ≤ rebroadcastDue R after z h
   unfolding rebroadcastDue

@@ -8,6 +8,7 @@ use Prim.Native.Nat.{_+_, _≤_, ℕ}
 use native.Mathlib.Omega.{arith}
 use Rattle.lists.specs.Lists.{sumUpTo}
 use Rattle.lists.proofs.Tests.{same?}
+use Rattle.lists.proofs.Searches.{sum-mono}
 use Rattle.deadlock.specs.Machine.{isLive, Message, Rules, Sends, Session, SessionStep}
 use Rattle.message.specs.Kind
 use Rattle.deadlock.specs.Counts.{behindRequest, countKind, except, freshProbes, isStored, sentTo, unlessCleaned}
@@ -19,7 +20,7 @@ use Rattle.deadlock.proofs.Laws.Routes.{countKind-append}
 use Rattle.deadlock.proofs.Laws.Walks.{cycle-turned}
 use Rattle.deadlock.proofs.Victims.OneOnCycle.{one-edge}
 use Rattle.deadlock.proofs.Probes.OthersStay.{SessionSends, stage-other, stage-own, worldAfterSession}
-use Rattle.deadlock.proofs.Coverage.Sums.{except-mono, sumOver-mono, sumUpTo-mono}
+use Rattle.deadlock.proofs.Coverage.Sums.{except-mono, sumOver-mono}
 
 -- what is under way once session t has sent `out` and taken a message
 abbrev pub underWayAfter : Rules → World → Mail → Sends → ℕ → ℕ → ℕ → ℕ → ℕ
@@ -44,8 +45,8 @@ module _ (R : Rules) {w : World} {t : ℕ} (o : SessionStep) {mail : Mail} (acts
   rebroadcastDue-other : (z h : ℕ) → t ≢ h → rebroadcastDue R w z h ≤ rebroadcastDue R after z h
   unfolding rebroadcastDue cleansElsewhere
   rebroadcastDue-other z h q =
-      let s : sumUpTo (R .M) (except z (λ y. countKind Kind.clean (w .down h y))) ≤ sumUpTo (R .M) (except z (λ y. countKind Kind.clean (mail .down h y))) = sumUpTo-mono
-      _ _ (except-mono z _ _ (λ y _. omega (arith, ap (countKind Kind.clean) (acts .down-off h y q)))) (R .M) in
+      let s : sumUpTo (R .M) (except z (λ y. countKind Kind.clean (w .down h y))) ≤ sumUpTo (R .M) (except z (λ y. countKind Kind.clean (mail .down h y))) = sum-mono (R .M)
+      _ _ (λ a _ _. except-mono z _ _ (λ y _. omega (arith, ap (countKind Kind.clean) (acts .down-off h y q))) a) in
       rw (updated-other (w .session) t (o .after) h q) (cases (w .session h .held z) s)
     where
       cases : (b : Bool) → cleansElsewhere R w h z ≤ cleansElsewhere R after h z
@@ -57,7 +58,7 @@ module _ (R : Rules) {w : World} {t : ℕ} (o : SessionStep) {mail : Mail} (acts
       → (w .session t .held z ≡ true → o .after .held z ≡ true) → rebroadcastDue R w z t ≤ rebroadcastDue R after z t
   unfolding rebroadcastDue cleansElsewhere
   rebroadcastDue-own z d f =
-      let s : sumUpTo (R .M) (except z (λ y. countKind Kind.clean (w .down t y))) ≤ sumUpTo (R .M) (except z (λ y. countKind Kind.clean (mail .down t y))) = sumUpTo-mono _ _ (except-mono z _ _ d) (R .M) in
+      let s : sumUpTo (R .M) (except z (λ y. countKind Kind.clean (w .down t y))) ≤ sumUpTo (R .M) (except z (λ y. countKind Kind.clean (mail .down t y))) = sum-mono (R .M) _ _ (λ a _ _. except-mono z _ _ d a) in
       rw updated-same (cases (w .session t .held z) refl s)
     where
       cases : (b : Bool) → w .session t .held z ≡ b → cleansElsewhere R w t z ≤ cleansElsewhere R after t z

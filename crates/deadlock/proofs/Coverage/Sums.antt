@@ -97,11 +97,6 @@ unfolding sumOver
 sumOver-zero f z [] = refl
 sumOver-zero f z (a ∷ l) = omega (arith, z a, sumOver-zero f z l)
 
-pub sumUpTo-mono : (f g : ℕ → ℕ) → ((a : ℕ) → f a ≤ g a) → (k : ℕ) → sumUpTo k f ≤ sumUpTo k g
-unfolding sumUpTo
-sumUpTo-mono f g h zero = omega arith
-sumUpTo-mono f g h (suc k) = omega (arith, h (suc k), sumUpTo-mono f g h k)
-
 pub except-mono : (t : ℕ) (f g : ℕ → ℕ) → ((a : ℕ) → t ≢ a → f a ≤ g a) → (a : ℕ) → except t f a ≤ except t g a
 unfolding except
 except-mono t f g h a = cases (eqb a t) refl

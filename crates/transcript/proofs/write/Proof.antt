@@ -12,7 +12,7 @@ use Rattle.mailbox.specs.Layout as Mail
 use Rattle.table.specs.Layout as Table
 use Rattle.transcript.specs.Input.{wellFormed}
 use Rattle.text.specs.Text.{ascii}
-use Rattle.text.proofs.Output.{at-start-short, at-start-long}
+use Rattle.program.proofs.Laws.{at-start-short, at-start-long}
 use Rattle.transcript.specs.Transcript.{capacity, longest, transcript}
 use Rattle.transcript.proofs.Playing.{Known, known, bad-input}
 use borrow.Author.Needs.{needs}

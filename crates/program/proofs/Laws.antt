@@ -1,4 +1,4 @@
--- Laws of what a program prints.
+-- Laws of what a program prints and reads.
 use mathlib.Core.Path.{_≡_, refl, sym, ap, _∙_}
 use mathlib.Core.List.{List}
 use mathlib.Core.Bool.{Bool, true, false}
@@ -10,7 +10,8 @@ use lib.ListN.{length, take}
 use lib.Seq.{length-take-le, take-all}
 use Rattle.buffer.specs.Bytes.{splice}
 use Rattle.buffer.proofs.Laws.{length-splice}
-use Rattle.text.specs.Output.{output, atStart, Counts, DecidedBy}
+use Rattle.io.specs.Counts.{Counts}
+use Rattle.program.specs.Program.{output, atStart, DecidedBy}
 
 counts : (n : ℕ) (l : List ℕ) → n ≤ length l → Counts n l
 counts n l h = (h, sym (length-take-le n l h))

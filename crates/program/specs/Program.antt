@@ -1,5 +1,5 @@
--- What a program prints, in a lent buffer.
-use Prim.Native.Nat.{ℕ, _≤_}
+-- What the programs have in common: a text that is printed into a lent buffer, and how much of an input has to be read.
+use Prim.Native.Nat.{ℕ}
 use mathlib.Core.Path.{_≡_}
 use mathlib.Core.Bool.{cond}
 use mathlib.Core.List.{List}
@@ -20,10 +20,6 @@ unfoldable pub atStart : ℕ → List ℕ → List ℕ → Output
 atStart longest text buffer =
     cond (leb longest (length buffer)) (output (length text) (splice buffer 0 text)) (output 0 buffer)
 
--- a buffer has so many bytes, which may be lent as a part; the second follows from the first
-abbrev pub Counts : ℕ → List ℕ → Type 0
-Counts n buffer = (n ≤ length buffer) × (n ≡ length (take n buffer))
-
 -- the first n bytes of an input decide what is printed: no more need be read
 abbrev pub DecidedBy : ℕ → (List ℕ → List ℕ) → Type 0
-DecidedBy n program = (input : List ℕ) → program (take n input) ≡ program input
+DecidedBy n printed = (input : List ℕ) → printed (take n input) ≡ printed input
