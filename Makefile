@@ -2,16 +2,20 @@
 #   make demo          two sessions into a deadlock and out again, in C
 #   make replay        tells what happens in a list of steps: FILE=examples/two_sessions.steps;
 #                      STEP=10 DOT=waits.dot also writes the waits after step 10 for Graphviz
+#   make statement     prints the rollback statement over a list of days: FILE=examples/week.days
 #   make lib           the library for C: build/lib/liblockmgr.a, liblockmgr.so and build/include
 #   make install       header, libraries and pkg-config file: PREFIX=/usr/local DESTDIR=
 #   make proofs        every proof and every must-fail edit alone
 #   make model         the tests of the Rust model
 #   make compare       library and model on the same calls, byte for byte
 #   make replays       the replay program and the model on the same inputs, byte for byte
+#   make statements    the statement program and the model on the same inputs, byte for byte
 #   make ctest         the C tests, with sanitizers and guard pages
 #   make workers       the example with threads, also with the thread sanitizer: WORKER_SECONDS=3
 #   make install-test  installs into an empty folder and compiles the examples there
 #   make replay-test   lists of steps, good and bad
+#   make statement-test
+#                      lists of days, good and bad
 #   make fuzz          the comparison with new seeds: FUZZ_SECONDS=60, SEED=n to repeat one
 #   make bench         times of a call beside model, floor and hand-written Rust;
 #                      BEFORE=path/to/liblockmgr.so beside an earlier library too
@@ -24,7 +28,7 @@
 # The library to test.
 LIB ?= build/lib/liblockmgr.a
 
-FILE ?= examples/two_sessions.steps
+FILE ?=
 STEP ?=
 DOT ?=
 FUZZ_SECONDS ?= 60
@@ -60,8 +64,8 @@ SONAME := liblockmgr.so.$(basename $(VERSION))
 C_TESTS := asan helpers room
 
 .NOTPARALLEL:
-.PHONY: help test proofs demo replay lib install model compare replays ctest workers install-test \
-	replay-test fuzz bench picture format format-check clean FORCE
+.PHONY: help test proofs demo replay statement lib install model compare replays statements ctest workers \
+	install-test replay-test statement-test fuzz bench picture format format-check clean FORCE
 
 # The lines above, up to the first that is no comment.
 help:
@@ -69,7 +73,8 @@ help:
 
 # The crates are proved first, and the tests run on the library of what was proved. The prover's verdict
 # is repeated as the last line.
-test: format-check model proofs compare replays ctest workers install-test replay-test demo
+test: format-check model proofs compare replays statements ctest workers install-test replay-test \
+	statement-test demo
 	@tail -n 1 build/proofs.log
 
 proofs:
@@ -82,9 +87,9 @@ lib: build/lib/liblockmgr.a $(SHARED) build/include/lockmgr.h
 define prove
 	@command -v rt > /dev/null || { \
 		echo "No command rt: the Rattle toolchain, which proves and compiles $(1), is missing."; \
-		echo "With a library that is built already, use LIB=path/to/liblockmgr.a."; exit 1; }
+		$(if $(filter liblockmgr,$(1)),echo "With a library that is built already: use LIB=path/to/liblockmgr.a.";) exit 1; }
 	@mkdir -p build
-	@echo "Proving and compiling $(1). This takes 2 to 5 minutes on two cores; see build/$(1).log."
+	@echo "Proving and compiling $(1). This takes up to 5 minutes on two cores; see build/$(1).log."
 	@$(2) > build/$(1).log 2>&1 || { tail -n 20 build/$(1).log; exit 1; }
 endef
 
@@ -94,10 +99,12 @@ build/lib/liblockmgr.a: $(PROVED)
 	@mkdir -p $(@D)
 	@cp target/staticlib/liblockmgr.a $@
 
-build/bin/replay: $(PROVED)
-	$(call prove,replay,rt check replay)
+PROGRAMS := replay statement
+
+$(PROGRAMS:%=build/bin/%): build/bin/%: $(PROVED)
+	$(call prove,$*,rt check $*)
 	@mkdir -p $(@D)
-	@cp target/bin/replay $@
+	@cp target/bin/$* $@
 
 # Made anew each time, since LIB may have been another.
 $(SHARED): $(LIB) FORCE
@@ -141,12 +148,19 @@ compare: $(LIB)
 	cargo run $(CARGO_COMPARE) --bin compare
 
 replays: build/bin/replay $(LIB)
-	cargo run $(CARGO_COMPARE) --bin replays -- $(abspath $<)
+	timeout 600 cargo run $(CARGO_COMPARE) --bin replays -- $(abspath $<)
+
+statements: build/bin/statement $(LIB)
+	timeout 600 cargo run $(CARGO_COMPARE) --bin statements -- $(abspath $<)
 
 replay: build/bin/replay build/bin/trace
-	@scripts/replay-input "$(FILE)" > build/replay.in
+	@scripts/replay-input "$(or $(FILE),examples/two_sessions.steps)" > build/replay.in
 	@build/bin/replay < build/replay.in > build/replay.out
 	@build/bin/trace build/replay.in build/replay.out $(if $(DOT),"$(STEP)" "$(DOT)")
+
+statement: build/bin/statement
+	@scripts/statement-input "$(or $(FILE),examples/week.days)" > build/statement.in
+	@build/bin/statement < build/statement.in
 
 # Each within a minute: a test that hangs has failed.
 ctest: $(C_TESTS:%=build/bin/%)
@@ -177,15 +191,19 @@ install-test: $(LIB)
 replay-test: build/bin/replay build/bin/trace
 	@timeout 60 tests/replay.sh
 
+statement-test: build/bin/statement
+	@timeout 60 tests/statement.sh
+
 fuzz: $(LIB)
 	cargo run $(CARGO_COMPARE) --bin fuzz -- $(FUZZ_SECONDS) $(SEED)
 
 # An earlier library has to be a copy: the one that is built is written anew.
-bench: $(LIB) $(if $(BEFORE),$(SHARED)) build/bin/replay
+bench: $(LIB) $(if $(BEFORE),$(SHARED)) $(PROGRAMS:%=build/bin/%)
 	@[ -z "$(BEFORE)" ] || ! [ "$(BEFORE)" -ef $(SHARED) ] \
 		|| { echo "BEFORE is the library that is built now: keep a copy of the earlier one elsewhere."; exit 1; }
 	cargo run $(CARGO_COMPARE) --bin bench -- $(if $(BEFORE),"$(abspath $(BEFORE))" "$(abspath $(SHARED))")
 	cargo run $(CARGO_COMPARE) --bin replays -- $(abspath build/bin/replay) bench
+	cargo run $(CARGO_COMPARE) --bin statements -- $(abspath build/bin/statement) bench
 
 # The example's cycle, after the step that closes it.
 picture:

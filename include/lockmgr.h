@@ -223,7 +223,7 @@ extern "C" {
 #define LOCKMGR_VERSION_MAJOR 0
 #define LOCKMGR_VERSION_MINOR 4
 #define LOCKMGR_VERSION_PATCH 0
-#define LOCKMGR_VERSION "0.4.0"
+#define LOCKMGR_VERSION "0.4.1"
 
 /* One number that grows with the version. */
 #define LOCKMGR_VERSION_NUMBER \
@@ -350,7 +350,8 @@ enum lockmgr_verb {
  *
  * lockmgr_start gives only 2; lockmgr_step gives 1 to 9; lockmgr_drain gives
  * only 2, 3 and 4; lockmgr_report gives only 2, 3 and 5; lockmgr_cycle_text
- * gives only 2, 3, 5, 10 and 11.
+ * gives only 2, 3, 5, 10 and 11. No call gives 12 or 13: they are what the
+ * statement program prints in place of a statement.
  */
 enum lockmgr_refusal {
     /* The call was accepted. */
@@ -383,7 +384,12 @@ enum lockmgr_refusal {
     /* Cycle text: the session lies on no cycle. */
     LOCKMGR_NO_CYCLE = 10,
     /* Cycle text: the buffer is shorter than the text. */
-    LOCKMGR_SHORT_BUFFER = 11
+    LOCKMGR_SHORT_BUFFER = 11,
+    /* Statement: the list has not 1 to 366 days, or not the length that belongs
+     * to them, or on some day more sessions were rolled back than took part. */
+    LOCKMGR_BAD_LIST = 12,
+    /* Statement: no session took part on any day. */
+    LOCKMGR_NOBODY = 13
 };
 
 /* Stages of a session; see above. */
@@ -630,8 +636,9 @@ static inline const char *lockmgr_text_(const char *const *texts, size_t count, 
 static inline const char *lockmgr_refusal_text(uint64_t refusal)
 {
     static const char *const texts[] = {
-        "accepted",    "bad verb",   "bad size",   "bad table", "bad mail", "bad number",
-        "wrong stage", "wrong item", "no message", "mail full", "no cycle", "short buffer",
+        "accepted",   "bad verb",     "bad size",   "bad table",  "bad mail",
+        "bad number", "wrong stage",  "wrong item", "no message", "mail full",
+        "no cycle",   "short buffer", "bad list",   "nobody",
     };
     return lockmgr_text_(texts, sizeof texts / sizeof texts[0], refusal);
 }

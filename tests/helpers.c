@@ -77,7 +77,7 @@ static void check_texts(const char *text(uint64_t number), unsigned first, unsig
 
 static void test_texts(void)
 {
-    check_texts(lockmgr_refusal_text, LOCKMGR_ACCEPTED, LOCKMGR_SHORT_BUFFER);
+    check_texts(lockmgr_refusal_text, LOCKMGR_ACCEPTED, LOCKMGR_NOBODY);
     check_texts(lockmgr_verb_text, LOCKMGR_REQUEST, LOCKMGR_DELIVER_TO_SESSION);
     check_texts(lockmgr_stage_text, LOCKMGR_GROWING, LOCKMGR_ROLLED_BACK);
     check_texts(lockmgr_kind_text, LOCKMGR_MSG_REQUEST, LOCKMGR_MSG_WITHDRAWN);

@@ -16,6 +16,7 @@ pub mod misreading;
 pub mod replay;
 pub mod scenario;
 pub mod session;
+pub mod statement;
 pub mod table;
 pub mod waits;
 
@@ -26,3 +27,4 @@ pub use calls::{
 pub use config::Config;
 pub use misreading::Misreading;
 pub use replay::replay;
+pub use statement::{statement, statement_as};

@@ -29,6 +29,18 @@ pub enum Misreading {
     LimitBeforeEmpty,
     /// F-2 with the limit judged before the next delivery is tried.
     LimitBeforeFull,
+    /// F-5 with the rate rounded up.
+    RoundsUp,
+    /// F-5 with the sums of the first 365 days.
+    OmitsDay366,
+    /// F-5 with 13 judged before a day that has more rolled back than taken part.
+    NobodyFirst,
+    /// F-5 with a day refused that has as many rolled back as taken part.
+    RefusesEqual,
+    /// F-5 with the array of sessions rolled back first.
+    ExchangesArrays,
+    /// F-5 with a list accepted that is one byte too long.
+    AcceptsLonger,
 }
 
 impl Misreading {
@@ -48,6 +60,16 @@ impl Misreading {
         Misreading::CountsRefused,
         Misreading::LimitBeforeEmpty,
         Misreading::LimitBeforeFull,
+    ];
+
+    /// Those of F-5. The comparison of the statement program notices each.
+    pub const OF_F5: [Misreading; 6] = [
+        Misreading::RoundsUp,
+        Misreading::OmitsDay366,
+        Misreading::NobodyFirst,
+        Misreading::RefusesEqual,
+        Misreading::ExchangesArrays,
+        Misreading::AcceptsLonger,
     ];
 
     /// Rules that a request has replaced. Demand 3 holds under them too; the

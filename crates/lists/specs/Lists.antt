@@ -1,7 +1,7 @@
 -- Tests on numbers and lists, and what the other definitions do with lists.
 use Prim.Native.Nat.{ℕ, zero, suc, _+_}
 use mathlib.Core.Bool.{Bool, true, false, cond, not, _&&_, _||_}
-use mathlib.Core.List.{List, [], _∷_}
+use mathlib.Core.List.{List, [], _∷_, _++_}
 use lib.Dec.{eqb, leb}
 
 -- low ≤ n ≤ high
@@ -69,3 +69,8 @@ module _ {A : Type 0} where
   unfoldable pub tabulate : ℕ → (ℕ → A) → List A
   tabulate zero f = []
   tabulate (suc n) f = f 0 ∷ tabulate n (λ k. f (suc k))
+
+  -- f 1, .., f n, one behind the other
+  unfoldable pub appendUpTo : ℕ → (ℕ → List A) → List A
+  appendUpTo zero f = []
+  appendUpTo (suc n) f = appendUpTo n f ++ f (suc n)

@@ -47,6 +47,14 @@ noCycle = 10
 abbrev pub shortBuffer : ℕ
 shortBuffer = 11
 
+-- RULES 8.12
+abbrev pub badList : ℕ
+badList = 12
+
+-- RULES 8.13
+abbrev pub nobody : ℕ
+nobody = 13
+
 -- a cause that holds or not
 pub record Cause : Type 0 where
   pub holds : Bool

@@ -20,3 +20,7 @@ pub const MAIL_FULL: u8 = 9;
 pub const NO_CYCLE: u8 = 10;
 
 pub const SHORT_BUFFER: u8 = 11;
+
+pub const BAD_LIST: u8 = 12;
+
+pub const NOBODY: u8 = 13;

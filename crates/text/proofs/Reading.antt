@@ -7,7 +7,7 @@ use native.Mathlib.Omega.{arith}
 use borrow.Author.Tests.{ltb-true, ltb-false}
 use lib.Dec.{ltb}
 use Rattle.lists.proofs.Tests.{by-test, between-intro}
-use Rattle.text.specs.Text.{digit, digits, decimal}
+use Rattle.text.specs.Text.{space, lineFeed, digit, digits, decimal, spaced, rest, line}
 use Rattle.text.specs.Reading.{isDigit, withDigit, numbers, numberFrom}
 
 -- a byte that is no digit is passed over
@@ -36,3 +36,16 @@ numbers-digits (suc k) n l h =
 pub numbers-decimal : (n c : ℕ) (l : List ℕ) → isDigit c ≡ false → numbers (decimal n ++ (c ∷ l)) ≡ n ∷ numbers l
 unfolding numbers decimal
 numbers-decimal n c l e = numbers-digits (suc n) n (c ∷ l) (omega arith) ∙ rw (e) refl
+
+-- the numbers of a line are read back
+numbers-rest : (n : ℕ) (l k : List ℕ) → numbers (decimal n ++ (rest l ++ k)) ≡ n ∷ (l ++ numbers k)
+unfolding spaced
+numbers-rest n [] k = numbers-decimal n lineFeed k refl
+numbers-rest n (m ∷ l) k =
+    numbers-decimal n space (((decimal m ++ spaced l) ++ (lineFeed ∷ [])) ++ k) refl
+    ∙ ap (λ (j : List ℕ). n ∷ numbers j)
+    (ap (λ (j : List ℕ). j ++ k) (append-assoc (decimal m) (spaced l) (lineFeed ∷ [])) ∙ append-assoc (decimal m) (rest l) k)
+    ∙ ap (λ (j : List ℕ). n ∷ j) (numbers-rest m l k)
+
+pub numbers-line : (n : ℕ) (l k : List ℕ) → numbers (line n l ++ k) ≡ n ∷ (l ++ numbers k)
+numbers-line n l k = ap numbers (append-assoc (decimal n) (rest l) k) ∙ numbers-rest n l k

@@ -1,0 +1,38 @@
+-- The input of the statement program: the number of days n, then the sessions taken part on day 1 to n, then the sessions rolled back on day 1 to n. Each value has 2 bytes. RULES is docs/RULES.md.
+use Prim.Native.Nat.{ℕ, _+_, _*_}
+use mathlib.Core.Bool.{Bool, _&&_}
+use mathlib.Core.List.{List}
+use lib.Dec.{eqb, leb}
+use lib.ListN.{length}
+use Rattle.lists.specs.Lists.{between, every}
+use Rattle.buffer.specs.Bytes.{slice, fromBytes}
+use Rattle.yearly.specs.declared.Record.{Record}
+
+-- value i, from 0
+abbrev pub valueAt : List ℕ → ℕ → ℕ
+valueAt input i = fromBytes (slice input (2 * i) 2)
+
+abbrev pub daysIn : List ℕ → ℕ
+daysIn input = valueAt input 0
+
+-- the record of a day, from 1: sessions taken part, sessions rolled back
+unfoldable pub recordAt : List ℕ → ℕ → Record
+recordAt input day = record { sessions = valueAt input day; rollbacks = valueAt input (daysIn input + day) }
+
+abbrev pub maxDays : ℕ
+maxDays = 366
+
+-- the length of an input of n days
+abbrev pub size : ℕ → ℕ
+size n = 2 * (1 + 2 * n)
+
+-- the number of days is within bounds, and the length is that of so many days: RULES 12.1
+unfoldable pub sized : List ℕ → Bool
+sized input = between 1 maxDays (daysIn input) && eqb (length input) (size (daysIn input))
+
+-- no more rolled back than taken part
+abbrev pub consistentDay : Record → Bool
+consistentDay r = leb (r .rollbacks) (r .sessions)
+
+unfoldable pub consistent : List ℕ → Bool
+consistent input = every (daysIn input) (λ day. consistentDay (recordAt input day))

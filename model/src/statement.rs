@@ -1,0 +1,102 @@
+//! The statement program of F-5, as a function from its standard input to its
+//! standard output.
+
+use crate::layout::{read_u16, within};
+use crate::misreading::Misreading;
+
+/// F-5: "the number of days (2 bytes, 1 to 366)", then "2-byte values".
+pub const MAX_DAYS: usize = 366;
+const VALUE: usize = 2;
+
+/// The program's refusals, which no call gives. F-5: "A list of the wrong length
+/// or day count, or a day that has more rolled back than taken part, is refused
+/// with 12, and a list in which nobody took part with 13".
+pub const BAD_LIST: u8 = 12;
+pub const NOBODY: u8 = 13;
+
+/// Sessions taken part and sessions rolled back.
+pub type Day = (u16, u16);
+
+/// The input that gives a number of days, right or wrong, and then these days.
+pub fn input(count: u16, days: &[Day]) -> Vec<u8> {
+    let taken_part = days.iter().map(|day| day.0);
+    let rolled_back = days.iter().map(|day| day.1);
+    let values = [count].into_iter().chain(taken_part).chain(rolled_back);
+    values.flat_map(u16::to_le_bytes).collect()
+}
+
+pub fn statement(input: &[u8]) -> Vec<u8> {
+    statement_as(Misreading::None, input)
+}
+
+/// A statement by the rules, or by one misreading of them. F-5: "A refused list
+/// prints its number alone."
+pub fn statement_as(misreading: Misreading, input: &[u8]) -> Vec<u8> {
+    try_statement(misreading, input)
+        .unwrap_or_else(|refusal| format!("{refusal}\n"))
+        .into_bytes()
+}
+
+/// The refusals "in that order", then the text.
+fn try_statement(misreading: Misreading, input: &[u8]) -> Result<String, u8> {
+    let days = read(misreading, input).ok_or(BAD_LIST)?;
+    let summed = match misreading {
+        Misreading::OmitsDay366 => &days[..days.len().min(365)],
+        _ => &days,
+    };
+    let taken_part: u64 = summed.iter().map(|day| u64::from(day.0)).sum();
+    let rolled_back: u64 = summed.iter().map(|day| u64::from(day.1)).sum();
+    if taken_part == 0 && misreading == Misreading::NobodyFirst {
+        return Err(NOBODY);
+    }
+    if days.iter().any(|&day| too_many(misreading, day)) {
+        return Err(BAD_LIST);
+    }
+    if taken_part == 0 {
+        return Err(NOBODY);
+    }
+
+    // F-5: "a line a day (day from 1, taken part, rolled back), then one line
+    // with both sums and rolled back per thousand taken part"
+    let mut text = String::new();
+    for (number, day) in (1..).zip(&days) {
+        text += &format!("{number} {} {}\n", day.0, day.1);
+    }
+    let rate = rate(misreading, taken_part, rolled_back);
+    text += &format!("{taken_part} {rolled_back} {rate}\n");
+    Ok(text)
+}
+
+/// The days of a list of the right length and day count. F-5: "then two parallel
+/// arrays of 2-byte values, sessions taken part and sessions rolled back".
+fn read(misreading: Misreading, input: &[u8]) -> Option<Vec<Day>> {
+    let (days, rest) = input.split_at_checked(VALUE)?;
+    let days = within(read_u16(days).into(), MAX_DAYS)?;
+    let (first, rest) = rest.split_at_checked(VALUE * days)?;
+    let (second, rest) = rest.split_at_checked(VALUE * days)?;
+    if rest.len() > usize::from(misreading == Misreading::AcceptsLonger) {
+        return None;
+    }
+    let (taken_part, rolled_back) = match misreading {
+        Misreading::ExchangesArrays => (second, first),
+        _ => (first, second),
+    };
+    let pairs = taken_part.chunks(VALUE).zip(rolled_back.chunks(VALUE));
+    Some(pairs.map(|(t, r)| (read_u16(t), read_u16(r))).collect())
+}
+
+/// F-5: "a day that has more rolled back than taken part".
+fn too_many(misreading: Misreading, (taken_part, rolled_back): Day) -> bool {
+    match misreading {
+        Misreading::RefusesEqual => rolled_back >= taken_part,
+        _ => rolled_back > taken_part,
+    }
+}
+
+/// F-5: "rolled back per thousand taken part, rounded down". Somebody took part.
+fn rate(misreading: Misreading, taken_part: u64, rolled_back: u64) -> u64 {
+    match misreading {
+        Misreading::RoundsUp => (1000 * rolled_back).div_ceil(taken_part),
+        _ => 1000 * rolled_back / taken_part,
+    }
+}
