@@ -1,4 +1,4 @@
--- The causes for which a call is refused (01: turned back), by number. RULES is docs/RULES.md.
+-- The causes for which a call or a list of days is refused (01: turned back), by number. RULES is docs/RULES.md.
 use Prim.Native.Nat.{ℕ}
 use mathlib.Core.Bool.{Bool, cond}
 use mathlib.Core.List.{List, [], _∷_}

@@ -1,4 +1,4 @@
-// The causes for which a call is refused, by number.
+// The causes for which a call or a list of days is refused, by number.
 pub const BAD_VERB: u8 = 1;
 
 pub const BAD_SIZE: u8 = 2;

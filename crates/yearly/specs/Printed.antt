@@ -54,5 +54,6 @@ longestLine = 3 + 2 * 6 + 1
 abbrev pub longestLast : ℕ
 longestLast = 8 + 9 + 5 + 1
 
+-- no output is longer
 abbrev pub longest : ℕ
 longest = longestLine * maxDays + longestLast
