@@ -17,7 +17,7 @@ use Rattle.refusal.proofs.Causes.{unmet, unmet-not}
 use Rattle.text.specs.Text.{line}
 use Rattle.text.proofs.Laws.{line-short, spaced-longer, spaced-none}
 use Rattle.yearly.specs.declared.Record.{Record}
-use Rattle.yearly.specs.Input.{daysIn, recordAt, maxDays, size, sized, consistentDay, consistent}
+use Rattle.yearly.specs.Input.{daysIn, takenPart, rolledBack, maxDays, size, sized, consistentDay, consistent}
 use Rattle.yearly.specs.Rate.{rate}
 use Rattle.yearly.specs.Printed.{sums, refusal, dayLine, lastLine, dayLines, statement, longestLine, longestLast}
 use Rattle.yearly.specs.Parts.{Days, maxValue}
@@ -68,8 +68,8 @@ accepted input e =
       whole = both .0;
       some = omega (arith, eqb-false s 0 (none .0));
       fewer =
-          sum-mono (daysIn input) (λ day. recordAt input day .rollbacks) (λ day. recordAt input day .sessions)
-          (λ day lo hi. leb-true (recordAt input day .rollbacks) (recordAt input day .sessions) (every-at (daysIn input) (λ d. consistentDay (recordAt input d)) (both .1) day lo hi));
+          sum-mono (daysIn input) (rolledBack input) (takenPart input)
+          (λ day lo hi. leb-true (rolledBack input day) (takenPart input day) (every-at (daysIn input) (consistentDay input) (both .1) day lo hi));
     }
 
 -- ---- what is printed

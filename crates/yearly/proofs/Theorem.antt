@@ -11,7 +11,7 @@ use Rattle.text.specs.Text.{line}
 use Rattle.text.specs.Reading.{numbers}
 use Rattle.text.proofs.Reading.{numbers-line}
 use Rattle.program.proofs.Laws.{refused-longer}
-use Rattle.yearly.specs.Input.{daysIn, recordAt, maxDays, size, sized}
+use Rattle.yearly.specs.Input.{daysIn, takenPart, rolledBack, maxDays, size, sized}
 use Rattle.yearly.specs.Rate.{rate}
 use Rattle.yearly.specs.Printed.{sums, dayLine, dayLines, lastLine, statement}
 use Rattle.yearly.specs.Claims.{dayNumbers, SumsPrinted, Enough}
@@ -22,8 +22,7 @@ days-read : (input : List ℕ) (n : ℕ) (k : List ℕ) → numbers (dayLines in
 unfolding appendUpTo dayLine
 days-read input zero k = refl
 days-read input (suc n) k =
-    let r = recordAt input (suc n) in
-    let now = r .sessions ∷ r .rollbacks ∷ [] in
+    let now = takenPart input (suc n) ∷ rolledBack input (suc n) ∷ [] in
     ap numbers (append-assoc (dayLines input n) (line (suc n) now) k)
     ∙ days-read input n (line (suc n) now ++ k)
     ∙ ap (λ (l : List ℕ). dayNumbers input n ++ l) (numbers-line (suc n) now k)

@@ -5,21 +5,21 @@ use mathlib.Core.List.{List, [], _∷_, _++_}
 use Rattle.lists.specs.Lists.{sumUpTo, appendUpTo}
 use Rattle.text.specs.Reading.{numbers}
 use Rattle.program.specs.Program.{DecidedBy}
-use Rattle.yearly.specs.Input.{daysIn, recordAt, maxDays, size}
+use Rattle.yearly.specs.Input.{daysIn, takenPart, rolledBack, maxDays, size}
 use Rattle.yearly.specs.Rate.{rate}
 use Rattle.yearly.specs.Printed.{refusal, statement}
 
 -- the numbers of the records of the days 1 to n: day, sessions taken part, sessions rolled back
 abbrev pub dayNumbers : List ℕ → ℕ → List ℕ
-dayNumbers input n = appendUpTo n (λ day. day ∷ recordAt input day .sessions ∷ recordAt input day .rollbacks ∷ [])
+dayNumbers input n = appendUpTo n (λ day. day ∷ takenPart input day ∷ rolledBack input day ∷ [])
 
 -- where a list is not refused, the numbers that stand in what is printed are those of the records, then the sums of the records, then the rate: RULES 12.7
 abbrev pub SumsPrinted : Type 0
 SumsPrinted =
     (input : List ℕ) → refusal input ≡ 0
     → let n = daysIn input in
-    let sessions = sumUpTo n (λ day. recordAt input day .sessions) in
-    let rollbacks = sumUpTo n (λ day. recordAt input day .rollbacks) in
+    let sessions = sumUpTo n (takenPart input) in
+    let rollbacks = sumUpTo n (rolledBack input) in
     numbers (statement input) ≡ dayNumbers input n ++ (sessions ∷ rollbacks ∷ rate rollbacks sessions ∷ [])
 
 -- the rate is the greatest whole number that is not above the exact rate: RULES 12.5

@@ -15,9 +15,16 @@ valueAt input i = fromBytes (slice input (2 * i) 2)
 abbrev pub daysIn : List ℕ → ℕ
 daysIn input = valueAt input 0
 
--- the record of a day, from 1: sessions taken part, sessions rolled back
-unfoldable pub recordAt : List ℕ → ℕ → Record
-recordAt input day = record { sessions = valueAt input day; rollbacks = valueAt input (daysIn input + day) }
+-- sessions taken part on a day, from 1
+abbrev pub takenPart : List ℕ → ℕ → ℕ
+takenPart input day = valueAt input day
+
+-- sessions rolled back on that day
+abbrev pub rolledBack : List ℕ → ℕ → ℕ
+rolledBack input day = valueAt input (daysIn input + day)
+
+abbrev pub recordAt : List ℕ → ℕ → Record
+recordAt input day = record { sessions = takenPart input day; rollbacks = rolledBack input day }
 
 abbrev pub maxDays : ℕ
 maxDays = 366
@@ -30,9 +37,9 @@ size n = 2 * (1 + 2 * n)
 unfoldable pub sized : List ℕ → Bool
 sized input = between 1 maxDays (daysIn input) && eqb (length input) (size (daysIn input))
 
--- no more rolled back than taken part
-abbrev pub consistentDay : Record → Bool
-consistentDay r = leb (r .rollbacks) (r .sessions)
+-- on a day no more are rolled back than took part
+abbrev pub consistentDay : List ℕ → ℕ → Bool
+consistentDay input day = leb (rolledBack input day) (takenPart input day)
 
 unfoldable pub consistent : List ℕ → Bool
-consistent input = every (daysIn input) (λ day. consistentDay (recordAt input day))
+consistent input = every (daysIn input) (consistentDay input)

@@ -8,16 +8,13 @@ use Rattle.refusal.specs.Refusal
 use Rattle.refusal.specs.Refusal.{Cause, cause, first}
 use Rattle.text.specs.Text.{line}
 use Rattle.yearly.specs.declared.Record.{Record}
-use Rattle.yearly.specs.Input.{daysIn, recordAt, maxDays, sized, consistent}
+use Rattle.yearly.specs.Input.{daysIn, takenPart, rolledBack, recordAt, maxDays, sized, consistent}
 use Rattle.yearly.specs.Rate.{rate}
 
 -- the sums of the records of all days
 unfoldable pub sums : List ℕ → Record
 sums input =
-    record {
-      sessions = sumUpTo (daysIn input) (λ day. recordAt input day .sessions);
-      rollbacks = sumUpTo (daysIn input) (λ day. recordAt input day .rollbacks);
-    }
+    record { sessions = sumUpTo (daysIn input) (takenPart input); rollbacks = sumUpTo (daysIn input) (rolledBack input) }
 
 -- RULES 8.12 and 8.13
 abbrev pub causes : List ℕ → List Cause

@@ -8,12 +8,12 @@ use Rattle.lists.specs.Lists.{every}
 use Rattle.lists.proofs.Tests.{and-intro}
 use Rattle.lists.proofs.Searches.{every-false}
 use Rattle.yearly.specs.declared.Record.{Record}
-use Rattle.yearly.specs.Input.{daysIn, recordAt, consistentDay, consistent}
+use Rattle.yearly.specs.Input.{daysIn, takenPart, rolledBack, recordAt, consistentDay, consistent}
 use Rattle.yearly.proofs.consistent.Statement.{statement}
 use Rattle.yearly.proofs.consistent.Tie as tie
 
 abbrev Inv-loop : tie.InvT-loop
-Inv-loop input n day₀ day = (k : ℕ) × (day ≡ suc k) × (k ≤ n) × (every k (λ d. consistentDay (recordAt input d)) ≡ true)
+Inv-loop input n day₀ day = (k : ℕ) × (day ≡ suc k) × (k ≤ n) × (every k (consistentDay input) ≡ true)
 
 abbrev μ-loop : tie.MeasureT-loop
 μ-loop input n day₀ day = suc n - day
@@ -37,8 +37,8 @@ returns c =
     let s = r .before .before .before .before in
     let t = s .args .input .now in
     let e = read r in
-    let more = lt-leb (recordAt t (l .day) .rollbacks) (recordAt t (l .day) .sessions) (omega (arith, c .if1 .taken, ap (λ (q : Record). q .sessions) e, ap (λ (q : Record). q .rollbacks) e)) in
-    sym (every-false (daysIn t) (λ d. consistentDay (recordAt t d)) (l .day) (omega (arith, l .inv .1)) (omega (arith, s .pre .count)) more)
+    let more = lt-leb (rolledBack t (l .day)) (takenPart t (l .day)) (omega (arith, c .if1 .taken, ap (λ (q : Record). q .sessions) e, ap (λ (q : Record). q .rollbacks) e)) in
+    sym (every-false (daysIn t) (consistentDay t) (l .day) (omega (arith, l .inv .1)) (omega (arith, s .pre .count)) more)
 
 add-day : tie.Need-add-day Inv-loop μ-loop
 add-day c = let s = c .before .before .before .before .before .before in omega (arith, s .pre .few)
@@ -57,7 +57,7 @@ loop-again c =
       suc k,
       omega (arith, l .inv .1),
       omega (arith, l .inv .1),
-      and-intro (l .inv .3) (le-leb (recordAt t (suc k) .rollbacks) (recordAt t (suc k) .sessions) (omega (arith, c .if1 .left, ap (λ (q : Record). q .sessions) e, ap (λ (q : Record). q .rollbacks) e))),
+      and-intro (l .inv .3) (le-leb (rolledBack t (suc k)) (takenPart t (suc k)) (omega (arith, c .if1 .left, ap (λ (q : Record). q .sessions) e, ap (λ (q : Record). q .rollbacks) e))),
     )
 
 returns-2 : tie.Need-returns-2 Inv-loop μ-loop

@@ -1,7 +1,6 @@
 -- `read_day` meets its contract: both places lie within the input.
 use mathlib.Core.Path.{refl}
 use borrow.Author.Needs.{needs}
-use Rattle.yearly.specs.Input.{recordAt}
 use Rattle.yearly.proofs.read_day.Statement.{statement}
 use Rattle.yearly.proofs.read_day.Tie as tie
 
@@ -15,7 +14,6 @@ value-requires-2 : tie.Need-value-requires-2
 value-requires-2 c κs = search needs
 
 returns : tie.Need-returns
-unfolding recordAt
 returns c =
     let v = c .before .value .ensures in
     let w = c .value2 .ensures in

@@ -4,7 +4,7 @@ use Prim.Native.Nat.{ℕ, suc, _-_, _*_, _≤_}
 use native.Mathlib.Omega.{arith}
 use Rattle.lists.specs.Lists.{sumUpTo}
 use Rattle.yearly.specs.declared.Record.{Record}
-use Rattle.yearly.specs.Input.{daysIn, recordAt}
+use Rattle.yearly.specs.Input.{daysIn, takenPart, rolledBack}
 use Rattle.yearly.specs.Printed.{sums}
 use Rattle.yearly.specs.Parts.{maxValue}
 use Rattle.yearly.proofs.sums.Statement.{statement}
@@ -13,7 +13,7 @@ use Rattle.yearly.proofs.sums.Tie as tie
 abbrev Inv-loop : tie.InvT-loop
 Inv-loop input days sessions₀ rollbacks₀ day₀ sessions rollbacks day =
     (k : ℕ) × (day ≡ suc k) × (k ≤ days)
-    × (sessions ≡ sumUpTo k (λ d. recordAt input d .sessions)) × (rollbacks ≡ sumUpTo k (λ d. recordAt input d .rollbacks))
+    × (sessions ≡ sumUpTo k (takenPart input)) × (rollbacks ≡ sumUpTo k (rolledBack input))
     × (sessions ≤ k * maxValue) × (rollbacks ≤ k * maxValue)
 
 abbrev μ-loop : tie.MeasureT-loop
