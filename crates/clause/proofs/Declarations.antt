@@ -13,38 +13,38 @@ use Rattle.step.specs.Step.{Stepped}
 use Rattle.deadlock.specs.Machine
 use Rattle.deadlock.specs.Statement as MachineStatement
 use Rattle.deadlock.proofs.Theorem as MachineTheorem
-use Rattle.agreement.proofs.RulesLaws.{rules-laws}
+use Rattle.lockmgr.specs.Calls.{Config}
 use Rattle.lockmgr.specs.Run.{Step, buffers, done}
 use Rattle.clause.specs.Statement.{TrueDeclaration, DeclarationsTrue}
-use Rattle.clause.proofs.State.{machineOf, stateOf, Good}
+use Rattle.clause.proofs.State.{machineOf, machine-laws, stateOf, Good}
 use Rattle.clause.proofs.Cycles.{reached-of, on-cycle-of}
 use Rattle.clause.proofs.Moves.{Moved}
 use Rattle.clause.proofs.Step.{by-step}
 use Rattle.clause.proofs.Follow.{anything, ran, step-is}
 
 -- what is guaranteed of the machine with the lock manager's seniority and next holder
-pub guaranteed : (S M : ℕ) → MachineStatement.Guarantees (machineOf S M) anything
-guaranteed S M = MachineTheorem.theorem (machineOf S M) (rules-laws S M) anything
+pub guaranteed : (conf : Config) → MachineStatement.Guarantees (machineOf conf) anything
+guaranteed conf = MachineTheorem.theorem (machineOf conf) (machine-laws conf) anything
 
 -- a declaration that is true in the state is true in the table that says it
-true-in-table : (S M C : ℕ) (table : List ℕ) (l : List Entry) → Good S M C table l → (v i : ℕ)
-    → MachineStatement.TrueDeclaration (machineOf S M) (stateOf S M table l) v i → TrueDeclaration table v i
-true-in-table S M C table l g v i d =
-    let at : (n : ℕ) → Machine.reached (machineOf S M) (stateOf S M table l) n i ≡ Waits.reached (waitsFor table) n i = λ n. reached-of S M C table l g n i in
+true-in-table : (conf : Config) (table : List ℕ) (l : List Entry) → Good conf table l → (v i : ℕ)
+    → MachineStatement.TrueDeclaration (machineOf conf) (stateOf conf table l) v i → TrueDeclaration table v i
+true-in-table conf table l g v i d =
+    let at : (n : ℕ) → Machine.reached (machineOf conf) (stateOf conf table l) n i ≡ Waits.reached (waitsFor table) n i = λ n. reached-of conf table l g n i in
     record {
       known = (d .low, rw (g .sessions) (d .high));
-      on-cycle = eqb-false (cycleLength table i) 0 (not-true (eqb (cycleLength table i) 0) (sym (on-cycle-of S M C table l g i) ∙ d .on-cycle));
+      on-cycle = eqb-false (cycleLength table i) 0 (not-true (eqb (cycleLength table i) 0) (sym (on-cycle-of conf table l g i) ∙ d .on-cycle));
       most-senior = λ n. rw (at n) at (d .most-senior n);
       member = (d .victim-member .0, sym (at (d .victim-member .0)) ∙ d .victim-member .1);
       most-junior = λ n. rw (at n) at (d .most-junior n);
     }
 
 -- one call more at the end of a run
-run-then : (S M : ℕ) (s : Machine.State) (cs : List Machine.Call) (c : Machine.Call)
-    → ran S M s (cs ++ (c ∷ [])) .state ≡ Machine.step (machineOf S M) anything (ran S M s cs .state) c .state
+run-then : (conf : Config) (s : Machine.State) (cs : List Machine.Call) (c : Machine.Call)
+    → ran conf s (cs ++ (c ∷ [])) .state ≡ Machine.step (machineOf conf) anything (ran conf s cs .state) c .state
 unfolding Machine.run
-run-then S M s [] c = refl
-run-then S M s (d ∷ cs) c = run-then S M (Machine.step (machineOf S M) anything s d .state) cs c
+run-then conf s [] c = refl
+run-then conf s (d ∷ cs) c = run-then conf (Machine.step (machineOf conf) anything s d .state) cs c
 
 -- what is to hold of the first step, which leaves and answers r, and of the others
 abbrev From : List Step → Stepped → Type 0
@@ -52,32 +52,32 @@ From steps r =
     (r .answer .victim ≢ 0 → r .answer .initiator ≢ 0 → TrueDeclaration (r .table) (r .answer .victim) (r .answer .initiator))
     × DeclarationsTrue (done (buffers (r .table) (r .mail)) steps)
 
-module _ (S M C : ℕ) where
+module _ (conf : Config) where
   abbrev begun : Machine.State
-  begun = Machine.start (machineOf S M)
+  begun = Machine.start (machineOf conf)
 
   -- after a run of the machine from its start, a move
-  module _ (table : List ℕ) (l : List Entry) (verb t : ℕ) (r : Stepped) (m : Moved S M C table l verb t r)
-      (cs : List Machine.Call) (e : ran S M begun cs .state ≡ stateOf S M table l) where
-    stepped-to : Machine.step (machineOf S M) anything (ran S M begun cs .state) (m .call) ≡ record { state = stateOf S M (r .table) (m .entries); event = m .event }
-    stepped-to = ap (λ (s : Machine.State). Machine.step (machineOf S M) anything s (m .call)) e ∙ step-is S M C table l verb t r m
+  module _ (table : List ℕ) (l : List Entry) (verb t : ℕ) (r : Stepped) (m : Moved conf table l verb t r)
+      (cs : List Machine.Call) (e : ran conf begun cs .state ≡ stateOf conf table l) where
+    stepped-to : Machine.step (machineOf conf) anything (ran conf begun cs .state) (m .call) ≡ record { state = stateOf conf (r .table) (m .entries); event = m .event }
+    stepped-to = ap (λ (s : Machine.State). Machine.step (machineOf conf) anything s (m .call)) e ∙ step-is conf table l verb t r m
 
-    pub run-on : ran S M begun (cs ++ (m .call ∷ [])) .state ≡ stateOf S M (r .table) (m .entries)
-    run-on = run-then S M begun cs (m .call) ∙ ap (λ (s : Machine.Stepped). s .state) stepped-to
+    pub run-on : ran conf begun (cs ++ (m .call ∷ [])) .state ≡ stateOf conf (r .table) (m .entries)
+    run-on = run-then conf begun cs (m .call) ∙ ap (λ (s : Machine.Stepped). s .state) stepped-to
 
     pub declares-truly : r .answer .victim ≢ 0 → TrueDeclaration (r .table) (r .answer .victim) (r .answer .initiator)
     declares-truly n =
         let d : Machine.Declaration = record { victim = r .answer .victim; initiator = r .answer .initiator } in
-        let told = guaranteed S M .declarations-true cs (m .call) d (ap (λ (s : Machine.Stepped). s .event .declared) stepped-to ∙ m .declares n) in
-        true-in-table S M C (r .table) (m .entries) (m .good) (r .answer .victim) (r .answer .initiator) (rw (stepped-to) at told)
+        let told = guaranteed conf .declarations-true cs (m .call) d (ap (λ (s : Machine.Stepped). s .event .declared) stepped-to ∙ m .declares n) in
+        true-in-table conf (r .table) (m .entries) (m .good) (r .answer .victim) (r .answer .initiator) (rw (stepped-to) at told)
 
-  pub declarations : (steps : List Step) (table mail : List ℕ) (l : List Entry) → Good S M C table l → mail ≡ Mail.mailBytes C l
-      → (cs : List Machine.Call) → ran S M begun cs .state ≡ stateOf S M table l → DeclarationsTrue (done (buffers table mail) steps)
+  pub declarations : (steps : List Step) (table mail : List ℕ) (l : List Entry) → Good conf table l → mail ≡ Mail.mailBytes (conf .capacity) l
+      → (cs : List Machine.Call) → ran conf begun cs .state ≡ stateOf conf table l → DeclarationsTrue (done (buffers table mail) steps)
   unfolding done
   declarations [] table mail l g b cs e = tt
   declarations (c ∷ steps) table mail l g b cs e =
-      rw (b) (by-step S M C table l g (c .verb) (c .session) (c .item) (From steps)
-      (λ n _. ((λ v. absurd (v refl)), declarations steps table (Mail.mailBytes C l) l g refl cs e))
+      rw (b) (by-step conf table l g (c .verb) (c .session) (c .item) (From steps)
+      (λ n _. ((λ v. absurd (v refl)), declarations steps table (Mail.mailBytes (conf .capacity) l) l g refl cs e))
       (λ r m. (
         (λ v _. declares-truly table l (c .verb) (c .session) r m cs e v),
         declarations steps (r .table) (r .mail) (m .entries) (m .good) (m .mail) (cs ++ (m .call ∷ [])) (run-on table l (c .verb) (c .session) r m cs e),

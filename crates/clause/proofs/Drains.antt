@@ -16,7 +16,7 @@ use Rattle.mailbox.proofs.Laws as MailLaws
 use Rattle.step.specs.Step as Step
 use Rattle.step.specs.Step.{Stepped, Formed}
 use Rattle.drain.specs.Oldest.{verbOf}
-use Rattle.lockmgr.specs.Calls.{config}
+use Rattle.lockmgr.specs.Calls.{Config}
 use Rattle.lockmgr.specs.Run as Run
 use Rattle.lockmgr.specs.Run.{Buffers, buffers, doneOn, leftBy, done, left}
 use Rattle.lockmgr.specs.Drain.{oldest, limited, ending, deliveries, drainRefusal, drainSteps, drain}
@@ -33,11 +33,10 @@ use Rattle.bound.specs.Potential.{potential}
 use Rattle.bound.proofs.Theorem as BoundTheorem
 use Rattle.agreement.specs.Reading.{readEntries}
 use Rattle.agreement.proofs.MailboxAgrees.{length-readEntries}
-use Rattle.agreement.proofs.RulesLaws.{rules-laws}
 use Rattle.clause.specs.Statement.{opened}
 use Rattle.clause.specs.Drains.{isAccepted, DrainIsSteps, DrainEnds, DrainsEnd, BoundSmall}
 use Rattle.clause.proofs.State
-use Rattle.clause.proofs.State.{machineOf, stateOf, Good}
+use Rattle.clause.proofs.State.{machineOf, machine-laws, stateOf, Good}
 use Rattle.clause.proofs.Moves.{Moved}
 use Rattle.clause.proofs.Step.{by-step}
 use Rattle.clause.proofs.Follow.{anything}
@@ -84,46 +83,46 @@ all-made (suc n) b =
     (λ _ h. ap suc (all-made n (leftBy (doneOn b (oldest b))) h))
     (λ q h. absurd (eqb-false (ending b) limited q h))
 
-module _ (S M C : ℕ) where
+module _ (conf : Config) where
   abbrev R : Machine.Rules
-  R = machineOf S M
+  R = machineOf conf
 
   -- each makes the potential fall
-  module _ (table : List ℕ) (l : List Entry) (k : Invariant R (stateOf S M table l)) (verb t : ℕ) (r : Stepped) (m : Moved S M C table l verb t r) where
-    kept : Invariant R (stateOf S M (r .table) (m .entries))
-    kept = rw (m .moves) (invariant-move R (rules-laws S M) (stateOf S M table l) k (m .call) (m .of-machine))
+  module _ (table : List ℕ) (l : List Entry) (k : Invariant R (stateOf conf table l)) (verb t : ℕ) (r : Stepped) (m : Moved conf table l verb t r) where
+    kept : Invariant R (stateOf conf (r .table) (m .entries))
+    kept = rw (m .moves) (invariant-move R (machine-laws conf) (stateOf conf table l) k (m .call) (m .of-machine))
 
-    falls : between Step.deliverToItem Step.deliverToSession verb ≡ true → potential R (stateOf S M (r .table) (m .entries)) < potential R (stateOf S M table l)
-    falls d = rw (m .moves) (omega (arith, BoundTheorem.theorem R (rules-laws S M) .falls (stateOf S M table l) k (m .call) (m .of-machine) (m .delivers d)))
+    falls : between Step.deliverToItem Step.deliverToSession verb ≡ true → potential R (stateOf conf (r .table) (m .entries)) < potential R (stateOf conf table l)
+    falls d = rw (m .moves) (omega (arith, BoundTheorem.theorem R (machine-laws conf) .falls (stateOf conf table l) k (m .call) (m .of-machine) (m .delivers d)))
 
-  few : (n : ℕ) (table : List ℕ) (l : List Entry) → Good S M C table l → Invariant R (stateOf S M table l)
-      → length (deliveries n (buffers table (Mail.mailBytes C l))) ≤ potential R (stateOf S M table l)
+  few : (n : ℕ) (table : List ℕ) (l : List Entry) → Good conf table l → Invariant R (stateOf conf table l)
+      → length (deliveries n (buffers table (Mail.mailBytes (conf .capacity) l))) ≤ potential R (stateOf conf table l)
   unfolding deliveries
   few zero table l g k = omega arith
   few (suc n) table l g k =
-      let b = buffers table (Mail.mailBytes C l) in
-      by-test (λ (d : List Run.Step). length d ≤ potential R (stateOf S M table l)) (eqb (ending b) limited)
-      (λ q. by-step S M C table l g (oldest b .verb) (oldest b .session) (oldest b .item)
-      (λ (r : Stepped). r .answer .refusal ≡ 0 → length (oldest b ∷ deliveries n (buffers (r .table) (r .mail))) ≤ potential R (stateOf S M table l))
+      let b = buffers table (Mail.mailBytes (conf .capacity) l) in
+      by-test (λ (d : List Run.Step). length d ≤ potential R (stateOf conf table l)) (eqb (ending b) limited)
+      (λ q. by-step conf table l g (oldest b .verb) (oldest b .session) (oldest b .item)
+      (λ (r : Stepped). r .answer .refusal ≡ 0 → length (oldest b ∷ deliveries n (buffers (r .table) (r .mail))) ≤ potential R (stateOf conf table l))
       (λ i other z. absurd (other z))
       (λ r m _. rw (m .mail) (omega (arith, few n (r .table) (m .entries) (m .good) (kept table l k _ _ r m), falls table l k _ _ r m (is-delivery (Mail.entryAt (b .mail) 0)))))
-      (next-accepted table (Mail.mailBytes C l) (State.buffers-formed S M C table l g) (eqb-true (ending b) limited q)))
+      (next-accepted table (Mail.mailBytes (conf .capacity) l) (State.buffers-formed conf table l g) (eqb-true (ending b) limited q)))
       (λ _. omega arith)
 
   -- as the formula says
-  module _ (table : List ℕ) (l : List Entry) (g : Good S M C table l) (k : Invariant R (stateOf S M table l)) where
+  module _ (table : List ℕ) (l : List Entry) (g : Good conf table l) (k : Invariant R (stateOf conf table l)) where
     abbrev at : Buffers
-    at = buffers table (Mail.mailBytes C l)
+    at = buffers table (Mail.mailBytes (conf .capacity) l)
 
-    bound-of : (n : ℕ) → length (deliveries n at) ≤ deliveryBound S M (countOf (Mail.mailBytes C l))
+    bound-of : (n : ℕ) → length (deliveries n at) ≤ deliveryBound (conf .sessions) (conf .items) (countOf (Mail.mailBytes (conf .capacity) l))
     bound-of n =
-        let c : countOf (Mail.mailBytes C l) ≡ length (readEntries l) = MailLaws.count-mail C l (g .low) (g .high) (g .room) ∙ sym (length-readEntries l) in
-        rw (c) (omega (arith, few n table l g k, BoundTheorem.theorem R (rules-laws S M) .bounded (stateOf S M table l)))
+        let c : countOf (Mail.mailBytes (conf .capacity) l) ≡ length (readEntries l) = MailLaws.count-mail (conf .capacity) l (g .low) (g .high) (g .room) ∙ sym (length-readEntries l) in
+        rw (c) (omega (arith, few n table l g k, BoundTheorem.theorem R (machine-laws conf) .bounded (stateOf conf table l)))
 
-    drain-ends : (limit : ℕ) → DrainEnds (config S M C) at limit
+    drain-ends : (limit : ℕ) → DrainEnds conf at limit
     unfolding drain drainSteps
     drain-ends limit =
-        let z : drainRefusal at ≡ 0 = formed-zero table (Mail.mailBytes C l) (State.buffers-formed S M C table l g) in
+        let z : drainRefusal at ≡ 0 = formed-zero table (Mail.mailBytes (conf .capacity) l) (State.buffers-formed conf table l g) in
         record {
           bounded = rw (z) (bound-of limit);
           ends = λ h. rw (z) (λ q. omega (arith, bound-of limit, h, all-made limit at q));
@@ -131,12 +130,10 @@ module _ (S M C : ℕ) where
 
 pub drains-end : DrainsEnd
 drains-end c table mail e calls limit =
-    let S = c .sessions in
-    let M = c .items in
     let b = after (opened c table mail) calls in
     let h = followed c table mail e calls in
-    let k : Invariant (machineOf S M) (stateOf S M (b .table) (h .entries)) = rw (← h .state) (invariant (machineOf S M) (rules-laws S M) anything (h .run)) in
-    subst (λ (m : List ℕ). DrainEnds c (buffers (b .table) m) limit) (sym (h .mail)) (drain-ends S M (c .capacity) (b .table) (h .entries) (h .good) k limit)
+    let k : Invariant (machineOf c) (stateOf c (b .table) (h .entries)) = rw (← h .state) (invariant (machineOf c) (machine-laws c) anything (h .run)) in
+    subst (λ (m : List ℕ). DrainEnds c (buffers (b .table) m) limit) (sym (h .mail)) (drain-ends c (b .table) (h .entries) (h .good) k limit)
 
 pub bound-small : BoundSmall
 bound-small c table mail e n fits =

@@ -21,6 +21,7 @@ use Rattle.table.specs.Layout as Table
 use Rattle.waits.specs.OnTable.{locks, cycleLength}
 use Rattle.step.specs.Step as Step
 use Rattle.step.specs.Step.{Stepped, committed, sessionPlan, itemPlan}
+use Rattle.lockmgr.specs.Calls.{Config}
 use Rattle.lockmgr.specs.Run.{rollsBack}
 use Rattle.deadlock.specs.Lists.{bit}
 use Rattle.deadlock.specs.Machine
@@ -32,20 +33,20 @@ use Rattle.clause.proofs.State.{machineOf, stateOf, Good}
 use Rattle.clause.proofs.Cycles.{on-cycle-of}
 
 -- a step with this verb and session, from a table and entries, that leaves and answers r
-pub record Moved (S M C : ℕ) (table : List ℕ) (l : List Entry) (verb t : ℕ) (r : Stepped) : Type 0 where
+pub record Moved (conf : Config) (table : List ℕ) (l : List Entry) (verb t : ℕ) (r : Stepped) : Type 0 where
   pub call : Machine.Call
-  pub of-machine : Machine.ofMachine (machineOf S M) call ≡ true
+  pub of-machine : Machine.ofMachine (machineOf conf) call ≡ true
   pub entries : List Entry
-  pub mail : r .mail ≡ Mail.mailBytes C entries
-  pub good : Good S M C (r .table) entries
-  pub moves : stateOf S M (r .table) entries ≡ Machine.move (machineOf S M) (stateOf S M table l) call
+  pub mail : r .mail ≡ Mail.mailBytes (conf .capacity) entries
+  pub good : Good conf (r .table) entries
+  pub moves : stateOf conf (r .table) entries ≡ Machine.move (machineOf conf) (stateOf conf table l) call
   pub event : Machine.Event
-  pub happens : Machine.eventOf (machineOf S M) (stateOf S M table l) call (stateOf S M (r .table) entries) ≡ event
+  pub happens : Machine.eventOf (machineOf conf) (stateOf conf table l) call (stateOf conf (r .table) entries) ≡ event
   pub closes : r .answer .closed ≡ bit (event .closed)
   pub declares : r .answer .victim ≢ 0 → event .declared ≡ some (record { victim = r .answer .victim; initiator = r .answer .initiator })
   pub rolls : rollsBack t table (r .table) ≡ event .rolledBack
   pub delivered : between Step.deliverToItem Step.deliverToSession verb && rollsBack t table (r .table) ≡ rollsBack t table (r .table)
-  pub delivers : between Step.deliverToItem Step.deliverToSession verb ≡ true → Bound.delivers (stateOf S M table l) call ≡ true
+  pub delivers : between Step.deliverToItem Step.deliverToSession verb ≡ true → Bound.delivers (stateOf conf table l) call ≡ true
 
 pub one-is-bit : (b : Bool) → cond b 1 0 ≡ bit b
 one-is-bit true = refl
@@ -60,22 +61,22 @@ pub never-both : (b : Bool) → not b && b ≡ false
 never-both true = refl
 never-both false = refl
 
-module _ (S M C : ℕ) (table : List ℕ) (l : List Entry) (g : Good S M C table l) (verb t : ℕ) (t-range : between 1 S t ≡ true) where
+module _ (conf : Config) (table : List ℕ) (l : List Entry) (g : Good conf table l) (verb t : ℕ) (t-range : between 1 (conf .sessions) t ≡ true) where
   abbrev before : Machine.State
-  before = stateOf S M table l
+  before = stateOf conf table l
 
   -- the step of a session: the verb, the machine's call, the entries that are not delivered by it
-  module _ (call : Machine.Call) (of-machine : Machine.ofMachine (machineOf S M) call ≡ true) (rest : List Entry) (r : Session.After) where
+  module _ (call : Machine.Call) (of-machine : Machine.ofMachine (machineOf conf) call ≡ true) (rest : List Entry) (r : Session.After) where
     abbrev sent : List Entry
     sent = rest ++ map (fromSession t) (r .sends)
 
     abbrev Put : (ℕ → Session) → Type 0
-    Put f = Replaced S (Table.session table) f t (r .session)
+    Put f = Replaced (conf .sessions) (Table.session table) f t (r .session)
 
-    module _ (fits : length sent ≤ C) (kept : (f : ℕ → Session) → Put f → StateWellFormed S M f (locks table) sent)
-        (moves : (f : ℕ → Session) → Put f → readState S M f (locks table) sent ≡ Machine.move (machineOf S M) before call)
-        (happens : (f : ℕ → Session) → Put f → StateWellFormed S M f (locks table) sent
-        → Machine.eventOf (machineOf S M) before call (readState S M f (locks table) sent)
+    module _ (fits : length sent ≤ (conf .capacity)) (kept : (f : ℕ → Session) → Put f → StateWellFormed (conf .sessions) (conf .items) f (locks table) sent)
+        (moves : (f : ℕ → Session) → Put f → readState (conf .sessions) (conf .items) f (locks table) sent ≡ Machine.move (machineOf conf) before call)
+        (happens : (f : ℕ → Session) → Put f → StateWellFormed (conf .sessions) (conf .items) f (locks table) sent
+        → Machine.eventOf (machineOf conf) before call (readState (conf .sessions) (conf .items) f (locks table) sent)
         ≡ record { closed = false; declared = none; rolledBack = not (eqb (Table.session table t .stage) Stage.rolledBack) && eqb (f t .stage) Stage.rolledBack })
         (delivered : between Step.deliverToItem Step.deliverToSession verb && eqb (r .session .stage) Stage.rolledBack ≡ eqb (r .session .stage) Stage.rolledBack)
         (delivers : between Step.deliverToItem Step.deliverToSession verb ≡ true → Bound.delivers before call ≡ true) where
@@ -83,21 +84,21 @@ module _ (S M C : ℕ) (table : List ℕ) (l : List Entry) (g : Good S M C table
       table-after = Table.withSession table t (r .session)
 
       put : Put (Table.session table-after)
-      put = State.session-replaced S M C table l g t t-range (r .session) sent fits kept
+      put = State.session-replaced conf table l g t t-range (r .session) sent fits kept
 
-      state : stateOf S M table-after sent ≡ readState S M (Table.session table-after) (locks table) sent
-      state = State.session-state S M C table l g t t-range (r .session) sent fits kept
+      state : stateOf conf table-after sent ≡ readState (conf .sessions) (conf .items) (Table.session table-after) (locks table) sent
+      state = State.session-state conf table l g t t-range (r .session) sent fits kept
 
-      pub session-moved : Moved S M C table l verb t (committed t C (sessionPlan t table rest r))
+      pub session-moved : Moved conf table l verb t (committed t (conf .capacity) (sessionPlan t table rest r))
       session-moved = record {
         call = call;
         of-machine = of-machine;
         entries = sent;
         mail = refl;
-        good = State.session-good S M C table l g t t-range (r .session) sent fits kept;
+        good = State.session-good conf table l g t t-range (r .session) sent fits kept;
         moves = state ∙ moves (Table.session table-after) put;
         event = record { closed = false; declared = none; rolledBack = rollsBack t table table-after };
-        happens = ap (Machine.eventOf (machineOf S M) before call) state ∙ happens (Table.session table-after) put (kept (Table.session table-after) put);
+        happens = ap (Machine.eventOf (machineOf conf) before call) state ∙ happens (Table.session table-after) put (kept (Table.session table-after) put);
         closes = one-is-bit false;
         declares = λ n. absurd (n refl);
         rolls = refl;
@@ -107,34 +108,34 @@ module _ (S M C : ℕ) (table : List ℕ) (l : List Entry) (g : Good S M C table
       }
 
   -- the step of item x
-  module _ (x : ℕ) (x-range : between 1 M x ≡ true) (call : Machine.Call) (of-machine : Machine.ofMachine (machineOf S M) call ≡ true)
+  module _ (x : ℕ) (x-range : between 1 (conf .items) x ≡ true) (call : Machine.Call) (of-machine : Machine.ofMachine (machineOf conf) call ≡ true)
       (rest : List Entry) (r : Item.After) where
     abbrev answered : List Entry
     answered = rest ++ map (fromItem x) (r .sends)
 
     abbrev PutLock : (ℕ → Lock) → Type 0
-    PutLock f = Replaced M (locks table) f x (r .lock)
+    PutLock f = Replaced (conf .items) (locks table) f x (r .lock)
 
-    module _ (fits : length answered ≤ C) (kept : (f : ℕ → Lock) → PutLock f → StateWellFormed S M (Table.session table) f answered)
-        (moves : (f : ℕ → Lock) → PutLock f → readState S M (Table.session table) f answered ≡ Machine.move (machineOf S M) before call)
-        (happens : (after : Machine.State) → Machine.eventOf (machineOf S M) before call after ≡ Machine.itemEvent (r .event) (Machine.onCycle (machineOf S M) after t))
+    module _ (fits : length answered ≤ (conf .capacity)) (kept : (f : ℕ → Lock) → PutLock f → StateWellFormed (conf .sessions) (conf .items) (Table.session table) f answered)
+        (moves : (f : ℕ → Lock) → PutLock f → readState (conf .sessions) (conf .items) (Table.session table) f answered ≡ Machine.move (machineOf conf) before call)
+        (happens : (after : Machine.State) → Machine.eventOf (machineOf conf) before call after ≡ Machine.itemEvent (r .event) (Machine.onCycle (machineOf conf) after t))
         (delivers : Bound.delivers before call ≡ true) where
       abbrev item-after : List ℕ
       item-after = Table.withItem table x (packed (r .lock))
 
       put-lock : PutLock (locks item-after)
-      put-lock = State.lock-replaced S M C table l g x x-range (r .lock) answered fits kept
+      put-lock = State.lock-replaced conf table l g x x-range (r .lock) answered fits kept
 
-      good : Good S M C item-after answered
-      good = State.item-good S M C table l g x x-range (r .lock) answered fits kept
+      good : Good conf item-after answered
+      good = State.item-good conf table l g x x-range (r .lock) answered fits kept
 
       same-stage : rollsBack t table item-after ≡ false
-      same-stage = rw (State.session-same S M C table l g x x-range (r .lock) answered fits kept t t-range) (never-both (eqb (Table.session table t .stage) Stage.rolledBack))
+      same-stage = rw (State.session-same conf table l g x x-range (r .lock) answered fits kept t t-range) (never-both (eqb (Table.session table t .stage) Stage.rolledBack))
 
-      closes : (e : Event) → Step.closed t item-after e ≡ bit (Machine.itemEvent e (Machine.onCycle (machineOf S M) (stateOf S M item-after answered) t) .closed)
+      closes : (e : Event) → Step.closed t item-after e ≡ bit (Machine.itemEvent e (Machine.onCycle (machineOf conf) (stateOf conf item-after answered) t) .closed)
       unfolding Machine.itemEvent
       closes Nothing = one-is-bit false
-      closes Joined = rw (on-cycle-of S M C item-after answered good t) (one-is-bit (not (eqb (cycleLength item-after t) 0)))
+      closes Joined = rw (on-cycle-of conf item-after answered good t) (one-is-bit (not (eqb (cycleLength item-after t) 0)))
       closes (Declared v i) = one-is-bit false
 
       declares : (e : Event) (b : Bool) → Item.victim e ≢ 0 → Machine.itemEvent e b .declared ≡ some (record { victim = Item.victim e; initiator = Item.initiator e })
@@ -149,19 +150,19 @@ module _ (S M C : ℕ) (table : List ℕ) (l : List Entry) (g : Good S M C table
       never-rolls Joined b = refl
       never-rolls (Declared v i) b = refl
 
-      pub item-moved : Moved S M C table l verb t (committed t C (itemPlan x table rest r))
+      pub item-moved : Moved conf table l verb t (committed t (conf .capacity) (itemPlan x table rest r))
       item-moved = record {
         call = call;
         of-machine = of-machine;
         entries = answered;
         mail = refl;
         good = good;
-        moves = State.item-state S M C table l g x x-range (r .lock) answered fits kept ∙ moves (locks item-after) put-lock;
-        event = Machine.itemEvent (r .event) (Machine.onCycle (machineOf S M) (stateOf S M item-after answered) t);
-        happens = happens (stateOf S M item-after answered);
+        moves = State.item-state conf table l g x x-range (r .lock) answered fits kept ∙ moves (locks item-after) put-lock;
+        event = Machine.itemEvent (r .event) (Machine.onCycle (machineOf conf) (stateOf conf item-after answered) t);
+        happens = happens (stateOf conf item-after answered);
         closes = closes (r .event);
-        declares = declares (r .event) (Machine.onCycle (machineOf S M) (stateOf S M item-after answered) t);
-        rolls = same-stage ∙ never-rolls (r .event) (Machine.onCycle (machineOf S M) (stateOf S M item-after answered) t);
+        declares = declares (r .event) (Machine.onCycle (machineOf conf) (stateOf conf item-after answered) t);
+        rolls = same-stage ∙ never-rolls (r .event) (Machine.onCycle (machineOf conf) (stateOf conf item-after answered) t);
         delivered = rw (same-stage) (and-false (between Step.deliverToItem Step.deliverToSession verb));
         delivers = λ _. delivers;
       }

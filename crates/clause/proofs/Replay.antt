@@ -26,16 +26,16 @@ use Rattle.clause.proofs.Step.{by-step}
 use Rattle.clause.proofs.Theorem.{begun-good, start-accepted, start-leaves, theorem}
 
 -- what is known after a step: a session comes to stage 6 at deliveries alone, and the buffers are good
-record Next (S M C verb t : ℕ) (table : List ℕ) (r : Stepped) : Type 0 where
+record Next (conf : Config) (verb t : ℕ) (table : List ℕ) (r : Stepped) : Type 0 where
   delivered : between Step.deliverToItem Step.deliverToSession verb && rollsBack t table (r .table) ≡ rollsBack t table (r .table)
   entries : List Entry
-  good : Good S M C (r .table) entries
-  mail : r .mail ≡ Mail.mailBytes C entries
+  good : Good conf (r .table) entries
+  mail : r .mail ≡ Mail.mailBytes (conf .capacity) entries
 
-next : (S M C : ℕ) (table mail : List ℕ) (l : List Entry) → Good S M C table l → mail ≡ Mail.mailBytes C l
-    → (verb t x : ℕ) → Next S M C verb t table (Calls.step verb t x table mail)
-next S M C table mail l g e verb t x =
-    rw (e) (by-step S M C table l g verb t x (Next S M C verb t table)
+next : (conf : Config) (table mail : List ℕ) (l : List Entry) → Good conf table l → mail ≡ Mail.mailBytes (conf .capacity) l
+    → (verb t x : ℕ) → Next conf verb t table (Calls.step verb t x table mail)
+next conf table mail l g e verb t x =
+    rw (e) (by-step conf table l g verb t x (Next conf verb t table)
     (λ n _. record {
       delivered = rw (never-both (eqb (Table.session table t .stage) Stage.rolledBack)) (and-false (between Step.deliverToItem Step.deliverToSession verb));
       entries = l;
@@ -58,14 +58,14 @@ one-step : (y : Run.Tally) (d : Done) (l : List Done) → rollback d ≡ rollsBa
 unfolding tallied closed rolledBack
 one-step y d l e h = record { closes = omega (arith, h .closes); rolls = rw (e) (omega (arith, h .rolls)) }
 
-replay : (S M C : ℕ) (l : List Run.Step) (table mail : List ℕ) (k : List Entry) → Good S M C table k → mail ≡ Mail.mailBytes C k → (y : Run.Tally)
+replay : (conf : Config) (l : List Run.Step) (table mail : List ℕ) (k : List Entry) → Good conf table k → mail ≡ Mail.mailBytes (conf .capacity) k → (y : Run.Tally)
     → Tallied y (done (buffers table mail) l)
 unfolding done
-replay S M C [] table mail k g e y = no-steps y
-replay S M C (c ∷ l) table mail k g e y =
-    let n = next S M C table mail k g e (c .verb) (c .session) (c .item) in
+replay conf [] table mail k g e y = no-steps y
+replay conf (c ∷ l) table mail k g e y =
+    let n = next conf table mail k g e (c .verb) (c .session) (c .item) in
     let d = doneOn (buffers table mail) c in
-    one-step y d (done (leftBy d) l) (n .delivered) (replay S M C l (d .result .table) (d .result .mail) (n .entries) (n .good) (n .mail) (Run.counted (c .session) table (d .result) y))
+    one-step y d (done (leftBy d) l) (n .delivered) (replay conf l (d .result .table) (d .result .mail) (n .entries) (n .good) (n .mail) (Run.counted (c .session) table (d .result) y))
 
 -- the single steps of a list of steps
 pub single-steps : (b : Buffers) (l : List Run.Step) → singles b (map callOf l) ≡ l
@@ -82,13 +82,10 @@ pub tallies-agree : (c : Config) (table mail : List ℕ) → Calls.start c table
     → replayed c table mail l .tally .closed ≡ replayed c table mail l .tally .rolledBack
 unfolding opened Run.run
 tallies-agree c table mail e l empty =
-    let S = c .sessions in
-    let M = c .items in
-    let C = c .capacity in
     let s = Calls.start c table mail in
     let b = buffers (s .table) (s .mail) in
     let p = start-leaves c table mail e in
-    let g : Good S M C (s .table) [] = rw (ap (λ (b : Buffers). b .table) p) (begun-good S M C (start-zero c table mail (start-accepted c table mail e))) in
-    let h = replay S M C l (s .table) (s .mail) [] g (ap (λ (b : Buffers). b .mail) p) Run.zeros in
+    let g : Good c (s .table) [] = rw (ap (λ (b : Buffers). b .table) p) (begun-good c (start-zero c table mail (start-accepted c table mail e))) in
+    let h = replay c l (s .table) (s .mail) [] g (ap (λ (b : Buffers). b .mail) p) Run.zeros in
     let n = theorem c table mail e (map callOf l) .settled (rw (single-steps b l) empty) .counts in
     omega (arith, h .closes, h .rolls, rw (single-steps b l) at n)

@@ -11,6 +11,7 @@ use Rattle.lists.specs.Lists.{between, all}
 use Rattle.lists.proofs.Searches.{distinct-length}
 use Rattle.lists.proofs.Tests.{within}
 use Rattle.session.specs.Seniority.{senior}
+use Rattle.session.proofs.Seniority.{senior-order}
 use Rattle.session.specs.declared.Session.{Session}
 use Rattle.session.specs.Record as SessionRecord
 use Rattle.item.specs.NextHolder.{nextHolder}
@@ -24,75 +25,86 @@ use Rattle.table.specs.Layout as Table
 use Rattle.table.proofs.Laws as TableLaws
 use Rattle.waits.specs.OnTable.{locks}
 use Rattle.step.specs.Step.{Formed}
+use Rattle.lockmgr.specs.Calls.{Config}
 use Rattle.deadlock.specs.Machine
 use Rattle.wellformed.specs.Records.{LockWellFormed}
 use Rattle.agreement.specs.Reading.{readSession, readSessions, readState, rules}
 use Rattle.wellformed.proofs.Items.{unpacked-lock, packed-lock}
 use Rattle.agreement.proofs.MoveAgrees.{Replaced, StateWellFormed}
+use Rattle.agreement.proofs.RulesLaws.{rules-laws}
 
--- the machine of S sessions and M items with the lock manager's seniority and next holder
-abbrev pub machineOf : ℕ → ℕ → Machine.Rules
-machineOf S M = rules S M senior nextHolder
+-- the seniority of a lock manager, its next holder, and the machine with both
+abbrev pub seniorOf : Config → ℕ → ℕ → Bool
+seniorOf conf = senior
+
+abbrev pub nextOf : Config → List ℕ → ℕ
+nextOf conf = nextHolder (seniorOf conf)
+
+abbrev pub machineOf : Config → Machine.Rules
+machineOf conf = rules (conf .sessions) (conf .items) (seniorOf conf) (nextOf conf)
+
+pub machine-laws : (conf : Config) → Machine.Laws (machineOf conf)
+machine-laws conf = rules-laws senior-order (conf .sessions) (conf .items)
 
 -- what a table and the entries of the mail say
-abbrev pub stateOf : ℕ → ℕ → List ℕ → List Entry → Machine.State
-stateOf S M table l = readState S M (Table.session table) (locks table) l
+abbrev pub stateOf : Config → List ℕ → List Entry → Machine.State
+stateOf conf table l = readState (conf .sessions) (conf .items) (Table.session table) (locks table) l
 
--- a well-formed table of S sessions and M items, and well-formed entries that fit a mailbox of capacity C
-pub record Good (S M C : ℕ) (table : List ℕ) (l : List Entry) : Type 0 where
+-- a well-formed table, and well-formed entries that fit the mailbox
+pub record Good (conf : Config) (table : List ℕ) (l : List Entry) : Type 0 where
   pub sized : Table.sized table ≡ true
-  pub sessions : Table.sessionsOf table ≡ S
-  pub items : Table.itemsOf table ≡ M
+  pub sessions : Table.sessionsOf table ≡ conf .sessions
+  pub items : Table.itemsOf table ≡ conf .items
   pub formed : Table.wellFormed table ≡ true
-  pub low : 1 ≤ C
-  pub high : C ≤ Mail.maxCapacity
-  pub room : length l ≤ C
-  pub entries : all (Entry.wellFormed S M) l ≡ true
+  pub low : 1 ≤ conf .capacity
+  pub high : (conf .capacity) ≤ Mail.maxCapacity
+  pub room : length l ≤ conf .capacity
+  pub entries : all (Entry.wellFormed (conf .sessions) (conf .items)) l ≡ true
 
-module _ (S M C : ℕ) (table : List ℕ) (l : List Entry) (g : Good S M C table l) where
-  pub few-sessions : S ≤ 64
+module _ (conf : Config) (table : List ℕ) (l : List Entry) (g : Good conf table l) where
+  pub few-sessions : (conf .sessions) ≤ 64
   few-sessions = omega (arith, TableLaws.sized-facts table (g .sized) .max-sessions, g .sessions)
 
-  pub few-items : M ≤ 64
+  pub few-items : (conf .items) ≤ 64
   few-items = omega (arith, TableLaws.sized-facts table (g .sized) .max-items, g .items)
 
   -- the table and the bytes of the entries are well-formed
-  pub buffers-formed : Formed table (Mail.mailBytes C l)
+  pub buffers-formed : Formed table (Mail.mailBytes (conf .capacity) l)
   buffers-formed = record {
     records = record { sized = g .sized; formed = g .formed };
-    mail-sized = MailLaws.sized-mail C l (g .low) (g .high) (g .room);
-    mail-formed = rw (g .sessions, g .items) (MailLaws.wellFormed-mail C l (g .low) (g .high) (g .room) S M (g .entries));
+    mail-sized = MailLaws.sized-mail (conf .capacity) l (g .low) (g .high) (g .room);
+    mail-formed = rw (g .sessions, g .items) (MailLaws.wellFormed-mail (conf .capacity) l (g .low) (g .high) (g .room) (conf .sessions) (conf .items) (g .entries));
   }
 
-  session-known : (t : ℕ) → between 1 S t ≡ true → (1 ≤ t) × (t ≤ Table.sessionsOf table)
-  session-known t r = (within 1 S t r .0, omega (arith, within 1 S t r .1, g .sessions))
+  session-known : (t : ℕ) → between 1 (conf .sessions) t ≡ true → (1 ≤ t) × (t ≤ Table.sessionsOf table)
+  session-known t r = (within 1 (conf .sessions) t r .0, omega (arith, within 1 (conf .sessions) t r .1, g .sessions))
 
-  item-known : (x : ℕ) → between 1 M x ≡ true → (1 ≤ x) × (x ≤ Table.itemsOf table)
-  item-known x r = (within 1 M x r .0, omega (arith, within 1 M x r .1, g .items))
+  item-known : (x : ℕ) → between 1 (conf .items) x ≡ true → (1 ≤ x) × (x ≤ Table.itemsOf table)
+  item-known x r = (within 1 (conf .items) x r .0, omega (arith, within 1 (conf .items) x r .1, g .items))
 
   -- every record and every entry is well-formed
-  pub all-formed : StateWellFormed S M (Table.session table) (locks table) l
+  pub all-formed : StateWellFormed (conf .sessions) (conf .items) (Table.session table) (locks table) l
   unfolding locks
   all-formed = record {
     session = λ t r. let k = session-known t r in
         rw (g .sessions, g .items) at (TableLaws.well-formed-session table (g .formed) t (k .0) (k .1));
     juniors = λ t r. let k = session-known t r in TableLaws.juniors-length table (g .sized) t (k .0) (k .1);
     lock = λ x r. let k = item-known x r in
-        unpacked-lock S (Table.item table x) (rw (g .sessions) at (TableLaws.well-formed-item table (g .formed) x (k .0) (k .1)));
+        unpacked-lock (conf .sessions) (Table.item table x) (rw (g .sessions) at (TableLaws.well-formed-item table (g .formed) x (k .0) (k .1)));
     entries = g .entries;
   }
 
   -- the record of session t replaced by one that keeps the state well-formed
-  module _ (t : ℕ) (r : between 1 S t ≡ true) (s : Session) (k : List Entry) (fits : length k ≤ C)
-      (kept : (f : ℕ → Session) → Replaced S (Table.session table) f t s → StateWellFormed S M f (locks table) k) where
+  module _ (t : ℕ) (r : between 1 (conf .sessions) t ≡ true) (s : Session) (k : List Entry) (fits : length k ≤ (conf .capacity))
+      (kept : (f : ℕ → Session) → Replaced (conf .sessions) (Table.session table) f t s → StateWellFormed (conf .sessions) (conf .items) f (locks table) k) where
     unfoldable put : ℕ → Session
     put j = cond (eqb t j) s (Table.session table j)
 
-    put-replaced : Replaced S (Table.session table) put t s
+    put-replaced : Replaced (conf .sessions) (Table.session table) put t s
     unfolding put
     put-replaced = record { here = rw (eq-eqb t t refl) refl; elsewhere = λ j _ n. rw (ne-eqb t j n) refl }
 
-    new-session : SessionRecord.wellFormed S M s ≡ true
+    new-session : SessionRecord.wellFormed (conf .sessions) (conf .items) s ≡ true
     new-session = rw (put-replaced .here) at (kept put put-replaced .session t r)
 
     new-juniors : length (s .juniors) ≡ 64
@@ -101,11 +113,11 @@ module _ (S M C : ℕ) (table : List ℕ) (l : List Entry) (g : Good S M C table
     abbrev with-session : List ℕ
     with-session = Table.withSession table t s
 
-    pub session-replaced : Replaced S (Table.session table) (Table.session with-session) t s
+    pub session-replaced : Replaced (conf .sessions) (Table.session table) (Table.session with-session) t s
     session-replaced =
         let n = session-known t r in record {
-          here = TableLaws.session-withSession table (g .sized) t (n .0) (n .1) s new-juniors (TableLaws.held-fits S M s few-items new-session);
-          elsewhere = λ j q d. TableLaws.other-withSession table (g .sized) t (n .0) (n .1) s new-juniors j (within 1 S j q .0) (λ e. d (sym e));
+          here = TableLaws.session-withSession table (g .sized) t (n .0) (n .1) s new-juniors (TableLaws.held-fits (conf .sessions) (conf .items) s few-items new-session);
+          elsewhere = λ j q d. TableLaws.other-withSession table (g .sized) t (n .0) (n .1) s new-juniors j (within 1 (conf .sessions) j q .0) (λ e. d (sym e));
         }
 
     locks-same : locks with-session ≡ locks table
@@ -114,10 +126,10 @@ module _ (S M C : ℕ) (table : List ℕ) (l : List Entry) (g : Good S M C table
         let n = session-known t r in
         fun-ext (λ x. ap unpacked (TableLaws.item-withSession table (g .sized) t (n .0) (n .1) s new-juniors x))
 
-    pub session-state : stateOf S M with-session k ≡ readState S M (Table.session with-session) (locks table) k
-    session-state = ap (λ (f : ℕ → Lock). readState S M (Table.session with-session) f k) locks-same
+    pub session-state : stateOf conf with-session k ≡ readState (conf .sessions) (conf .items) (Table.session with-session) (locks table) k
+    session-state = ap (λ (f : ℕ → Lock). readState (conf .sessions) (conf .items) (Table.session with-session) f k) locks-same
 
-    pub session-good : Good S M C with-session k
+    pub session-good : Good conf with-session k
     session-good =
         let n = session-known t r in record {
           sized = TableLaws.sized-withSession table (g .sized) t (n .0) (n .1) s new-juniors;
@@ -131,59 +143,59 @@ module _ (S M C : ℕ) (table : List ℕ) (l : List Entry) (g : Good S M C table
         }
 
   -- the record of item x replaced
-  module _ (x : ℕ) (r : between 1 M x ≡ true) (i : Lock) (k : List Entry) (fits : length k ≤ C)
-      (kept : (f : ℕ → Lock) → Replaced M (locks table) f x i → StateWellFormed S M (Table.session table) f k) where
+  module _ (x : ℕ) (r : between 1 (conf .items) x ≡ true) (i : Lock) (k : List Entry) (fits : length k ≤ (conf .capacity))
+      (kept : (f : ℕ → Lock) → Replaced (conf .items) (locks table) f x i → StateWellFormed (conf .sessions) (conf .items) (Table.session table) f k) where
     unfoldable put-lock : ℕ → Lock
     put-lock j = cond (eqb x j) i (locks table j)
 
-    lock-put : Replaced M (locks table) put-lock x i
+    lock-put : Replaced (conf .items) (locks table) put-lock x i
     unfolding put-lock
     lock-put = record { here = rw (eq-eqb x x refl) refl; elsewhere = λ j _ n. rw (ne-eqb x j n) refl }
 
-    new-lock : LockWellFormed S i
+    new-lock : LockWellFormed (conf .sessions) i
     new-lock = rw (lock-put .here) at (kept put-lock lock-put .lock x r)
 
     queue-whole : length (packed i .queue) ≡ 64
-    queue-whole = length-packed i (omega (arith, distinct-length S (i .queue) (new-lock .once) (new-lock .sessions), few-sessions))
+    queue-whole = length-packed i (omega (arith, distinct-length (conf .sessions) (i .queue) (new-lock .once) (new-lock .sessions), few-sessions))
 
     abbrev with-item : List ℕ
     with-item = Table.withItem table x (packed i)
 
-    pub lock-replaced : Replaced M (locks table) (locks with-item) x i
+    pub lock-replaced : Replaced (conf .items) (locks table) (locks with-item) x i
     unfolding locks
     lock-replaced =
         let n = item-known x r in record {
           here = ap unpacked (TableLaws.item-withItem table (g .sized) x (n .0) (n .1) (packed i) queue-whole) ∙ unpacked-packed i;
-          elsewhere = λ j q d. ap unpacked (TableLaws.other-withItem table (g .sized) x (n .0) (n .1) (packed i) queue-whole j (within 1 M j q .0) (λ e. d (sym e)));
+          elsewhere = λ j q d. ap unpacked (TableLaws.other-withItem table (g .sized) x (n .0) (n .1) (packed i) queue-whole j (within 1 (conf .items) j q .0) (λ e. d (sym e)));
         }
 
-    pub session-same : (t : ℕ) → between 1 S t ≡ true → Table.session with-item t ≡ Table.session table t
+    pub session-same : (t : ℕ) → between 1 (conf .sessions) t ≡ true → Table.session with-item t ≡ Table.session table t
     session-same t q =
         let n = item-known x r in
         let m = session-known t q in
         TableLaws.session-withItem table (g .sized) x (n .0) (n .1) (packed i) queue-whole t (m .0) (m .1)
 
-    sessions-same : readSessions S (Table.session with-item) ≡ readSessions S (Table.session table)
+    sessions-same : readSessions (conf .sessions) (Table.session with-item) ≡ readSessions (conf .sessions) (Table.session table)
     unfolding readSessions
-    sessions-same = fun-ext (λ t. go t (between 1 S t) refl)
+    sessions-same = fun-ext (λ t. go t (between 1 (conf .sessions) t) refl)
       where
         start : Machine.Session
         start = record { stage = Machine.growing; held = λ (_ : ℕ). false; stored = λ (_ : ℕ). 0 }
 
-        go : (t : ℕ) (b : Bool) → between 1 S t ≡ b → cond b (readSession (Table.session with-item t)) start ≡ cond b (readSession (Table.session table t)) start
+        go : (t : ℕ) (b : Bool) → between 1 (conf .sessions) t ≡ b → cond b (readSession (Table.session with-item t)) start ≡ cond b (readSession (Table.session table t)) start
         go t true e = ap readSession (session-same t e)
         go t false e = refl
 
-    pub item-state : stateOf S M with-item k ≡ readState S M (Table.session table) (locks with-item) k
+    pub item-state : stateOf conf with-item k ≡ readState (conf .sessions) (conf .items) (Table.session table) (locks with-item) k
     item-state = rw (sessions-same) refl
 
-    pub item-good : Good S M C with-item k
+    pub item-good : Good conf with-item k
     item-good =
         let n = item-known x r in record {
           sized = TableLaws.sized-withItem table (g .sized) x (n .0) (n .1) (packed i) queue-whole;
           sessions = TableLaws.sessionsOf-withItem table (g .sized) x (n .0) (n .1) (packed i) queue-whole ∙ g .sessions;
           items = TableLaws.itemsOf-withItem table (g .sized) x (n .0) (n .1) (packed i) queue-whole ∙ g .items;
-          formed = TableLaws.wellFormed-withItem table (g .sized) x (n .0) (n .1) (packed i) queue-whole (g .formed) (rw (g .sessions) (packed-lock S i few-sessions new-lock));
+          formed = TableLaws.wellFormed-withItem table (g .sized) x (n .0) (n .1) (packed i) queue-whole (g .formed) (rw (g .sessions) (packed-lock (conf .sessions) i few-sessions new-lock));
           low = g .low;
           high = g .high;
           room = fits;

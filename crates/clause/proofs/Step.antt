@@ -10,12 +10,12 @@ use lib.Dec.{eqb}
 use lib.ListN.{length}
 use borrow.Author.Tests.{eqb-true, eqb-false, ltb-false, not-false}
 use Rattle.lists.specs.Lists.{between}
+use Rattle.lists.proofs.Orders.{weak}
 use Rattle.lists.proofs.Tests.{and-intro, between-intro, by-test, or-neither}
 use Rattle.bitset.specs.Bitset.{has}
 use Rattle.session.specs.Stage
-use Rattle.session.specs.Seniority.{senior}
+use Rattle.session.proofs.Seniority.{senior-order}
 use Rattle.session.specs.Rules as Session
-use Rattle.item.specs.NextHolder.{nextHolder}
 use Rattle.item.proofs.NextHolder.{next-inside}
 use Rattle.mailbox.specs.Entry.{Entry}
 use Rattle.mailbox.specs.Layout as Mail
@@ -24,7 +24,7 @@ use Rattle.table.specs.Layout as Table
 use Rattle.waits.specs.OnTable.{locks}
 use Rattle.step.specs.Step as Step
 use Rattle.step.specs.Step.{Stepped, stepped, refusedAnswer, hindered, delivered, sessionActs, overfull, plan, acted, committed, stageForbids, maskForbids, nothingToDeliver}
-use Rattle.lockmgr.specs.Calls.{judged, step}
+use Rattle.lockmgr.specs.Calls.{Config, judged, step}
 use Rattle.refusal.proofs.Causes.{unmet}
 use Rattle.lockmgr.proofs.Judging.{judged-zero}
 use Rattle.step.proofs.Acting.{by-verb, request-plan, release-plan}
@@ -34,7 +34,7 @@ use Rattle.agreement.specs.Reading.{readEntries}
 use Rattle.agreement.proofs.MoveAgrees as Agrees
 use Rattle.agreement.proofs.EventAgrees as Events
 use Rattle.clause.proofs.State
-use Rattle.clause.proofs.State.{machineOf, Good}
+use Rattle.clause.proofs.State.{seniorOf, nextOf, machineOf, Good}
 use Rattle.clause.proofs.Moves.{Moved, session-moved, item-moved}
 
 -- nothing happens, for no test and another is passed
@@ -76,36 +76,36 @@ module _ (verb t x : ℕ) (table mail : List ℕ) where
       (λ f. refused (hindered verb t x table mail) (eqb-false (hindered verb t x table mail) 0 f)))
       (λ e. refused (judged verb t x table mail) (eqb-false (judged verb t x table mail) 0 e))
 
-module _ (S M C : ℕ) (table : List ℕ) (l : List Entry) (g : Good S M C table l) where
+module _ (conf : Config) (table : List ℕ) (l : List Entry) (g : Good conf table l) where
   abbrev mail : List ℕ
-  mail = Mail.mailBytes C l
+  mail = Mail.mailBytes (conf .capacity) l
 
-  capacity-is : Mail.capacityOf mail ≡ C
-  capacity-is = MailLaws.capacity-mail C l (g .low) (g .high) (g .room)
+  capacity-is : Mail.capacityOf mail ≡ conf .capacity
+  capacity-is = MailLaws.capacity-mail (conf .capacity) l (g .low) (g .high) (g .room)
 
   entries-are : Mail.entriesOf mail ≡ l
-  entries-are = MailLaws.entries-mail C l (g .low) (g .high) (g .room)
+  entries-are = MailLaws.entries-mail (conf .capacity) l (g .low) (g .high) (g .room)
 
-  module _ (t x : ℕ) (t-range : between 1 S t ≡ true) (x-range : between 1 M x ≡ true) where
-    in-range : Machine.inRange (machineOf S M) t x ≡ true
+  module _ (t x : ℕ) (t-range : between 1 (conf .sessions) t ≡ true) (x-range : between 1 (conf .items) x ≡ true) where
+    in-range : Machine.inRange (machineOf conf) t x ≡ true
     unfolding Machine.inRange
     in-range = and-intro t-range x-range
 
     abbrev Done : ℕ → Type 0
-    Done verb = Unhindered verb t x table mail → Moved S M C table l verb t (committed t C (plan verb t x table l))
+    Done verb = Unhindered verb t x table mail → Moved conf table l verb t (committed t (conf .capacity) (plan verb t x table l))
 
-    few-sessions : S ≤ 64
-    few-sessions = State.few-sessions S M C table l g
+    few-sessions : (conf .sessions) ≤ 64
+    few-sessions = State.few-sessions conf table l g
 
-    few-items : M ≤ 64
-    few-items = State.few-items S M C table l g
+    few-items : (conf .items) ≤ 64
+    few-items = State.few-items conf table l g
 
-    formed : Agrees.StateWellFormed S M (Table.session table) (locks table) l
-    formed = State.all-formed S M C table l g
+    formed : Agrees.StateWellFormed (conf .sessions) (conf .items) (Table.session table) (locks table) l
+    formed = State.all-formed conf table l g
 
     -- where an entry is found the machine takes it
     taken : (d : Bool) → eqb (Agrees.placeOf t x l d) (length l) ≡ false → Bound.isTaken (Machine.take d t x (readEntries l)) ≡ true
-    taken d found = ap Bound.isTaken (Agrees.taken-eq senior nextHolder S M few-sessions few-items (Table.session table) (locks table) l formed t x t-range x-range d found)
+    taken d found = ap Bound.isTaken (Agrees.taken-eq (seniorOf conf) (nextOf conf) (conf .sessions) (conf .items) few-sessions few-items (Table.session table) (locks table) l formed t x t-range x-range d found)
 
     request-done : Done Step.request
     unfolding Machine.ofMachine Machine.eventOf Session.requested
@@ -115,10 +115,10 @@ module _ (S M C : ℕ) (table : List ℕ) (l : List Entry) (g : Good S M C table
         let mask = or-neither (has x (s .held)) _ (u .mask) .0 in
         let allowed : eqb (s .stage) Stage.growing && not (has x (s .held)) ≡ true = and-intro (not-false (eqb (s .stage) Stage.growing) stage) (rw (mask) refl) in
         rw (request-plan t x table l)
-        (session-moved S M C table l g Step.request t t-range (Machine.requestCall t x) in-range l (Session.requested x s)
+        (session-moved conf table l g Step.request t t-range (Machine.requestCall t x) in-range l (Session.requested x s)
         (rw (capacity-is, entries-are, request-plan t x table l) at (u .room))
-        (λ f h. Agrees.request-move-kept senior nextHolder S M few-sessions few-items (Table.session table) (locks table) l formed t x t-range x-range f h)
-        (λ f h. Agrees.request-move senior nextHolder S M few-sessions few-items (Table.session table) (locks table) l formed t x t-range x-range allowed f h)
+        (λ f h. Agrees.request-move-kept (seniorOf conf) (nextOf conf) (conf .sessions) (conf .items) few-sessions few-items (Table.session table) (locks table) l formed t x t-range x-range f h)
+        (λ f h. Agrees.request-move (seniorOf conf) (nextOf conf) (conf .sessions) (conf .items) few-sessions few-items (Table.session table) (locks table) l formed t x t-range x-range allowed f h)
         (λ f h _. rw (h .here) (quiet (not (eqb (s .stage) Stage.rolledBack))))
         refl
         (λ e. absurd (false≢true e)))
@@ -130,10 +130,10 @@ module _ (S M C : ℕ) (table : List ℕ) (l : List Entry) (g : Good S M C table
         let stage : eqb (s .stage) Stage.growing || eqb (s .stage) Stage.shrinking ≡ true = not-false (eqb (s .stage) Stage.growing || eqb (s .stage) Stage.shrinking) (u .stage) in
         let allowed : (eqb (s .stage) Stage.growing || eqb (s .stage) Stage.shrinking) && has x (s .held) ≡ true = and-intro stage (not-false (has x (s .held)) (u .mask)) in
         rw (release-plan t x table l)
-        (session-moved S M C table l g Step.release t t-range (Machine.releaseCall t x) in-range l (Session.released x s)
+        (session-moved conf table l g Step.release t t-range (Machine.releaseCall t x) in-range l (Session.released x s)
         (rw (capacity-is, entries-are, release-plan t x table l) at (u .room))
-        (λ f h. Agrees.release-move-kept senior nextHolder S M few-sessions few-items (Table.session table) (locks table) l formed t x t-range x-range stage f h)
-        (λ f h. Agrees.release-move senior nextHolder S M few-sessions few-items (Table.session table) (locks table) l formed t x t-range x-range allowed f h)
+        (λ f h. Agrees.release-move-kept (seniorOf conf) (nextOf conf) (conf .sessions) (conf .items) few-sessions few-items (Table.session table) (locks table) l formed t x t-range x-range stage f h)
+        (λ f h. Agrees.release-move (seniorOf conf) (nextOf conf) (conf .sessions) (conf .items) few-sessions few-items (Table.session table) (locks table) l formed t x t-range x-range allowed f h)
         (λ f h _. rw (h .here) (quiet (not (eqb (s .stage) Stage.rolledBack))))
         refl
         (λ e. absurd (false≢true e)))
@@ -142,34 +142,34 @@ module _ (S M C : ℕ) (table : List ℕ) (l : List Entry) (g : Good S M C table
     unfolding plan delivered Machine.ofMachine Bound.delivers
     item-done u =
         let found : eqb (Agrees.placeOf t x l true) (length l) ≡ false = rw (entries-are) at (u .route) in
-        item-moved S M C table l g Step.deliverToItem t t-range x x-range (Machine.deliverToItem t x) in-range (Agrees.othersOf t x l true) (Agrees.itemStep senior nextHolder (locks table) t x l)
+        item-moved conf table l g Step.deliverToItem t t-range x x-range (Machine.deliverToItem t x) in-range (Agrees.othersOf t x l true) (Agrees.itemStep (seniorOf conf) (nextOf conf) (locks table) t x l)
         (rw (capacity-is, entries-are) at (u .room))
-        (λ f h. Agrees.item-move-kept senior nextHolder S M few-sessions few-items (Table.session table) (locks table) l formed t x t-range x-range found next-inside f h)
-        (λ f h. Agrees.item-move senior nextHolder S M few-sessions few-items (Table.session table) (locks table) l formed t x t-range x-range found next-inside f h)
-        (λ after. Events.item-move-event senior nextHolder S M few-sessions few-items (Table.session table) (locks table) l formed t x t-range x-range found next-inside after)
+        (λ f h. Agrees.item-move-kept (seniorOf conf) (nextOf conf) (conf .sessions) (conf .items) few-sessions few-items (Table.session table) (locks table) l formed t x t-range x-range found (next-inside (weak senior-order)) f h)
+        (λ f h. Agrees.item-move (seniorOf conf) (nextOf conf) (conf .sessions) (conf .items) few-sessions few-items (Table.session table) (locks table) l formed t x t-range x-range found (next-inside (weak senior-order)) f h)
+        (λ after. Events.item-move-event (seniorOf conf) (nextOf conf) (conf .sessions) (conf .items) few-sessions few-items (Table.session table) (locks table) l formed t x t-range x-range found (next-inside (weak senior-order)) after)
         (taken true found)
 
     session-done : Done Step.deliverToSession
     unfolding plan delivered sessionActs Machine.ofMachine Bound.delivers
     session-done u =
         let found : eqb (Agrees.placeOf t x l false) (length l) ≡ false = rw (entries-are) at (u .route) in
-        session-moved S M C table l g Step.deliverToSession t t-range (Machine.deliverToSession t x) in-range (Agrees.othersOf t x l false) (Agrees.sessionStep senior (Table.session table) t x l)
+        session-moved conf table l g Step.deliverToSession t t-range (Machine.deliverToSession t x) in-range (Agrees.othersOf t x l false) (Agrees.sessionStep (seniorOf conf) (Table.session table) t x l)
         (rw (capacity-is, entries-are) at (u .room))
-        (λ f h. Agrees.session-move-kept senior nextHolder S M few-sessions few-items (Table.session table) (locks table) l formed t x t-range x-range found f h)
-        (λ f h. Agrees.session-move senior nextHolder S M few-sessions few-items (Table.session table) (locks table) l formed t x t-range x-range found f h)
-        (λ f h v. Events.session-move-event senior nextHolder S M few-sessions few-items (Table.session table) (locks table) l formed t x t-range x-range f _ v)
+        (λ f h. Agrees.session-move-kept (seniorOf conf) (nextOf conf) (conf .sessions) (conf .items) few-sessions few-items (Table.session table) (locks table) l formed t x t-range x-range found f h)
+        (λ f h. Agrees.session-move (seniorOf conf) (nextOf conf) (conf .sessions) (conf .items) few-sessions few-items (Table.session table) (locks table) l formed t x t-range x-range found f h)
+        (λ f h v. Events.session-move-event (seniorOf conf) (nextOf conf) (conf .sessions) (conf .items) few-sessions few-items (Table.session table) (locks table) l formed t x t-range x-range f _ v)
         refl
         (λ _. taken false found)
 
   -- whatever holds of a refused step, and of one that is a move of the machine, holds of a step
   pub by-step : (verb t x : ℕ) (P : Stepped → Type 0) → ((n : ℕ) → n ≢ 0 → P (stepped (refusedAnswer n) table mail))
-      → ((r : Stepped) → Moved S M C table l verb t r → P r) → P (step verb t x table mail)
+      → ((r : Stepped) → Moved conf table l verb t r → P r) → P (step verb t x table mail)
   by-step verb t x P refused moved =
       outcome verb t x table mail P refused (λ e u.
       let known = judged-zero verb t x table mail e in
       let j = known .2 in
-      let t-range = between-intro 1 S t (j .session-low) (omega (arith, j .session-high, g .sessions)) in
-      let x-range = between-intro 1 M x (j .item-low) (omega (arith, j .item-high, g .items)) in
+      let t-range = between-intro 1 (conf .sessions) t (j .session-low) (omega (arith, j .session-high, g .sessions)) in
+      let x-range = between-intro 1 (conf .items) x (j .item-low) (omega (arith, j .item-high, g .items)) in
       rw (capacity-is, entries-are)
-      (moved (committed t C (plan verb t x table l))
+      (moved (committed t (conf .capacity) (plan verb t x table l))
       (by-verb (Done t x t-range x-range) (request-done t x t-range x-range) (release-done t x t-range x-range) (item-done t x t-range x-range) (session-done t x t-range x-range) verb (known .0) (known .1) u)))

@@ -9,8 +9,6 @@ use lib.ListN.{length}
 use borrow.Author.Tests.{eqb-true, not-false}
 use Rattle.lists.proofs.Tests.{by-test, within}
 use Rattle.lists.proofs.Laws.{all-none}
-use Rattle.session.specs.Seniority.{senior}
-use Rattle.item.specs.NextHolder.{nextHolder}
 use Rattle.item.specs.Record as ItemRecord
 use Rattle.mailbox.specs.Entry as Entry
 use Rattle.mailbox.specs.Entry.{Entry}
@@ -22,7 +20,7 @@ use Rattle.waits.specs.Waits
 use Rattle.waits.specs.OnTable.{locks, waitsFor, cycleLength}
 use Rattle.waits.proofs.Leaders.{cycles-none}
 use Rattle.lockmgr.specs.Calls as Calls
-use Rattle.lockmgr.specs.Calls.{Config, config}
+use Rattle.lockmgr.specs.Calls.{Config}
 use Rattle.lockmgr.proofs.Judging.{Startable, start-zero, report-none}
 use Rattle.deadlock.specs.Machine
 use Rattle.agreement.specs.Reading.{readEntries}
@@ -31,7 +29,7 @@ use Rattle.lockmgr.specs.Run.{Buffers, buffers}
 use Rattle.lockmgr.specs.History.{Call, singles, after}
 use Rattle.clause.specs.Statement.{opened, Settled, WellFormed, Holds, Clause}
 use Rattle.clause.proofs.State
-use Rattle.clause.proofs.State.{machineOf, stateOf, Good}
+use Rattle.clause.proofs.State.{seniorOf, nextOf, machineOf, stateOf, Good}
 use Rattle.clause.proofs.Cycles.{on-cycle-of}
 use Rattle.clause.proofs.Follow.{ran, Followed, follow}
 use Rattle.clause.proofs.Declarations.{guaranteed, declarations}
@@ -47,29 +45,29 @@ module _ (c : Config) (table mail : List ℕ) (e : Calls.start c table mail .ref
   unfolding opened Calls.start
   start-leaves = rw (start-accepted) refl
 
-module _ (S M C : ℕ) where
+module _ (conf : Config) where
   abbrev begun : List ℕ
-  begun = Table.started S M
+  begun = Table.started (conf .sessions) (conf .items)
 
-  pub begun-good : {table mail : List ℕ} → Startable (config S M C) table mail → Good S M C begun []
+  pub begun-good : {table mail : List ℕ} → Startable (conf) table mail → Good conf begun []
   begun-good f = record {
-    sized = StartLaws.sized-started S M (f .some-sessions) (f .max-sessions) (f .some-items) (f .max-items);
-    sessions = StartLaws.sessionsOf-started S M;
-    items = StartLaws.itemsOf-started S M;
-    formed = StartLaws.wellFormed-started S M;
+    sized = StartLaws.sized-started (conf .sessions) (conf .items) (f .some-sessions) (f .max-sessions) (f .some-items) (f .max-items);
+    sessions = StartLaws.sessionsOf-started (conf .sessions) (conf .items);
+    items = StartLaws.itemsOf-started (conf .sessions) (conf .items);
+    formed = StartLaws.wellFormed-started (conf .sessions) (conf .items);
     low = f .some-room;
     high = f .max-room;
     room = omega arith;
-    entries = all-none (Entry.wellFormed S M);
+    entries = all-none (Entry.wellFormed (conf .sessions) (conf .items));
   }
 
-  begun-state : stateOf S M begun [] ≡ Machine.start (machineOf S M)
+  begun-state : stateOf conf begun [] ≡ Machine.start (machineOf conf)
   unfolding locks
   begun-state =
-      start-agrees S M (Table.session begun) (locks begun)
-      (λ t r. StartLaws.session-started S M t (within 1 S t r .0) (within 1 S t r .1))
-      (λ x r. ap ItemRecord.unpacked (StartLaws.item-started S M x (within 1 M x r .0) (within 1 M x r .1)))
-      senior nextHolder
+      start-agrees (conf .sessions) (conf .items) (Table.session begun) (locks begun)
+      (λ t r. StartLaws.session-started (conf .sessions) (conf .items) t (within 1 (conf .sessions) t r .0) (within 1 (conf .sessions) t r .1))
+      (λ x r. ap ItemRecord.unpacked (StartLaws.item-started (conf .sessions) (conf .items) x (within 1 (conf .items) x r .0) (within 1 (conf .items) x r .1)))
+      (seniorOf conf) (nextOf conf)
 
 no-entries : (l : List Entry) → length l ≡ 0 → l ≡ []
 no-entries [] e = refl
@@ -80,70 +78,61 @@ unfolding readEntries
 none-read l e = ap readEntries e
 
 -- what a list of calls leaves that is followed by a run of the machine from its start
-module _ (S M C : ℕ) (b : Buffers) (calls : List Call) (h : Followed S M C (Machine.start (machineOf S M)) b (singles b calls) 0 0) where
+module _ (conf : Config) (b : Buffers) (calls : List Call) (h : Followed conf (Machine.start (machineOf conf)) b (singles b calls) 0 0) where
   abbrev table-left : List ℕ
   table-left = after b calls .table
 
-  well-formed : WellFormed (config S M C) (after b calls)
+  well-formed : WellFormed (conf) (after b calls)
   well-formed =
       let g = h .good in record {
-        formed = rw (h .mail) (State.buffers-formed S M C table-left (h .entries) g);
+        formed = rw (h .mail) (State.buffers-formed conf table-left (h .entries) g);
         sessions = g .sessions;
         items = g .items;
-        capacity = rw (h .mail) (MailLaws.capacity-mail C (h .entries) (g .low) (g .high) (g .room));
+        capacity = rw (h .mail) (MailLaws.capacity-mail (conf .capacity) (h .entries) (g .low) (g .high) (g .room));
       }
 
   module _ (empty : Mail.countOf (after b calls .mail) ≡ 0) where
-    no-mail : ran S M (Machine.start (machineOf S M)) (h .run) .state .mailbox ≡ []
+    no-mail : ran conf (Machine.start (machineOf conf)) (h .run) .state .mailbox ≡ []
     no-mail =
         let g = h .good in
-        let n : length (h .entries) ≡ 0 = sym (MailLaws.count-mail C (h .entries) (g .low) (g .high) (g .room)) ∙ ap Mail.countOf (sym (h .mail)) ∙ empty in
+        let n : length (h .entries) ≡ 0 = sym (MailLaws.count-mail (conf .capacity) (h .entries) (g .low) (g .high) (g .room)) ∙ ap Mail.countOf (sym (h .mail)) ∙ empty in
         ap (λ (s : Machine.State). s .mailbox) (h .state) ∙ none-read (h .entries) (no-entries (h .entries) n)
 
-    off-cycle : (t : ℕ) → 1 ≤ t → t ≤ S → not (eqb (cycleLength table-left t) 0) ≡ false
+    off-cycle : (t : ℕ) → 1 ≤ t → t ≤ (conf .sessions) → not (eqb (cycleLength table-left t) 0) ≡ false
     off-cycle t lo hi =
-        sym (on-cycle-of S M C table-left (h .entries) (h .good) t)
-        ∙ ap (λ (s : Machine.State). Machine.onCycle (machineOf S M) s t) (sym (h .state))
-        ∙ guaranteed S M .settled-free (h .run) no-mail t lo hi
+        sym (on-cycle-of conf table-left (h .entries) (h .good) t)
+        ∙ ap (λ (s : Machine.State). Machine.onCycle (machineOf conf) s t) (sym (h .state))
+        ∙ guaranteed conf .settled-free (h .run) no-mail t lo hi
 
-    no-cycle : (t : ℕ) → 1 ≤ t → t ≤ S → cycleLength table-left t ≡ 0
+    no-cycle : (t : ℕ) → 1 ≤ t → t ≤ (conf .sessions) → cycleLength table-left t ≡ 0
     no-cycle t lo hi = eqb-true (cycleLength table-left t) 0 (not-false (eqb (cycleLength table-left t) 0) (off-cycle t lo hi))
 
-    settled : Settled S b calls
+    settled : Settled (conf .sessions) b calls
     unfolding Calls.report Waits.onCycle
     settled = record {
-      counts = omega (arith, h .closes, h .rolls, guaranteed S M .counts-agree (h .run) no-mail);
-      none-stands = cycles-none (waitsFor table-left) (Table.sessionsOf table-left) senior (λ t lo hi. off-cycle t lo (rw (h .good .sessions) at hi));
+      counts = omega (arith, h .closes, h .rolls, guaranteed conf .counts-agree (h .run) no-mail);
+      none-stands = cycles-none (waitsFor table-left) (Table.sessionsOf table-left) (seniorOf conf) (λ t lo hi. off-cycle t lo (rw (h .good .sessions) at hi));
       reports = λ t lo hi. let high : t ≤ Table.sessionsOf table-left = rw (h .good .sessions) hi in
           rw (report-none t table-left (h .good .sized) (h .good .formed) lo high, no-cycle t lo hi) refl;
     }
 
 -- every list of calls from a start that is not refused is followed by such a run
 module _ (c : Config) (table mail : List ℕ) (e : Calls.start c table mail .refusal ≡ 0) (calls : List Call) where
-  abbrev S : ℕ
-  S = c .sessions
-
-  abbrev M : ℕ
-  M = c .items
-
-  abbrev C : ℕ
-  C = c .capacity
-
   abbrev b : Buffers
   b = opened c table mail
 
-  good : Good S M C (begun S M C) []
-  good = begun-good S M C (start-zero c table mail (start-accepted c table mail e))
+  good : Good c (begun c) []
+  good = begun-good c (start-zero c table mail (start-accepted c table mail e))
 
-  pub followed : Followed S M C (Machine.start (machineOf S M)) b (singles b calls) 0 0
-  followed = rw (start-leaves c table mail e, ← begun-state S M C) (follow S M C _ (begun S M C) (Mail.mailBytes C []) [] good refl)
+  pub followed : Followed c (Machine.start (machineOf c)) b (singles b calls) 0 0
+  followed = rw (start-leaves c table mail e, ← begun-state c) (follow c _ (begun c) (Mail.mailBytes (c .capacity) []) [] good refl)
 
   holds : Holds c b calls
   unfolding Machine.run
   holds = record {
-    settled = settled S M C b calls followed;
-    declarations = rw (start-leaves c table mail e) (declarations S M C _ (begun S M C) (Mail.mailBytes C []) [] good refl [] (sym (begun-state S M C)));
-    formed = well-formed S M C b calls followed;
+    settled = settled c b calls followed;
+    declarations = rw (start-leaves c table mail e) (declarations c _ (begun c) (Mail.mailBytes (c .capacity) []) [] good refl [] (sym (begun-state c)));
+    formed = well-formed c b calls followed;
   }
 
 pub theorem : Clause

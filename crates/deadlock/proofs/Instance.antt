@@ -5,7 +5,7 @@ use Prim.Native.Nat.{ℕ}
 use native.Mathlib.Omega.{arith}
 use lib.Dec.{ltb}
 use Rattle.lists.proofs.Laws.{getD-member}
-use Rattle.lists.proofs.Orders.{less}
+use Rattle.lists.proofs.Orders.{less, weak}
 use Rattle.item.specs.NextHolder.{mostSenior}
 use Rattle.item.proofs.MostSenior.{most-senior-inside}
 use Rattle.deadlock.specs.Machine.{Call, Laws, State}
@@ -19,7 +19,7 @@ module _ (S M : ℕ) where
     irreflexive = less .irreflexive;
     transitive = less .transitive;
     total = less .total;
-    next-member = λ x xs. getD-member (x ∷ xs) (mostSenior ltb (x ∷ xs)) (most-senior-inside less (x ∷ xs) (omega arith));
+    next-member = λ x xs. getD-member (x ∷ xs) (mostSenior ltb (x ∷ xs)) (most-senior-inside (weak less) (x ∷ xs) (omega arith));
   }
 
   pub senior-first : (admits : State → Call → Bool) → Guarantees (seniorFirst S M) admits

@@ -13,26 +13,20 @@ use Rattle.lists.specs.Lists.{findIndex, removeAt}
 use Rattle.lists.proofs.Tests.{by-answer, and-both, eqb-self}
 use Rattle.message.specs.declared.Message.{Message}
 use Rattle.message.specs.Outbox as Outbox
-use Rattle.session.specs.Seniority.{senior}
 use Rattle.session.specs.Rules as Session
-use Rattle.session.proofs.Laws.{received-length}
-use Rattle.item.specs.NextHolder.{nextHolder}
-use Rattle.item.specs.Rules as Item
 use Rattle.item.specs.Record.{Packed}
 use Rattle.item.specs.declared.Event.{Event}
-use Rattle.item.proofs.Laws.{received-fits, queue-length}
-use Rattle.mailbox.specs.Entry.{Entry, unused, toItem, toSession, onRoute, seenByItem, seenBySession}
+use Rattle.mailbox.specs.Entry.{Entry, unused, toItem, toSession, onRoute, seenBySession}
 use Rattle.mailbox.specs.Layout.{capacityOf, countOf, entryAt, entriesOf, mailBytes}
 use Rattle.mailbox.proofs.Laws as MailLaws
 use Rattle.mailbox.proofs.EntryLaws.{EntryFacts, entry-facts}
 use Rattle.table.specs.Layout as Table
-use Rattle.waits.specs.OnTable.{locks}
 use Rattle.refusal.specs.Refusal
 use Rattle.refusal.specs.Refusal.{first}
 use Rattle.step.specs.Step as Step
-use Rattle.step.specs.Step.{Plan, Formed, delivered, sessionActs, sessionPlan, itemPlan, plan, stepCauses, overfull, stepped, refusedAnswer}
+use Rattle.step.specs.Step.{Plan, Formed, delivered, itemReceives, sessionReceives, sessionActs, sessionPlan, itemPlan, plan, stepCauses, overfull, stepped, refusedAnswer}
 use Rattle.step.specs.Parts.{Judged, concluded}
-use Rattle.step.proofs.Acting.{acted-concluded, length-sent, deliverable, item-packed, juniors-whole}
+use Rattle.step.proofs.Acting.{acted-concluded, length-sent, deliverable, item-packed, juniors-whole, item-sends-few, session-sends-few}
 use Rattle.drain.specs.Oldest.{verbOf, oldestActed}
 use Rattle.drain.specs.declared.Delivery.{Delivery}
 use Rattle.drain.specs.Parts.{pending, Spent, Due, fits, refusalOf, Admitted, Outcome, outcome, outcomeOf}
@@ -57,10 +51,10 @@ module _ (t : ℕ) (table mail : List ℕ) (p : Plan) where
 -- the oldest of a list of entries is the earliest of its route
 module _ (e : Entry) (rest : List Entry) (table : List ℕ) where
   abbrev to-item : Plan
-  to-item = itemPlan (e .item) table rest (Item.received senior nextHolder (locks table (e .item)) (seenByItem e))
+  to-item = itemPlan (e .item) table rest (itemReceives (e .item) table e)
 
   abbrev to-session : Plan
-  to-session = sessionPlan (e .session) table rest (Session.received senior (e .session) (Table.session table (e .session)) (seenBySession e))
+  to-session = sessionPlan (e .session) table rest (sessionReceives (e .session) table e)
 
   -- what its delivery plans, by its direction
   abbrev directed : Plan
@@ -149,14 +143,12 @@ module _ (k : ℕ) (table mail : List ℕ) (due : Due k table mail) where
   due-packed = item-packed (due-entry .session) (due-entry .item) table (pending k mail) due-judged
 
   -- what the session or the item sends has places in an outbox
-  pub session-sends-few : length (Session.received senior (due-entry .session) (Table.session table (due-entry .session)) (seenBySession due-entry) .sends) ≤ Outbox.room
-  session-sends-few =
-      omega (arith, received-length (Table.session table (due-entry .session)) (juniors-whole (due-entry .session) (due-entry .item) table (pending k mail) due-judged) senior (due-entry .session) (seenBySession due-entry))
+  pub session-few : length (sessionReceives (due-entry .session) table due-entry .sends) ≤ Outbox.room
+  session-few =
+      omega (arith, session-sends-few (due-entry .session) table due-entry (juniors-whole (due-entry .session) (due-entry .item) table (pending k mail) due-judged))
 
-  pub item-sends-few : length (Item.received senior nextHolder (locks table (due-entry .item)) (seenByItem due-entry) .sends) ≤ Outbox.room
-  unfolding locks
-  item-sends-few =
-      omega (arith, received-fits senior nextHolder (locks table (due-entry .item)) (seenByItem due-entry) (omega (arith, due-packed .fits, queue-length (Table.item table (due-entry .item)) due-packed)))
+  pub item-few : length (itemReceives (due-entry .item) table due-entry .sends) ≤ Outbox.room
+  item-few = item-sends-few (due-entry .item) table due-entry due-packed
 
   abbrev others-due : List Entry
   others-due = drop (k + 1) (entriesOf mail)

@@ -1,5 +1,5 @@
--- The most senior session, by any strict total order: a queue that is not empty has exactly one, and its place is found in one pass.
-use mathlib.Core.Path.{_≡_, refl, sym, ap, _∙_}
+-- The most senior session: by any strict weak order its place is found in one pass, and by a total one a queue that is not empty has exactly one.
+use mathlib.Core.Path.{_≡_, refl, sym, _∙_}
 use mathlib.Core.Bool.{Bool, true, false, not, true≢false}
 use mathlib.Core.List.{List, []}
 use Prim.Native.Nat.{ℕ, zero, suc, _≤_, _<_}
@@ -10,7 +10,7 @@ use Rattle.lists.specs.Lists.{member, removeAt}
 use Rattle.lists.proofs.Tests.{refuted, by-answer}
 use Rattle.lists.proofs.Laws.{findIndex-first, findIndex-found, filter-none, all-intro, all-getD, all-member, all-removeAt, getD-member}
 use Rattle.lists.proofs.Searches.{below-and-at}
-use Rattle.lists.proofs.Orders.{StrictTotal}
+use Rattle.lists.proofs.Orders.{StrictWeak, StrictTotal, weak}
 use Rattle.item.specs.NextHolder.{isMostSenior, mostSenior}
 use Rattle.item.specs.Rules.{probes}
 
@@ -32,13 +32,7 @@ pub record Leads (senior : ℕ → ℕ → Bool) (q : List ℕ) (i k : ℕ) : Ty
   pub unsurpassed : (j : ℕ) → j < i → senior (getD q j 0) (getD q k 0) ≡ false
   pub first : (j : ℕ) → j < k → senior (getD q k 0) (getD q j 0) ≡ true
 
-module _ {senior : ℕ → ℕ → Bool} (order : StrictTotal senior) where
-  -- whoever is senior to m is senior to everyone who is not
-  above : (a m s : ℕ) → senior a m ≡ true → senior s m ≡ false → senior a s ≡ true
-  above a m s e f =
-      let below : senior s a ≡ false = refuted (senior s a) (senior s m) (λ h. order .transitive s a m h e) f in
-      by-answer (senior a s) (λ h. h) (λ h. absurd (true≢false (sym e ∙ ap (λ (n : ℕ). senior n m) (order .total a s h below) ∙ f)))
-
+module _ {senior : ℕ → ℕ → Bool} (order : StrictWeak senior) where
   module _ (q : List ℕ) where
     pub leads-one : Leads senior q 1 0
     leads-one = record {
@@ -55,7 +49,7 @@ module _ {senior : ℕ → ℕ → Bool} (order : StrictTotal senior) where
         unsurpassed =
             below-and-at (λ j. senior (getD q j 0) (getD q i 0) ≡ false) i
             (λ j h. refuted _ _ (λ f. order .transitive (getD q j 0) (getD q i 0) (getD q k 0) f e) (l .unsurpassed j h)) (order .irreflexive (getD q i 0));
-        first = λ j h. above (getD q i 0) (getD q k 0) (getD q j 0) e (l .unsurpassed j h);
+        first = λ j h. order .above (getD q i 0) (getD q k 0) (getD q j 0) e (l .unsurpassed j h);
       }
 
       pub leads-still : senior (getD q i 0) (getD q k 0) ≡ false → Leads senior q (suc i) k
@@ -99,8 +93,10 @@ module _ {senior : ℕ → ℕ → Bool} (order : StrictTotal senior) where
     unfolding mostSenior
     most-senior-passes = findIndex-found (isMostSenior senior q) q 0 most-senior-inside
 
-    -- and nobody else in the queue does
-    pub most-senior-only : (r : ℕ) → isMostSenior senior q r ≡ true → member r q ≡ true → r ≡ getD q (mostSenior senior q) 0
-    most-senior-only r e m =
-        let n = getD q (mostSenior senior q) 0 in
-        order .total r n (none-senior senior q n r most-senior-passes m) (none-senior senior q r n e (getD-member q (mostSenior senior q) most-senior-inside))
+-- and nobody else in the queue does
+module _ {senior : ℕ → ℕ → Bool} (order : StrictTotal senior) (q : List ℕ) (h : 0 < length q) where
+  pub most-senior-only : (r : ℕ) → isMostSenior senior q r ≡ true → member r q ≡ true → r ≡ getD q (mostSenior senior q) 0
+  most-senior-only r e m =
+      let n = getD q (mostSenior senior q) 0 in
+      order .total r n (none-senior senior q n r (most-senior-passes (weak order) q h) m)
+      (none-senior senior q r n e (getD-member q (mostSenior senior q) (most-senior-inside (weak order) q h)))

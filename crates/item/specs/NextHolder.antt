@@ -1,12 +1,11 @@
--- Who holds an item next when it is released: the most senior session of its queue. The rules do not know how this is decided: they take it as a parameter.
+-- Who holds an item next when it is released: the most senior session of its queue, by any seniority. The rules do not know how this is decided: they take it as a parameter.
 use Prim.Native.Nat.{ℕ}
 use mathlib.Core.Bool.{Bool, not}
 use mathlib.Core.List.{List}
 use Rattle.lists.specs.Lists.{all, findIndex}
-use Rattle.session.specs.Seniority
 
 module _ (senior : ℕ → ℕ → Bool) where
-  -- no session of the queue is senior to r. In a queue that is not empty exactly one member passes, since seniority is a strict total order
+  -- no session of the queue is senior to r. In a queue that is not empty exactly one member passes, where seniority is a strict total order
   -- (proofs/NextHolder.antt)
   unfoldable pub isMostSenior : List ℕ → ℕ → Bool
   isMostSenior q r = all (λ s. not (senior s r)) q
@@ -15,6 +14,6 @@ module _ (senior : ℕ → ℕ → Bool) where
   unfoldable pub mostSenior : List ℕ → ℕ
   mostSenior q = findIndex (isMostSenior q) q
 
--- the place of the next holder in a queue that is not empty: RULES 5.2
-unfoldable pub nextHolder : List ℕ → ℕ
-nextHolder = mostSenior Seniority.senior
+  -- the place of the next holder in a queue that is not empty: RULES 5.2
+  unfoldable pub nextHolder : List ℕ → ℕ
+  nextHolder = mostSenior

@@ -102,7 +102,7 @@ impl Item {
     // The place of the next holder, the most senior session of the queue, found in one pass.
     fn next_holder(self) -> usize
         requires { ⌜ (0 < self .waiting) × (self .waiting ≤ maxSessions) ⌝ }
-        ensures { λ r. ⌜ (r ≡ nextHolder (unpacked self .queue)) × (r < self .waiting) ⌝ }
+        ensures { λ r. ⌜ (r ≡ nextHolder senior (unpacked self .queue)) × (r < self .waiting) ⌝ }
     {
         let queue = self.queue;
         let n = self.waiting as usize;
@@ -260,7 +260,7 @@ impl Item {
 
     fn on_release(self, t: u8) -> ItemStep
         requires { ⌜ Packed self ⌝ }
-        ensures { λ r. ⌜ r ≡ stepOf (onRelease senior nextHolder t (unpacked self)) ⌝ }
+        ensures { λ r. ⌜ r ≡ stepOf (onRelease senior (nextHolder senior) t (unpacked self)) ⌝ }
     {
         if self.holder != t {
             return self.dropped();
@@ -279,7 +279,7 @@ impl Item {
     // No holder and an empty queue.
     fn vacant(mut self) -> ItemStep
         requires { ⌜ Packed self × (self .waiting ≡ 0) ⌝ }
-        ensures { λ r. ⌜ r ≡ stepOf (vacated senior nextHolder (unpacked self .queue)) ⌝ }
+        ensures { λ r. ⌜ r ≡ stepOf (vacated senior (nextHolder senior) (unpacked self .queue)) ⌝ }
     {
         let outbox = Outbox::empty();
         self.holder = 0;
@@ -377,7 +377,7 @@ impl Item {
     // What an item does on a message, by its kind. Any other kind is dropped.
     pub fn receive(self, m: Message) -> ItemStep
         requires { ⌜ Packed self ⌝ }
-        ensures { λ r. ⌜ r ≡ stepOf (received senior nextHolder (unpacked self) m) ⌝ }
+        ensures { λ r. ⌜ r ≡ stepOf (received senior (nextHolder senior) (unpacked self) m) ⌝ }
     {
         let kind = m.kind;
         match kind {

@@ -14,14 +14,12 @@ use Rattle.buffer.proofs.Laws.{AreBytes}
 use Rattle.message.specs.declared.Message.{Message}
 use Rattle.message.specs.declared.Outbox.{Outbox}
 use Rattle.message.specs.Outbox as Outbox
-use Rattle.session.specs.declared.Session.{Session as SessionRecord}
 use Rattle.session.specs.Seniority.{senior}
 use Rattle.session.proofs.Laws.{requested-length, received-length}
 use Rattle.session.specs.Rules as Session
 use Rattle.item.specs.NextHolder.{nextHolder}
 use Rattle.item.specs.Record.{Packed}
-use Rattle.item.specs.Rules as Item
-use Rattle.item.proofs.Laws.{wellFormed-packed}
+use Rattle.item.proofs.Laws.{wellFormed-packed, received-fits, queue-length}
 use Rattle.mailbox.specs.Entry.{Entry, unused, onRoute, toItem, toSession, seenByItem, seenBySession}
 use Rattle.mailbox.specs.Layout as Mail
 use Rattle.mailbox.specs.Layout.{Kept, capacityOf, countOf, entryAt, entriesOf, mailBytes}
@@ -33,7 +31,7 @@ use Rattle.waits.specs.OnTable.{locks}
 use Rattle.refusal.specs.Refusal
 use Rattle.refusal.specs.Refusal.{cause, first}
 use Rattle.step.specs.Step as Step
-use Rattle.step.specs.Step.{Stepped, delivered, sessionActs, sessionPlan, itemPlan, plan, stepCauses, hindered, overfull, acted, stepped, refusedAnswer, unless, committed, nothingToDeliver}
+use Rattle.step.specs.Step.{Stepped, delivered, itemReceives, sessionReceives, sessionActs, sessionPlan, itemPlan, plan, stepCauses, hindered, overfull, acted, stepped, refusedAnswer, unless, committed, nothingToDeliver}
 use Rattle.step.specs.Parts.{Judged, Fitting, fitting, roomMade, concluded}
 use Rattle.refusal.proofs.Causes.{first-stops, first-goes-on, unmet}
 
@@ -151,12 +149,21 @@ module _ (mail : List ℕ) (k n : ℕ) {fits : Bool} {after : List ℕ} (made : 
         (rw (length-sent left f l, sym c) (granted .0), rw (q, granted .1, w .capacity, w .entries) refl)
 
 -- ---- what a step does
+-- an item sends no more than an outbox has places for
+pub item-sends-few : (x : ℕ) (table : List ℕ) (e : Entry) → Packed (Table.item table x) → length (itemReceives x table e .sends) ≤ Outbox.room
+unfolding locks
+item-sends-few x table e p =
+    omega (arith, received-fits senior (nextHolder senior) (locks table x) (seenByItem e) (omega (arith, p .fits, queue-length (Table.item table x) p)))
+
 -- a session sends at most a request and 64 probes
-pub acts-few : (verb t x : ℕ) (s : SessionRecord) → length (s .juniors) ≡ 64 → (e : Entry) → length (sessionActs verb t x s e .sends) ≤ 65
+pub session-sends-few : (t : ℕ) (table : List ℕ) (e : Entry) → length (Table.session table t .juniors) ≡ 64 → length (sessionReceives t table e .sends) ≤ 65
+session-sends-few t table e h = received-length (Table.session table t) h senior t (seenBySession e)
+
+pub acts-few : (verb t x : ℕ) (table : List ℕ) → length (Table.session table t .juniors) ≡ 64 → (e : Entry) → length (sessionActs verb t x table e .sends) ≤ 65
 unfolding sessionActs Session.released
-acts-few verb t x s h e =
-    by-test Few (eqb verb Step.request) (λ _. requested-length s h x)
-    (λ _. by-test Few (eqb verb Step.release) (λ _. omega arith) (λ _. received-length s h senior t (seenBySession e)))
+acts-few verb t x table h e =
+    by-test Few (eqb verb Step.request) (λ _. requested-length (Table.session table t) h x)
+    (λ _. by-test Few (eqb verb Step.release) (λ _. omega arith) (λ _. session-sends-few t table e h))
   where
     Few : Session.After → Type 0
     Few r = length (r .sends) ≤ 65
@@ -201,11 +208,11 @@ module _ (verb t x : ℕ) (table : List ℕ) (entries : List Entry) where
   abbrev rest : List Entry
   rest = removeAt (delivered verb t x entries) entries
 
-  pub item-acts : eqb verb Step.deliverToItem ≡ true → plan verb t x table entries ≡ itemPlan x table rest (Item.received senior nextHolder (locks table x) (seenByItem taken))
+  pub item-acts : eqb verb Step.deliverToItem ≡ true → plan verb t x table entries ≡ itemPlan x table rest (itemReceives x table taken)
   unfolding plan
   item-acts e = rw (e) refl
 
-  pub session-acts : eqb verb Step.deliverToItem ≡ false → plan verb t x table entries ≡ sessionPlan t table rest (sessionActs verb t x (Table.session table t) taken)
+  pub session-acts : eqb verb Step.deliverToItem ≡ false → plan verb t x table entries ≡ sessionPlan t table rest (sessionActs verb t x table taken)
   unfolding plan
   session-acts e = rw (e) refl
 

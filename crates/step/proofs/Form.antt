@@ -10,9 +10,11 @@ use borrow.Author.Tests.{eqb-true, eqb-false, ltb-false, not-false}
 use Rattle.lists.specs.Lists.{between, all, removeAt}
 use Rattle.lists.proofs.Laws.{all-getD, all-join, all-map, all-removeAt, findIndex-found}
 use Rattle.lists.proofs.Searches.{distinct-length}
+use Rattle.lists.proofs.Orders.{weak}
 use Rattle.lists.proofs.Tests.{and-both, between-intro, by-test, by-answer}
 use Rattle.session.specs.Stage
 use Rattle.session.specs.Seniority.{senior}
+use Rattle.session.proofs.Seniority.{senior-order}
 use Rattle.session.specs.Record as SessionRecord
 use Rattle.session.specs.Rules as Session
 use Rattle.item.specs.NextHolder.{nextHolder}
@@ -21,7 +23,7 @@ use Rattle.item.specs.Record.{packed}
 use Rattle.item.specs.Rules as Item
 use Rattle.item.proofs.Laws.{length-packed}
 use Rattle.mailbox.specs.Entry as Entry
-use Rattle.mailbox.specs.Entry.{Entry, unused, onRoute, toItem, toSession, fromSession, fromItem, seenByItem, seenBySession}
+use Rattle.mailbox.specs.Entry.{Entry, unused, onRoute, toItem, toSession, fromSession, fromItem}
 use Rattle.mailbox.specs.Layout as Mail
 use Rattle.mailbox.proofs.Laws as MailLaws
 use Rattle.table.specs.Layout as Table
@@ -31,7 +33,7 @@ use Rattle.wellformed.proofs.Sessions.{SessionKept, session-kept, request-kept,
 use Rattle.wellformed.proofs.Items.{ItemKept, item-kept, unpacked-lock, packed-lock}
 use Rattle.refusal.specs.Refusal.{first}
 use Rattle.step.specs.Step as Step
-use Rattle.step.specs.Step.{Plan, Stepped, Formed, delivered, sessionActs, sessionPlan, itemPlan, plan, stepCauses, overfull, acted, stepped, refusedAnswer, committed}
+use Rattle.step.specs.Step.{Plan, Stepped, Formed, delivered, itemReceives, sessionReceives, sessionActs, sessionPlan, itemPlan, plan, stepCauses, overfull, acted, stepped, refusedAnswer, committed}
 use Rattle.step.specs.Parts.{Judged, concluded}
 use Rattle.refusal.proofs.Causes.{unmet}
 use Rattle.step.proofs.Acting.{by-verb, delivers, acted-refused, acted-concluded}
@@ -117,16 +119,16 @@ module _ (t x : ℕ) (table mail : List ℕ) (j : Judged t x table mail) where
     head-formed = all-getD (Entry.wellFormed (Table.sessionsOf table) (Table.itemsOf table)) entries (Entry.earliest direction t x entries) unused all-entries found
 
   item-keeps : (found : Entry.earliest toItem t x entries < length entries)
-      → ItemKept (Table.sessionsOf table) (Table.itemsOf table) x (Item.received senior nextHolder (locks table x) (seenByItem (getD entries (Entry.earliest toItem t x entries) unused)))
+      → ItemKept (Table.sessionsOf table) (Table.itemsOf table) x (itemReceives x table (getD entries (Entry.earliest toItem t x entries) unused))
   unfolding locks
   item-keeps found =
       let S = Table.sessionsOf table in
       let M = Table.itemsOf table in
       let lock = unpacked-lock S (Table.item table x) (TableLaws.well-formed-item table (j .formed .records .formed) x (j .item-low) (j .item-high)) in
-      rw (head-item toItem t x entries found) at (item-kept senior nextHolder S M (head toItem t x entries found) (head-formed toItem found) (locks table x) lock (next-inside (locks table x .queue)))
+      rw (head-item toItem t x entries found) at (item-kept senior (nextHolder senior) S M (head toItem t x entries found) (head-formed toItem found) (locks table x) lock (next-inside (weak senior-order) (locks table x .queue)))
 
   session-keeps : (found : Entry.earliest toSession t x entries < length entries)
-      → SessionKept (Table.sessionsOf table) (Table.itemsOf table) t (Session.received senior t (Table.session table t) (seenBySession (getD entries (Entry.earliest toSession t x entries) unused)))
+      → SessionKept (Table.sessionsOf table) (Table.itemsOf table) t (sessionReceives t table (getD entries (Entry.earliest toSession t x entries) unused))
   session-keeps found =
       let S = Table.sessionsOf table in
       let M = Table.itemsOf table in

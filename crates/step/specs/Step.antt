@@ -8,7 +8,6 @@ use lib.Dec.{eqb, ltb}
 use lib.ListN.{length, getD}
 use Rattle.lists.specs.Lists.{between, removeAt}
 use Rattle.bitset.specs.Bitset.{has}
-use Rattle.session.specs.declared.Session.{Session}
 use Rattle.session.specs.Stage
 use Rattle.session.specs.Seniority.{senior}
 use Rattle.session.specs.Rules as Session
@@ -57,11 +56,18 @@ delivered verb t x entries =
     cond (eqb verb deliverToItem) (earliest toItem t x entries)
     (cond (eqb verb deliverToSession) (earliest toSession t x entries) (length entries))
 
+-- what item X does on the entry that is delivered to it, and what session T does
+abbrev pub itemReceives : ℕ → List ℕ → Entry → Item.After
+itemReceives x table e = Item.received senior (nextHolder senior) (locks table x) (seenByItem e)
+
+abbrev pub sessionReceives : ℕ → List ℕ → Entry → Session.After
+sessionReceives t table e = Session.received senior t (Table.session table t) (seenBySession e)
+
 -- what session T does: on a request, on a release, or on the entry that is delivered to it
-unfoldable pub sessionActs : ℕ → ℕ → ℕ → Session → Entry → Session.After
-sessionActs verb t x s e =
-    cond (eqb verb request) (Session.requested x s)
-    (cond (eqb verb release) (Session.released x s) (Session.received senior t s (seenBySession e)))
+unfoldable pub sessionActs : ℕ → ℕ → ℕ → List ℕ → Entry → Session.After
+sessionActs verb t x table e =
+    cond (eqb verb request) (Session.requested x (Table.session table t))
+    (cond (eqb verb release) (Session.released x (Table.session table t)) (sessionReceives t table e))
 
 -- what a step does where nothing refuses it: the table and the entries after it, how many were sent, and what happened
 pub record Plan : Type 0 where
@@ -84,8 +90,8 @@ unfoldable pub plan : ℕ → ℕ → ℕ → List ℕ → List Entry → Plan
 plan verb t x table entries =
     let k = delivered verb t x entries in
     cond (eqb verb deliverToItem)
-    (itemPlan x table (removeAt k entries) (Item.received senior nextHolder (locks table x) (seenByItem (getD entries k unused))))
-    (sessionPlan t table (removeAt k entries) (sessionActs verb t x (Table.session table t) (getD entries k unused)))
+    (itemPlan x table (removeAt k entries) (itemReceives x table (getD entries k unused)))
+    (sessionPlan t table (removeAt k entries) (sessionActs verb t x table (getD entries k unused)))
 
 -- the stage forbids a request or a release: RULES 8.6
 abbrev pub stageForbids : ℕ → ℕ → Bool

@@ -15,7 +15,7 @@ ghost use Rattle.session.specs.Rules as SessionRules;
 ghost use Rattle.item.specs.Rules as ItemRules;
 ghost use Rattle.mailbox.specs.Entry.{unused};
 ghost use Rattle.mailbox.specs.Layout.{capacityOf, entriesOf, mailBytes, Kept};
-ghost use Rattle.table.specs.Layout.{HasSession, HasItem, Formed, sessionsOf, wellFormed, session, withItem};
+ghost use Rattle.table.specs.Layout.{HasSession, HasItem, Formed, sessionsOf, wellFormed, withItem};
 ghost use Rattle.waits.specs.OnTable.{cycleLength};
 ghost use Rattle.refusal.specs.Refusal.{first};
 ghost use Rattle.step.specs.Step.{refusedAnswer, acceptedAnswer, delivered, sessionActs, stageForbids, maskForbids, stepCauses, sessionPlan, itemPlan, stepped, answered, acted};
@@ -122,7 +122,7 @@ fn step_refusal(verb: u64, t: u8, x: u8, k: usize, table: &[u8], mail: &[u8]) ->
 // What session t does in a step.
 fn session_acts(verb: u64, t: u8, x: u8, k: usize, table: &[u8], mail: &[u8]) -> SessionStep
     requires { ⌜ Acting verb t x k (now table) (now mail) ⌝ }
-    ensures { λ r. ⌜ r ≡ SessionRules.stepOf (sessionActs verb t x (session (now (table .entry)) t) (getD (entriesOf (now (mail .entry))) k unused)) ⌝ }
+    ensures { λ r. ⌜ r ≡ SessionRules.stepOf (sessionActs verb t x (now (table .entry)) (getD (entriesOf (now (mail .entry))) k unused)) ⌝ }
 {
     let s = table::session(table, t);
     match verb {

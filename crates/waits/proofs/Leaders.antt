@@ -10,7 +10,7 @@ use Rattle.lists.specs.Lists.{member}
 use Rattle.lists.proofs.Tests.{and-both, and-intro, fails, same?}
 use Rattle.lists.proofs.Laws.{getD-tabulate, length-tabulate, getD-member}
 use Rattle.lists.proofs.Searches.{count-none, count-some, every-at, every-intro}
-use Rattle.lists.proofs.Orders.{StrictTotal}
+use Rattle.lists.proofs.Orders.{StrictTotal, weak}
 use Rattle.item.specs.NextHolder.{isMostSenior, mostSenior}
 use Rattle.item.proofs.MostSenior.{most-senior-inside, most-senior-passes, none-senior}
 use Rattle.waits.specs.Waits.{reached, cycleLength, onCycle, leads, cycles}
@@ -105,12 +105,12 @@ module _ {next : ℕ → ℕ} {S : ℕ} (g : Graph next S) {senior : ℕ → ℕ
     unfolding leader
     leader-member =
         let k = mostSenior senior sessions in
-        let inside : k < cycleLength next S t = omega (arith, sessions-length, most-senior-inside o sessions sessions-some) in
+        let inside : k < cycleLength next S t = omega (arith, sessions-length, most-senior-inside (weak o) sessions sessions-some) in
         (k, inside, sessions-at k inside)
 
     leader-passes : isMostSenior senior sessions (leader next S senior t) ≡ true
     unfolding leader
-    leader-passes = most-senior-passes o sessions sessions-some
+    leader-passes = most-senior-passes (weak o) sessions sessions-some
 
     -- the leader lies on the cycle, and none is senior to it
     pub leader-leads : leads next S senior (leader next S senior t) ≡ true

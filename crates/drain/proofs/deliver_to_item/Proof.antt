@@ -4,30 +4,29 @@ use native.Mathlib.Omega.{arith}
 use Prim.Native.Nat.{_≤_}
 use borrow.Author.Tests.{not-true, not-false}
 use Rattle.message.specs.Outbox.{room}
-use Rattle.session.specs.Seniority.{senior}
 use Rattle.item.specs.declared.ItemStep.{ItemStep}
-use Rattle.item.specs.NextHolder.{nextHolder}
 use Rattle.item.specs.Record.{packed}
 use Rattle.item.specs.Rules as Item
-use Rattle.mailbox.specs.Entry.{fromItem, seenByItem}
+use Rattle.mailbox.specs.Entry.{fromItem}
 use Rattle.waits.specs.OnTable.{locks}
 use Rattle.mailbox.specs.Layout.{entryAt}
 use Rattle.table.specs.Layout as Table
-use Rattle.drain.proofs.Oldest.{due-spent, has-item, due-packed, item-sends-few, told-stopped, told-made}
+use Rattle.step.specs.Step.{itemReceives}
+use Rattle.drain.proofs.Oldest.{due-spent, has-item, due-packed, item-few, told-stopped, told-made}
 use borrow.Author.Needs.{needs}
 use Rattle.drain.proofs.deliver_to_item.Statement.{statement}
 use Rattle.drain.proofs.deliver_to_item.Tie as tie
 
 -- what the item does
 abbrev Did : tie.Start → Item.After
-Did s = Item.received senior nextHolder (locks (s .args .table .now) (entryAt (s .args .mail .now) (s .args .k) .item)) (seenByItem (entryAt (s .args .mail .now) (s .args .k)))
+Did s = itemReceives (entryAt (s .args .mail .now) (s .args .k) .item) (s .args .table .now) (entryAt (s .args .mail .now) (s .args .k))
 
 received : (c : tie.After-receive) → c .receive .result ≡ Item.stepOf (Did (c .before .before .before .before .before .before .before))
 unfolding locks
 received c = let s = c .before .before .before .before .before .before .before in c .receive .ensures ∙ rw (c .before .before .before .item .ensures, c .before .message-to-item .ensures, s .pre .1) refl
 
 few : (c : tie.After-receive) → c .receive .result .outbox .n ≤ room
-few c = let s = c .before .before .before .before .before .before .before in omega (arith, ap (λ (r : ItemStep). r .outbox .n) (received c), item-sends-few (s .args .k) (s .args .table .now) (s .args .mail .now) (s .pre .0))
+few c = let s = c .before .before .before .before .before .before .before in omega (arith, ap (λ (r : ItemStep). r .outbox .n) (received c), item-few (s .args .k) (s .args .table .now) (s .args .mail .now) (s .pre .0))
 
 item-requires : tie.Need-item-requires
 item-requires c κs = let s = c .before .before .before in rw (s .pre .1) (has-item (s .args .k) (s .args .table .now) (s .args .mail .now) (s .pre .0))

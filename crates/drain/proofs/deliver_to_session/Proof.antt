@@ -4,27 +4,27 @@ use native.Mathlib.Omega.{arith}
 use Prim.Native.Nat.{_≤_}
 use borrow.Author.Tests.{not-true, not-false}
 use Rattle.message.specs.Outbox.{room}
-use Rattle.session.specs.Seniority.{senior}
 use Rattle.session.specs.declared.SessionStep.{SessionStep}
 use Rattle.session.specs.Rules as Session
 use Rattle.item.specs.declared.Event.the-variants.{Nothing}
-use Rattle.mailbox.specs.Entry.{fromSession, seenBySession}
+use Rattle.mailbox.specs.Entry.{fromSession}
 use Rattle.mailbox.specs.Layout.{entryAt}
 use Rattle.table.specs.Layout as Table
-use Rattle.drain.proofs.Oldest.{due-spent, has-session, due-deliverable, session-sends-few, told-stopped, told-made}
+use Rattle.step.specs.Step.{sessionReceives}
+use Rattle.drain.proofs.Oldest.{due-spent, has-session, due-deliverable, session-few, told-stopped, told-made}
 use borrow.Author.Needs.{needs}
 use Rattle.drain.proofs.deliver_to_session.Statement.{statement}
 use Rattle.drain.proofs.deliver_to_session.Tie as tie
 
 -- what the session does
 abbrev Did : tie.Start → Session.After
-Did s = Session.received senior (entryAt (s .args .mail .now) (s .args .k) .session) (Table.session (s .args .table .now) (entryAt (s .args .mail .now) (s .args .k) .session)) (seenBySession (entryAt (s .args .mail .now) (s .args .k)))
+Did s = sessionReceives (entryAt (s .args .mail .now) (s .args .k) .session) (s .args .table .now) (entryAt (s .args .mail .now) (s .args .k))
 
 received : (c : tie.After-receive) → c .receive .result ≡ Session.stepOf (Did (c .before .before .before .before .before .before .before))
 received c = let s = c .before .before .before .before .before .before .before in c .receive .ensures ∙ rw (c .before .before .before .session .ensures, c .before .message-to-session .ensures, s .pre .1) refl
 
 few : (c : tie.After-receive) → c .receive .result .outbox .n ≤ room
-few c = let s = c .before .before .before .before .before .before .before in omega (arith, ap (λ (r : SessionStep). r .outbox .n) (received c), session-sends-few (s .args .k) (s .args .table .now) (s .args .mail .now) (s .pre .0))
+few c = let s = c .before .before .before .before .before .before .before in omega (arith, ap (λ (r : SessionStep). r .outbox .n) (received c), session-few (s .args .k) (s .args .table .now) (s .args .mail .now) (s .pre .0))
 
 session-requires : tie.Need-session-requires
 session-requires c κs = let s = c .before .before .before in rw (s .pre .1) (has-session (s .args .k) (s .args .table .now) (s .args .mail .now) (s .pre .0))

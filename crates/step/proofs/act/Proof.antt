@@ -5,19 +5,16 @@ use Prim.Native.Nat.{_≤_, _<_}
 use lib.ListN.{length, getD}
 use borrow.Author.Tests.{eq-eqb, ne-eqb}
 use Rattle.item.specs.declared.ItemStep.{ItemStep}
-use Rattle.item.specs.NextHolder.{nextHolder}
 use Rattle.item.specs.Rules as Item
-use Rattle.item.proofs.Laws.{received-fits, queue-length}
+use Rattle.message.specs.Outbox.{room}
 use Rattle.session.specs.declared.SessionStep.{SessionStep}
-use Rattle.session.specs.Seniority.{senior}
-use Rattle.mailbox.specs.Entry.{unused, seenByItem}
+use Rattle.mailbox.specs.Entry.{unused}
 use Rattle.mailbox.specs.Layout.{Kept, countOf, entriesOf}
 use Rattle.mailbox.proofs.Laws.{getD-entries}
-use Rattle.table.specs.Layout as Table
 use Rattle.waits.specs.OnTable.{locks}
 use Rattle.refusal.specs.Refusal.{first}
-use Rattle.step.specs.Step.{stepCauses, delivered, sessionActs}
-use Rattle.step.proofs.Acting.{mail-kept, item-packed, juniors-whole, acts-few, acted-refused, acted-concluded, delivers, item-acts, session-acts}
+use Rattle.step.specs.Step.{stepCauses, delivered, itemReceives, sessionActs}
+use Rattle.step.proofs.Acting.{mail-kept, item-packed, juniors-whole, item-sends-few, acts-few, acted-refused, acted-concluded, delivers, item-acts, session-acts}
 use Rattle.step.proofs.Form.{plan-keeps}
 use borrow.Author.Needs.{needs}
 use Rattle.step.proofs.act.Statement.{statement}
@@ -36,23 +33,21 @@ found c =
     let s = c .before .before .before .before .before .before .before .before .before in
     rw (c .before .before .before .before .before .delivered .ensures) (delivers (s .args .verb) (s .args .t) (s .args .x) (s .args .table .now) (s .args .mail .now) (s .pre .0) (s .pre .1) (none (c .before)) (λ q. absurd (omega (arith, c .if2 .taken))) (λ q. absurd (omega (arith, c .if2 .taken))))
 
-received : (c : tie.After-receive) → c .receive .result ≡ Item.stepOf (Item.received senior nextHolder (locks (c .before .before .before .before .before .before .before .before .before .before .before .before .before .before .args .table .now) (c .before .before .before .before .before .before .before .before .before .before .before .before .before .before .args .x)) (seenByItem (getD (entriesOf (c .before .before .before .before .before .before .before .before .before .before .before .before .before .before .args .mail .now)) (c .before .before .before .before .before .before .before .before .before .before .delivered .result) unused)))
+received : (c : tie.After-receive) → c .receive .result ≡ Item.stepOf (itemReceives (c .before .before .before .before .before .before .before .before .before .before .before .before .before .before .args .x) (c .before .before .before .before .before .before .before .before .before .before .before .before .before .before .args .table .now) (getD (entriesOf (c .before .before .before .before .before .before .before .before .before .before .before .before .before .before .args .mail .now)) (c .before .before .before .before .before .before .before .before .before .before .delivered .result) unused))
 unfolding locks
 received c = c .receive .ensures ∙ rw (c .before .before .before .item .ensures, c .before .message-to-item .ensures, getD-entries (c .before .before .before .before .before .before .before .before .before .before .before .before .before .before .args .mail .now) (c .before .before .before .before .before .before .before .before .before .before .delivered .result) (found (c .before .before .before .before .before))) refl
 
-few : (c : tie.After-receive) → c .receive .result .outbox .n ≤ 129
-unfolding locks
+few : (c : tie.After-receive) → c .receive .result .outbox .n ≤ room
 few c =
     let s = c .before .before .before .before .before .before .before .before .before .before .before .before .before .before in
-    let i = Table.item (s .args .table .now) (s .args .x) in
     let p = item-packed (s .args .t) (s .args .x) (s .args .table .now) (s .args .mail .now) (s .pre .2) in
-    let n : c .receive .result .outbox .n ≡ length (Item.received senior nextHolder (locks (s .args .table .now) (s .args .x)) (seenByItem (getD (entriesOf (s .args .mail .now)) (c .before .before .before .before .before .before .before .before .before .before .delivered .result) unused)) .sends) = ap (λ (r : ItemStep). r .outbox .n) (received c) in
-    omega (arith, n, received-fits senior nextHolder (locks (s .args .table .now) (s .args .x)) (seenByItem (getD (entriesOf (s .args .mail .now)) (c .before .before .before .before .before .before .before .before .before .before .delivered .result) unused)) (omega (arith, p .fits, queue-length i p)))
+    let n : c .receive .result .outbox .n ≡ length (itemReceives (s .args .x) (s .args .table .now) (getD (entriesOf (s .args .mail .now)) (c .before .before .before .before .before .before .before .before .before .before .delivered .result) unused) .sends) = ap (λ (r : ItemStep). r .outbox .n) (received c) in
+    omega (arith, n, item-sends-few (s .args .x) (s .args .table .now) (getD (entriesOf (s .args .mail .now)) (c .before .before .before .before .before .before .before .before .before .before .delivered .result) unused) p)
 
 acted : (c : tie.After-session-acts) → c .session-acts .result .outbox .n ≤ 65
 acted c =
     let s = c .before .before .before .before .before .before .before .before .before .before .before .before in
-    omega (arith, ap (λ (r : SessionStep). r .outbox .n) (c .session-acts .ensures), acts-few (s .args .verb) (s .args .t) (s .args .x) (Table.session (s .args .table .now) (s .args .t)) (juniors-whole (s .args .t) (s .args .x) (s .args .table .now) (s .args .mail .now) (s .pre .2)) (getD (entriesOf (s .args .mail .now)) (c .before .before .before .before .before .before .before .before .delivered .result) unused))
+    omega (arith, ap (λ (r : SessionStep). r .outbox .n) (c .session-acts .ensures), acts-few (s .args .verb) (s .args .t) (s .args .x) (s .args .table .now) (juniors-whole (s .args .t) (s .args .x) (s .args .table .now) (s .args .mail .now) (s .pre .2)) (getD (entriesOf (s .args .mail .now)) (c .before .before .before .before .before .before .before .before .delivered .result) unused))
 
 delivered-requires : tie.Need-delivered-requires
 delivered-requires c κs = kept (c .before)
@@ -106,7 +101,7 @@ returns-2 c =
     let s = c .before .before .before .before .before .before .before .before .before .before .before .before .before .before .before .before .before .before .before .before .before in
     let entries = entriesOf (s .args .mail .now) in
     let is = item-acts (s .args .verb) (s .args .t) (s .args .x) (s .args .table .now) entries (eq-eqb (s .args .verb) 3 (c .before .before .before .before .before .before .before .before .before .before .before .before .if2 .taken)) in
-    c .before .before .before .before .commit-item .ensures (Item.received senior nextHolder (locks (s .args .table .now) (s .args .x)) (seenByItem (getD entries (c .before .before .before .before .before .before .before .before .before .before .before .before .before .before .before .before .before .delivered .result) unused))) (received (c .before .before .before .before .before .before .before)) ∙ sym (acted-concluded (s .args .verb) (s .args .t) (s .args .x) (s .args .table .now) (s .args .mail .now) (none (c .before .before .before .before .before .before .before .before .before .before .before .before .before)) ∙ rw (is, ← c .before .before .before .before .before .before .before .before .before .before .before .before .before .before .before .before .before .delivered .ensures) refl)
+    c .before .before .before .before .commit-item .ensures (itemReceives (s .args .x) (s .args .table .now) (getD entries (c .before .before .before .before .before .before .before .before .before .before .before .before .before .before .before .before .before .delivered .result) unused)) (received (c .before .before .before .before .before .before .before)) ∙ sym (acted-concluded (s .args .verb) (s .args .t) (s .args .x) (s .args .table .now) (s .args .mail .now) (none (c .before .before .before .before .before .before .before .before .before .before .before .before .before)) ∙ rw (is, ← c .before .before .before .before .before .before .before .before .before .before .before .before .before .before .before .before .before .delivered .ensures) refl)
 
 session-acts-requires : tie.Need-session-acts-requires
 session-acts-requires c κs =
@@ -129,7 +124,7 @@ returns-3 c =
     let s = c .before .before .before .before .before .before .before .before .before .before .before .before .before .before .before .before .before .before .before in
     let entries = entriesOf (s .args .mail .now) in
     let is = session-acts (s .args .verb) (s .args .t) (s .args .x) (s .args .table .now) entries (ne-eqb (s .args .verb) 3 (c .before .before .before .before .before .before .before .before .before .before .if2 .left)) in
-    c .before .before .before .before .commit-session .ensures (sessionActs (s .args .verb) (s .args .t) (s .args .x) (Table.session (s .args .table .now) (s .args .t)) (getD entries (c .before .before .before .before .before .before .before .before .before .before .before .before .before .before .before .delivered .result) unused)) (c .before .before .before .before .before .before .before .session-acts .ensures) ∙ sym (acted-concluded (s .args .verb) (s .args .t) (s .args .x) (s .args .table .now) (s .args .mail .now) (none (c .before .before .before .before .before .before .before .before .before .before .before)) ∙ rw (is, ← c .before .before .before .before .before .before .before .before .before .before .before .before .before .before .before .delivered .ensures) refl)
+    c .before .before .before .before .commit-session .ensures (sessionActs (s .args .verb) (s .args .t) (s .args .x) (s .args .table .now) (getD entries (c .before .before .before .before .before .before .before .before .before .before .before .before .before .before .before .delivered .result) unused)) (c .before .before .before .before .before .before .before .session-acts .ensures) ∙ sym (acted-concluded (s .args .verb) (s .args .t) (s .args .x) (s .args .table .now) (s .args .mail .now) (none (c .before .before .before .before .before .before .before .before .before .before .before)) ∙ rw (is, ← c .before .before .before .before .before .before .before .before .before .before .before .before .before .before .before .delivered .ensures) refl)
 
 pub act-spec : {M : Type 1} → statement M
 act-spec = tie.close (tie.spec delivered-requires step-refusal-requires refused-requires same-length same-length-2 returns item-requires message-to-item-requires receive-requires commit-item-requires same-length-3 same-length-4 returns-2 session-acts-requires commit-session-requires same-length-5 same-length-6 returns-3)

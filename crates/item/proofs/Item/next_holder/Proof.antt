@@ -5,6 +5,7 @@ use Prim.Native.Nat.{_-_, _≤_}
 use native.Mathlib.Numerals.{add-one}
 use native.Mathlib.Omega.{arith}
 use lib.ListN.{length}
+use Rattle.lists.proofs.Orders.{weak}
 use Rattle.session.specs.Seniority.{senior}
 use Rattle.session.proofs.Seniority.{senior-order}
 use Rattle.session.proofs.Laws.{array-length}
@@ -23,7 +24,7 @@ cast-n : tie.Need-cast-n Inv-loop μ-loop
 cast-n c = omega arith
 
 loop-holds : tie.Need-loop-holds Inv-loop μ-loop
-loop-holds c = (omega arith, leads-one senior-order _)
+loop-holds c = (omega arith, leads-one (weak senior-order) _)
 
 array-read-senior : tie.Need-array-read-senior Inv-loop μ-loop
 array-read-senior c = omega arith
@@ -48,8 +49,8 @@ loop-again c =
       omega arith,
       rw (add-one)
           (⊎-elim
-          (λ w. rw (w .1) (leads-new senior-order q (l .i) (l .next) (l .inv .1) (sym e ∙ w .0 .taken)))
-          (λ w. rw (w .1) (leads-still senior-order q (l .i) (l .next) (l .inv .1) (sym e ∙ w .0 .left)))
+          (λ w. rw (w .1) (leads-new (weak senior-order) q (l .i) (l .next) (l .inv .1) (sym e ∙ w .0 .taken)))
+          (λ w. rw (w .1) (leads-still (weak senior-order) q (l .i) (l .next) (l .inv .1) (sym e ∙ w .0 .left)))
           (c .if1 .came)),
     )
 
@@ -61,7 +62,7 @@ returns c =
     let q = s .args .self .queue in
     let len : length q ≡ 64 = array-length q (s .good .0 .1 .1 .1 .1 .0 .1 .0 .1) in
     let all : l .i ≡ s .args .self .waiting = omega arith in
-    let place = leads-place senior-order q (s .args .self .waiting) (l .next) (omega arith) (rw (← all) (l .inv .1)) in
+    let place = leads-place (weak senior-order) q (s .args .self .waiting) (l .next) (omega arith) (rw (← all) (l .inv .1)) in
     (sym place, omega (arith, l .inv .1 .inside))
 
 pub next-holder-spec : {M : Type 1} → statement M

@@ -62,7 +62,7 @@ returns-3 c =
     let some : 0 < length q = omega (arith, next .ensures .1) in
     let first : getD q (next .result) 0 ≡ getD (i .queue) (next .result) 0 = getD-take (i .waiting) (i .queue) (next .result) 0 (next .ensures .1) in
     let left = holds-queue (rest .result) (i .holder) (removeAt (next .result) q) (rest .ensures) in
-    rw (eq-eqb _ _ (c .before .before .before .before .before .before .if1 .left), vacated-more senior nextHolder q some, ← next .ensures .0, first, ← left) (c .handed-over .ensures)
+    rw (eq-eqb _ _ (c .before .before .before .before .before .before .if1 .left), vacated-more senior (nextHolder senior) q some, ← next .ensures .0, first, ← left) (c .handed-over .ensures)
 
 pub on-release-spec : {M : Type 1} → statement M
 on-release-spec =
