@@ -108,6 +108,19 @@ pub fn put_zeros(t: &mut [u8], at: usize, n: usize)
     }
 }
 
+// Writes bytes as they are, and answers the place behind them.
+pub fn put_bytes(t: &mut [u8], at: usize, bytes: &[u8]) -> usize
+    requires { ⌜ at + length (now bytes) ≤ length (now t) ⌝ }
+    ensures { λ r. ⌜ (now (t .exit) ≡ splice (now (t .entry)) at (now (bytes .entry))) × (r ≡ at + length (now (bytes .entry))) ⌝ }
+{
+    let mut i: usize = 0;
+    while i < bytes.len() {
+        t[at + i] = bytes[i];
+        i += 1;
+    }
+    at + i
+}
+
 // Whether n bytes from `at` on are zero; with no early exit, so that the loop is done by vectors.
 pub fn is_zero(t: &[u8], at: usize, n: usize) -> bool
     requires { ⌜ at + n ≤ length (now t) ⌝ }

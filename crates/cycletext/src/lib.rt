@@ -47,13 +47,13 @@ fn put_line(out: &mut [u8], w: Wait) -> usize
     requires { ⌜ length (line w) ≤ length (now out) ⌝ }
     ensures { λ r. ⌜ (now (out .exit) ≡ splice (now (out .entry)) 0 (line w)) × (r ≡ length (line w)) ⌝ }
 {
-    let mut at = text::put_bytes(out, 0, b"session ");
+    let mut at = buffer::put_bytes(out, 0, b"session ");
     at = text::put_decimal(out, at, w.session as u64);
-    at = text::put_bytes(out, at, b" waits for item ");
+    at = buffer::put_bytes(out, at, b" waits for item ");
     at = text::put_decimal(out, at, w.item as u64);
-    at = text::put_bytes(out, at, b" held by session ");
+    at = buffer::put_bytes(out, at, b" held by session ");
     at = text::put_decimal(out, at, w.holder as u64);
-    text::put_bytes(out, at, b"\n")
+    buffer::put_bytes(out, at, b"\n")
 }
 
 // The most senior member of the cycle of n sessions on which `me` lies.

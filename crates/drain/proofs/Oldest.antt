@@ -3,7 +3,7 @@ use mathlib.Core.Path.{_≡_, refl, sym, ap, subst, _∙_}
 use mathlib.Core.Bool.{Bool, true, false, cond, _&&_, true≢false}
 use mathlib.Core.List.{List, _∷_, _++_, map}
 use mathlib.Core.Logic.{_⊎_, inl, inr, ⊎-elim}
-use Prim.Native.Nat.{ℕ, _+_, _≤_, _<_}
+use Prim.Native.Nat.{ℕ, _+_, _<_}
 use native.Mathlib.Omega.{arith}
 use lib.Dec.{eqb}
 use lib.ListN.{length, drop, length-map}
@@ -12,12 +12,9 @@ use borrow.Author.Tests.{eq-eqb, ne-eqb, leb-true, leb-false, lt-ltb, le-ltb}
 use Rattle.lists.specs.Lists.{findIndex, removeAt}
 use Rattle.lists.proofs.Tests.{by-answer, and-both, eqb-self}
 use Rattle.message.specs.declared.Message.{Message}
-use Rattle.message.specs.Outbox as Outbox
-use Rattle.session.specs.Rules as Session
-use Rattle.item.specs.Record.{Packed}
 use Rattle.item.specs.declared.Event.{Event}
-use Rattle.mailbox.specs.Entry.{Entry, unused, toItem, toSession, onRoute, seenBySession}
-use Rattle.mailbox.specs.Layout.{capacityOf, countOf, entryAt, entriesOf, mailBytes}
+use Rattle.mailbox.specs.Entry.{Entry, unused, toItem, toSession, onRoute}
+use Rattle.mailbox.specs.Layout.{capacityOf, countOf, entryAt, entriesOf, mailBytes, Stands}
 use Rattle.mailbox.proofs.Laws as MailLaws
 use Rattle.mailbox.proofs.EntryLaws.{EntryFacts, entry-facts}
 use Rattle.table.specs.Layout as Table
@@ -25,8 +22,8 @@ use Rattle.refusal.specs.Refusal
 use Rattle.refusal.specs.Refusal.{first}
 use Rattle.step.specs.Step as Step
 use Rattle.step.specs.Step.{Plan, Formed, delivered, itemReceives, sessionReceives, sessionActs, sessionPlan, itemPlan, plan, stepCauses, overfull, stepped, refusedAnswer}
-use Rattle.step.specs.Parts.{Judged, concluded}
-use Rattle.step.proofs.Acting.{acted-concluded, length-sent, deliverable, item-packed, juniors-whole, item-sends-few, session-sends-few}
+use Rattle.step.specs.Parts.{Judged, ForItem, ForSession, concluded}
+use Rattle.step.proofs.Acting.{acted-concluded, length-sent, deliverable, item-packed}
 use Rattle.drain.specs.Oldest.{verbOf, oldestActed}
 use Rattle.drain.specs.declared.Delivery.{Delivery}
 use Rattle.drain.specs.Parts.{pending, Spent, Due, fits, refusalOf, Admitted, Outcome, outcome, outcomeOf}
@@ -126,6 +123,9 @@ module _ (k : ℕ) (table mail : List ℕ) (due : Due k table mail) where
   due-judged : Judged (due-entry .session) (due-entry .item) table (pending k mail)
   due-judged = rw (sym same-entry) (oldest-judged table (pending k mail) (due .formed) some-left)
 
+  due-stands : Stands mail k
+  due-stands = record { kept = due .kept; inside = due .inside }
+
   pub due-spent : Spent (k + 1) mail
   due-spent = record { kept = due .kept; few = omega (arith, due .inside) }
 
@@ -135,20 +135,17 @@ module _ (k : ℕ) (table mail : List ℕ) (due : Due k table mail) where
   pub has-item : Table.HasItem table (due-entry .item)
   has-item = record { sized = due .formed .records .sized; low = due-facts .item-low; high = due-facts .item-high }
 
-  pub due-deliverable : Session.Deliverable (seenBySession due-entry)
-  due-deliverable =
-      rw (sym same-entry) (deliverable (due-entry .session) (due-entry .item) table (pending k mail) due-judged 0 some-left)
+  -- what the item or the session is handed the entry with
+  pub due-for-item : ForItem (due-entry .item) k table mail
+  due-for-item =
+      record { item = has-item; packed = item-packed (due-entry .session) (due-entry .item) table (pending k mail) due-judged; entry = due-stands }
 
-  pub due-packed : Packed (Table.item table (due-entry .item))
-  due-packed = item-packed (due-entry .session) (due-entry .item) table (pending k mail) due-judged
-
-  -- what the session or the item sends has places in an outbox
-  pub session-few : length (sessionReceives (due-entry .session) table due-entry .sends) ≤ Outbox.room
-  session-few =
-      omega (arith, session-sends-few (due-entry .session) table due-entry (juniors-whole (due-entry .session) (due-entry .item) table (pending k mail) due-judged))
-
-  pub item-few : length (itemReceives (due-entry .item) table due-entry .sends) ≤ Outbox.room
-  item-few = item-sends-few (due-entry .item) table due-entry due-packed
+  pub due-for-session : ForSession (due-entry .session) k table mail
+  due-for-session = record {
+    session = has-session;
+    deliverable = rw (sym same-entry) (deliverable (due-entry .session) (due-entry .item) table (pending k mail) due-judged 0 some-left);
+    entry = due-stands;
+  }
 
   abbrev others-due : List Entry
   others-due = drop (k + 1) (entriesOf mail)

@@ -68,7 +68,7 @@ fn deliver_to_session(t: u8, k: usize, allowed: bool, table: &mut [u8], mail: &m
         (concluded t (now (table .entry)) (pending k (now (mail .entry))) (sessionPlan t (now (table .entry)) (drop (k + 1) (entriesOf (now (mail .entry)))) (sessionReceives t (now (table .entry)) (entryAt (now (mail .entry)) k))))
         d (now (table .exit)) (now (mail .exit)) ⌝ }
 {
-    let r = table::session(table, t).receive(t, mailbox::message_to_session(mail, k));
+    let r = step::session_receives(t, k, table, mail);
     let d = admit(mail, k, r.outbox.n, allowed);
     if !d.made {
         return d;
@@ -85,7 +85,7 @@ fn deliver_to_item(x: u8, k: usize, allowed: bool, table: &mut [u8], mail: &mut 
         (concluded (entryAt (now (mail .entry)) k .session) (now (table .entry)) (pending k (now (mail .entry))) (itemPlan x (now (table .entry)) (drop (k + 1) (entriesOf (now (mail .entry)))) (itemReceives x (now (table .entry)) (entryAt (now (mail .entry)) k))))
         d (now (table .exit)) (now (mail .exit)) ⌝ }
 {
-    let r = table::item(table, x).receive(mailbox::message_to_item(mail, k));
+    let r = step::item_receives(x, k, table, mail);
     let d = admit(mail, k, r.outbox.n, allowed);
     if !d.made {
         return d;

@@ -32,7 +32,7 @@ use Rattle.refusal.specs.Refusal
 use Rattle.refusal.specs.Refusal.{cause, first}
 use Rattle.step.specs.Step as Step
 use Rattle.step.specs.Step.{Stepped, delivered, itemReceives, sessionReceives, sessionActs, sessionPlan, itemPlan, plan, stepCauses, hindered, overfull, acted, stepped, refusedAnswer, unless, committed, nothingToDeliver}
-use Rattle.step.specs.Parts.{Judged, Fitting, fitting, roomMade, concluded}
+use Rattle.step.specs.Parts.{Judged, ForItem, ForSession, Fitting, fitting, roomMade, concluded}
 use Rattle.refusal.proofs.Causes.{first-stops, first-goes-on, unmet}
 
 -- what a step that was judged knows of its buffers
@@ -55,6 +55,12 @@ module _ (t x : ℕ) (table mail : List ℕ) (j : Judged t x table mail) where
   pub juniors-whole : length (Table.session table t .juniors) ≡ 64
   juniors-whole = TableLaws.juniors-length table (j .formed .records .sized) t (j .session-low) (j .session-high)
 
+  has-session : Table.HasSession table t
+  has-session = record { sized = j .formed .records .sized; low = j .session-low; high = j .session-high }
+
+  has-item : Table.HasItem table x
+  has-item = record { sized = j .formed .records .sized; low = j .item-low; high = j .item-high }
+
   pub item-packed : Packed (Table.item table x)
   item-packed =
       wellFormed-packed (Table.sessionsOf table) (Table.item table x) max-sessions (TableLaws.queue-length table (j .formed .records .sized) x (j .item-low) (j .item-high)) (TableLaws.well-formed-item table (j .formed .records .formed) x (j .item-low) (j .item-high))
@@ -70,6 +76,13 @@ module _ (t x : ℕ) (table mail : List ℕ) (j : Judged t x table mail) where
         from-high = omega (arith, f .item-high, max-items);
         initiator = λ e. (f .a-low (rw (e) refl), omega (arith, f .a-high, max-sessions));
       }
+
+  -- what the item or the session is handed entry k with
+  pub for-item : (k : ℕ) → Mail.Stands mail k → ForItem x k table mail
+  for-item k h = record { item = has-item; packed = item-packed; entry = h }
+
+  pub for-session : (k : ℕ) → Mail.Stands mail k → ForSession t k table mail
+  for-session k h = record { session = has-session; deliverable = deliverable k (h .inside); entry = h }
 
 -- the verbs are 1 to 4
 pub by-verb : (P : ℕ → Type 0) → P 1 → P 2 → P 3 → P 4 → (n : ℕ) → 1 ≤ n → n ≤ 4 → P n

@@ -5,7 +5,9 @@ use mathlib.Core.Bool.{Bool, true, false, cond}
 use mathlib.Core.List.{List}
 use lib.Dec.{ltb}
 use lib.ListN.{length}
-use Rattle.mailbox.specs.Entry.{Entry}
+use Rattle.session.specs.Rules as Session
+use Rattle.item.specs.Record.{Packed}
+use Rattle.mailbox.specs.Entry.{Entry, seenBySession}
 use Rattle.mailbox.specs.Layout as Mail
 use Rattle.table.specs.Layout as Table
 use Rattle.refusal.specs.Refusal
@@ -24,6 +26,17 @@ pub record Acting (verb t x k : ℕ) (table mail : List ℕ) : Type 0 where
   pub judged : Judged t x table mail
   pub place : k ≡ delivered verb t x (Mail.entriesOf mail)
   pub found : (verb ≡ request → ⊥) → (verb ≡ release → ⊥) → k < Mail.countOf mail
+
+-- entry k of the mail is there for item x, whose record is well-formed, and for session t
+pub record ForItem (x k : ℕ) (table mail : List ℕ) : Type 0 where
+  pub item : Table.HasItem table x
+  pub packed : Packed (Table.item table x)
+  pub entry : Mail.Stands mail k
+
+pub record ForSession (t k : ℕ) (table mail : List ℕ) : Type 0 where
+  pub session : Table.HasSession table t
+  pub deliverable : Session.Deliverable (seenBySession (Mail.entryAt mail k))
+  pub entry : Mail.Stands mail k
 
 -- whether more entries fit into the mail, and the mail after
 pub record Fitting : Type 0 where

@@ -14,12 +14,12 @@ ghost use Rattle.message.specs.Outbox.{room};
 ghost use Rattle.session.specs.Rules as SessionRules;
 ghost use Rattle.item.specs.Rules as ItemRules;
 ghost use Rattle.mailbox.specs.Entry.{unused};
-ghost use Rattle.mailbox.specs.Layout.{capacityOf, entriesOf, mailBytes, Kept};
+ghost use Rattle.mailbox.specs.Layout.{capacityOf, entryAt, entriesOf, mailBytes, Kept};
 ghost use Rattle.table.specs.Layout.{HasSession, HasItem, Formed, sessionsOf, wellFormed, withItem};
 ghost use Rattle.waits.specs.OnTable.{cycleLength};
 ghost use Rattle.refusal.specs.Refusal.{first};
-ghost use Rattle.step.specs.Step.{refusedAnswer, acceptedAnswer, delivered, sessionActs, stageForbids, maskForbids, stepCauses, sessionPlan, itemPlan, stepped, answered, acted};
-ghost use Rattle.step.specs.Parts.{Judged, Acting, fitting, roomMade, concluded};
+ghost use Rattle.step.specs.Step.{refusedAnswer, acceptedAnswer, delivered, itemReceives, sessionReceives, sessionActs, stageForbids, maskForbids, stepCauses, sessionPlan, itemPlan, stepped, answered, acted};
+ghost use Rattle.step.specs.Parts.{Judged, Acting, ForItem, ForSession, fitting, roomMade, concluded};
 
 // The answer of a step. A refused step answers its number and zeros.
 #[repr(C)]
@@ -119,16 +119,31 @@ fn step_refusal(verb: u64, t: u8, x: u8, k: usize, table: &[u8], mail: &[u8]) ->
     cause(staged, refusal::WRONG_STAGE, mask)
 }
 
+// What item x does on entry k.
+pub fn item_receives(x: u8, k: usize, table: &[u8], mail: &[u8]) -> ItemStep
+    requires { ⌜ ForItem x k (now table) (now mail) ⌝ }
+    ensures { λ r. ⌜ (r ≡ ItemRules.stepOf (itemReceives x (now (table .entry)) (entryAt (now (mail .entry)) k))) × (r .outbox .n ≤ room) ⌝ }
+{
+    table::item(table, x).receive(mailbox::message_to_item(mail, k))
+}
+
+// What session t does on entry k.
+pub fn session_receives(t: u8, k: usize, table: &[u8], mail: &[u8]) -> SessionStep
+    requires { ⌜ ForSession t k (now table) (now mail) ⌝ }
+    ensures { λ r. ⌜ (r ≡ SessionRules.stepOf (sessionReceives t (now (table .entry)) (entryAt (now (mail .entry)) k))) × (r .outbox .n ≤ room) ⌝ }
+{
+    table::session(table, t).receive(t, mailbox::message_to_session(mail, k))
+}
+
 // What session t does in a step.
 fn session_acts(verb: u64, t: u8, x: u8, k: usize, table: &[u8], mail: &[u8]) -> SessionStep
     requires { ⌜ Acting verb t x k (now table) (now mail) ⌝ }
     ensures { λ r. ⌜ r ≡ SessionRules.stepOf (sessionActs verb t x (now (table .entry)) (getD (entriesOf (now (mail .entry))) k unused)) ⌝ }
 {
-    let s = table::session(table, t);
     match verb {
-        REQUEST => s.request(x),
-        RELEASE => s.release(x),
-        _ => s.receive(t, mailbox::message_to_session(mail, k)),
+        REQUEST => table::session(table, t).request(x),
+        RELEASE => table::session(table, t).release(x),
+        _ => session_receives(t, k, table, mail),
     }
 }
 
@@ -234,7 +249,7 @@ pub fn act(verb: u64, t: u8, x: u8, table: &mut [u8], mail: &mut [u8]) -> Answer
         return Answer::refused(cause);
     }
     if verb == DELIVER_TO_ITEM {
-        let r = table::item(table, x).receive(mailbox::message_to_item(mail, k));
+        let r = item_receives(x, k, table, mail);
         return commit_item(t, x, k, r, table, mail);
     }
     let r = session_acts(verb, t, x, k, table, mail);

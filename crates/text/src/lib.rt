@@ -32,19 +32,6 @@ pub fn decimal_length(v: u64) -> usize
     n
 }
 
-// Writes bytes as they are.
-pub fn put_bytes(out: &mut [u8], at: usize, bytes: &[u8]) -> usize
-    requires { ⌜ at + length (now bytes) ≤ length (now out) ⌝ }
-    ensures { λ r. ⌜ (now (out .exit) ≡ splice (now (out .entry)) at (now (bytes .entry))) × (r ≡ at + length (now (bytes .entry))) ⌝ }
-{
-    let mut i: usize = 0;
-    while i < bytes.len() {
-        out[at + i] = bytes[i];
-        i += 1;
-    }
-    at + i
-}
-
 // Writes a space before each number.
 fn put_spaced(out: &mut [u8], at: usize, numbers: &[u64]) -> usize
     requires { ⌜ at + length (spaced (now numbers)) ≤ length (now out) ⌝ }

@@ -97,7 +97,7 @@ fn put_end(out: &mut [u8], at: usize, left: u64, t: Tally) -> usize
     requires { ⌜ (left < 100000) × (t .closed < 10000) × (t .declared < 10000) × (t .«rolled_back» < 10000) × (at + longestLine ≤ length (now out)) ⌝ }
     ensures { λ r. ⌜ (now (out .exit) ≡ splice (now (out .entry)) at (endLine left (tallyOf t))) × (r ≡ at + length (endLine left (tallyOf t))) × (r ≤ at + longestLine) ⌝ }
 {
-    let next = text::put_bytes(out, at, b"end");
+    let next = buffer::put_bytes(out, at, b"end");
     let numbers = [left, t.closed, t.declared, t.rolled_back];
     text::end_line(out, next, &numbers)
 }
@@ -140,7 +140,7 @@ pub fn write(input: &[u8], out: &mut [u8]) -> usize
         return 0;
     }
     if !well_formed(input) {
-        return text::put_bytes(out, 0, b"bad\n");
+        return buffer::put_bytes(out, 0, b"bad\n");
     }
     let mut table = [0u8; table::MAX_SIZE];
     let mut mail = [0u8; mailbox::MAX_SIZE];

@@ -1,19 +1,15 @@
 -- The delivery to an item: judged for room, then only told, or written.
-use mathlib.Core.Path.{_≡_, refl, ap, _∙_}
-use native.Mathlib.Omega.{arith}
-use Prim.Native.Nat.{_≤_}
+use mathlib.Core.Path.{_≡_, ap}
+use borrow.Author.Needs.{needs}
 use borrow.Author.Tests.{not-true, not-false}
-use Rattle.message.specs.Outbox.{room}
 use Rattle.item.specs.declared.ItemStep.{ItemStep}
 use Rattle.item.specs.Record.{packed}
 use Rattle.item.specs.Rules as Item
 use Rattle.mailbox.specs.Entry.{fromItem}
-use Rattle.waits.specs.OnTable.{locks}
 use Rattle.mailbox.specs.Layout.{entryAt}
 use Rattle.table.specs.Layout as Table
 use Rattle.step.specs.Step.{itemReceives}
-use Rattle.drain.proofs.Oldest.{due-spent, has-item, due-packed, item-few, told-stopped, told-made}
-use borrow.Author.Needs.{needs}
+use Rattle.drain.proofs.Oldest.{due-spent, has-item, due-for-item, told-stopped, told-made}
 use Rattle.drain.proofs.deliver_to_item.Statement.{statement}
 use Rattle.drain.proofs.deliver_to_item.Tie as tie
 
@@ -21,24 +17,14 @@ use Rattle.drain.proofs.deliver_to_item.Tie as tie
 abbrev Did : tie.Start → Item.After
 Did s = itemReceives (entryAt (s .args .mail .now) (s .args .k) .item) (s .args .table .now) (entryAt (s .args .mail .now) (s .args .k))
 
-received : (c : tie.After-receive) → c .receive .result ≡ Item.stepOf (Did (c .before .before .before .before .before .before .before))
-unfolding locks
-received c = let s = c .before .before .before .before .before .before .before in c .receive .ensures ∙ rw (c .before .before .before .item .ensures, c .before .message-to-item .ensures, s .pre .1) refl
+received : (c : tie.After-item-receives) → c .item-receives .result ≡ Item.stepOf (Did (c .before .before .before .before .before))
+received c = rw (← c .before .before .before .before .before .pre .1) (c .item-receives .ensures .0)
 
-few : (c : tie.After-receive) → c .receive .result .outbox .n ≤ room
-few c = let s = c .before .before .before .before .before .before .before in omega (arith, ap (λ (r : ItemStep). r .outbox .n) (received c), item-few (s .args .k) (s .args .table .now) (s .args .mail .now) (s .pre .0))
-
-item-requires : tie.Need-item-requires
-item-requires c κs = let s = c .before .before .before in rw (s .pre .1) (has-item (s .args .k) (s .args .table .now) (s .args .mail .now) (s .pre .0))
-
-message-to-item-requires : tie.Need-message-to-item-requires
-message-to-item-requires c κs = let s = c .before .before .before .before .before in record { kept = s .pre .0 .kept; inside = s .pre .0 .inside }
-
-receive-requires : tie.Need-receive-requires
-receive-requires c κs = let s = c .before .before .before .before .before .before in rw (c .before .before .item .ensures, s .pre .1) (due-packed (s .args .k) (s .args .table .now) (s .args .mail .now) (s .pre .0))
+item-receives-requires : tie.Need-item-receives-requires
+item-receives-requires c κs = let s = c .before .before .before .before in rw (s .pre .1) (due-for-item (s .args .k) (s .args .table .now) (s .args .mail .now) (s .pre .0))
 
 admit-requires : tie.Need-admit-requires
-admit-requires c κs = let s = c .before .before .before .before .before .before .before .before in (due-spent (s .args .k) (s .args .table .now) (s .args .mail .now) (s .pre .0), few (c .before))
+admit-requires c κs = let s = c .before .before .before .before .before .before in (due-spent (s .args .k) (s .args .table .now) (s .args .mail .now) (s .pre .0), c .before .item-receives .ensures .1)
 
 same-length : tie.Need-same-length
 same-length c = search needs
@@ -48,15 +34,15 @@ same-length-2 c = search needs
 
 returns : tie.Need-returns
 returns c =
-    let s = c .before .before .before .before .before .before .before .before .before .before .before .before .before in
+    let s = c .before .before .before .before .before .before .before .before .before .before .before in
     let w = Did s in
     rw (s .pre .1) (told-stopped (s .args .k) (s .args .table .now) (s .args .mail .now) (s .pre .0) (Table.withItem (s .args .table .now) (entryAt (s .args .mail .now) (s .args .k) .item) (packed (w .lock))) (fromItem (entryAt (s .args .mail .now) (s .args .k) .item)) (w .sends) (w .event) _ (ap (λ (r : ItemStep). r .outbox .n) (received (c .before .before .before .before .before .before))) (s .args .allowed) _ _ (c .before .before .before .before .admit .ensures) (not-true _ (c .if1 .taken)))
 
 post-requires : tie.Need-post-requires
-post-requires c κs = let p = c .before .before .before .before .before .admit .ensures .placed (not-false _ (c .before .if1 .left)) in record { kept = p .spent .kept; few = few (c .before .before .before .before .before .before .before); fits = p .free }
+post-requires c κs = let p = c .before .before .before .before .before .admit .ensures .placed (not-false _ (c .before .if1 .left)) in record { kept = p .spent .kept; few = c .before .before .before .before .before .before .before .item-receives .ensures .1; fits = p .free }
 
 put-item-requires : tie.Need-put-item-requires
-put-item-requires c κs = let s = c .before .before .before .before .before .before .before .before .before .before .before .before .before .before .before .before .before .before in rw (s .pre .1) (has-item (s .args .k) (s .args .table .now) (s .args .mail .now) (s .pre .0))
+put-item-requires c κs = let s = c .before .before .before .before .before .before .before .before .before .before .before .before .before .before .before .before in rw (s .pre .1) (has-item (s .args .k) (s .args .table .now) (s .args .mail .now) (s .pre .0))
 
 same-length-3 : tie.Need-same-length-3
 same-length-3 c = search needs
@@ -66,19 +52,17 @@ same-length-4 c = search needs
 
 returns-2 : tie.Need-returns-2
 returns-2 c =
-    let s = c .before .before .before .before .before .before .before .before .before .before .before .before .before .before .before .before .before .before .before .before .before in
+    let s = c .before .before .before .before .before .before .before .before .before .before .before .before .before .before .before .before .before .before .before in
     let w = Did s in
     let does = received (c .before .before .before .before .before .before .before .before .before .before .before .before .before .before) in
     rw (c .before .before .put-item .ensures, does, s .pre .1)
-    (told-made (s .args .k) (s .args .table .now) (s .args .mail .now) (s .pre .0) (Table.withItem (s .args .table .now) (entryAt (s .args .mail .now) (s .args .k) .item) (packed (w .lock))) (fromItem (entryAt (s .args .mail .now) (s .args .k) .item)) (w .sends) (w .event) _ (ap (λ (r : ItemStep). r .outbox .n) (received (c .before .before .before .before .before .before .before .before .before .before .before .before .before .before))) (s .args .allowed) _ _ (c .before .before .before .before .before .before .before .before .before .before .before .before .admit .ensures) (not-false _ (c .before .before .before .before .before .before .before .before .if1 .left)) (rw (s .pre .1) at (c .before .before .before .before .before .before .post .ensures (w .sends) (ap (λ (r : ItemStep). r .outbox) does))))
+    (told-made (s .args .k) (s .args .table .now) (s .args .mail .now) (s .pre .0) (Table.withItem (s .args .table .now) (entryAt (s .args .mail .now) (s .args .k) .item) (packed (w .lock))) (fromItem (entryAt (s .args .mail .now) (s .args .k) .item)) (w .sends) (w .event) _ (ap (λ (r : ItemStep). r .outbox .n) does) (s .args .allowed) _ _ (c .before .before .before .before .before .before .before .before .before .before .before .before .admit .ensures) (not-false _ (c .before .before .before .before .before .before .before .before .if1 .left)) (rw (s .pre .1) at (c .before .before .before .before .before .before .post .ensures (w .sends) (ap (λ (r : ItemStep). r .outbox) does))))
 
 pub deliver-to-item-spec : {M : Type 1} → statement M
 deliver-to-item-spec =
     tie.close
     (tie.spec
-    item-requires
-    message-to-item-requires
-    receive-requires
+    item-receives-requires
     admit-requires
     same-length
     same-length-2

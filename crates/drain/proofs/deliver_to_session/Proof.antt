@@ -1,9 +1,7 @@
 -- The delivery to a session: judged for room, then only told, or written.
-use mathlib.Core.Path.{_≡_, refl, ap, _∙_}
-use native.Mathlib.Omega.{arith}
-use Prim.Native.Nat.{_≤_}
+use mathlib.Core.Path.{_≡_, ap}
+use borrow.Author.Needs.{needs}
 use borrow.Author.Tests.{not-true, not-false}
-use Rattle.message.specs.Outbox.{room}
 use Rattle.session.specs.declared.SessionStep.{SessionStep}
 use Rattle.session.specs.Rules as Session
 use Rattle.item.specs.declared.Event.the-variants.{Nothing}
@@ -11,8 +9,7 @@ use Rattle.mailbox.specs.Entry.{fromSession}
 use Rattle.mailbox.specs.Layout.{entryAt}
 use Rattle.table.specs.Layout as Table
 use Rattle.step.specs.Step.{sessionReceives}
-use Rattle.drain.proofs.Oldest.{due-spent, has-session, due-deliverable, session-few, told-stopped, told-made}
-use borrow.Author.Needs.{needs}
+use Rattle.drain.proofs.Oldest.{due-spent, has-session, due-for-session, told-stopped, told-made}
 use Rattle.drain.proofs.deliver_to_session.Statement.{statement}
 use Rattle.drain.proofs.deliver_to_session.Tie as tie
 
@@ -20,23 +17,14 @@ use Rattle.drain.proofs.deliver_to_session.Tie as tie
 abbrev Did : tie.Start → Session.After
 Did s = sessionReceives (entryAt (s .args .mail .now) (s .args .k) .session) (s .args .table .now) (entryAt (s .args .mail .now) (s .args .k))
 
-received : (c : tie.After-receive) → c .receive .result ≡ Session.stepOf (Did (c .before .before .before .before .before .before .before))
-received c = let s = c .before .before .before .before .before .before .before in c .receive .ensures ∙ rw (c .before .before .before .session .ensures, c .before .message-to-session .ensures, s .pre .1) refl
+received : (c : tie.After-session-receives) → c .session-receives .result ≡ Session.stepOf (Did (c .before .before .before .before .before))
+received c = rw (← c .before .before .before .before .before .pre .1) (c .session-receives .ensures .0)
 
-few : (c : tie.After-receive) → c .receive .result .outbox .n ≤ room
-few c = let s = c .before .before .before .before .before .before .before in omega (arith, ap (λ (r : SessionStep). r .outbox .n) (received c), session-few (s .args .k) (s .args .table .now) (s .args .mail .now) (s .pre .0))
-
-session-requires : tie.Need-session-requires
-session-requires c κs = let s = c .before .before .before in rw (s .pre .1) (has-session (s .args .k) (s .args .table .now) (s .args .mail .now) (s .pre .0))
-
-message-to-session-requires : tie.Need-message-to-session-requires
-message-to-session-requires c κs = let s = c .before .before .before .before .before in record { kept = s .pre .0 .kept; inside = s .pre .0 .inside }
-
-receive-requires : tie.Need-receive-requires
-receive-requires c κs = let s = c .before .before .before .before .before .before in rw (c .message-to-session .ensures) (due-deliverable (s .args .k) (s .args .table .now) (s .args .mail .now) (s .pre .0))
+session-receives-requires : tie.Need-session-receives-requires
+session-receives-requires c κs = let s = c .before .before .before .before in rw (s .pre .1) (due-for-session (s .args .k) (s .args .table .now) (s .args .mail .now) (s .pre .0))
 
 admit-requires : tie.Need-admit-requires
-admit-requires c κs = let s = c .before .before .before .before .before .before .before .before in (due-spent (s .args .k) (s .args .table .now) (s .args .mail .now) (s .pre .0), few (c .before))
+admit-requires c κs = let s = c .before .before .before .before .before .before in (due-spent (s .args .k) (s .args .table .now) (s .args .mail .now) (s .pre .0), c .before .session-receives .ensures .1)
 
 same-length : tie.Need-same-length
 same-length c = search needs
@@ -46,15 +34,15 @@ same-length-2 c = search needs
 
 returns : tie.Need-returns
 returns c =
-    let s = c .before .before .before .before .before .before .before .before .before .before .before .before .before in
+    let s = c .before .before .before .before .before .before .before .before .before .before .before in
     let w = Did s in
     rw (s .pre .1) (told-stopped (s .args .k) (s .args .table .now) (s .args .mail .now) (s .pre .0) (Table.withSession (s .args .table .now) (entryAt (s .args .mail .now) (s .args .k) .session) (w .session)) (fromSession (entryAt (s .args .mail .now) (s .args .k) .session)) (w .sends) Nothing _ (ap (λ (r : SessionStep). r .outbox .n) (received (c .before .before .before .before .before .before))) (s .args .allowed) _ _ (c .before .before .before .before .admit .ensures) (not-true _ (c .if1 .taken)))
 
 post-requires : tie.Need-post-requires
-post-requires c κs = let p = c .before .before .before .before .before .admit .ensures .placed (not-false _ (c .before .if1 .left)) in record { kept = p .spent .kept; few = few (c .before .before .before .before .before .before .before); fits = p .free }
+post-requires c κs = let p = c .before .before .before .before .before .admit .ensures .placed (not-false _ (c .before .if1 .left)) in record { kept = p .spent .kept; few = c .before .before .before .before .before .before .before .session-receives .ensures .1; fits = p .free }
 
 put-session-requires : tie.Need-put-session-requires
-put-session-requires c κs = let s = c .before .before .before .before .before .before .before .before .before .before .before .before .before .before .before .before .before .before in rw (s .pre .1) (has-session (s .args .k) (s .args .table .now) (s .args .mail .now) (s .pre .0))
+put-session-requires c κs = let s = c .before .before .before .before .before .before .before .before .before .before .before .before .before .before .before .before in rw (s .pre .1) (has-session (s .args .k) (s .args .table .now) (s .args .mail .now) (s .pre .0))
 
 same-length-3 : tie.Need-same-length-3
 same-length-3 c = search needs
@@ -64,19 +52,17 @@ same-length-4 c = search needs
 
 returns-2 : tie.Need-returns-2
 returns-2 c =
-    let s = c .before .before .before .before .before .before .before .before .before .before .before .before .before .before .before .before .before .before .before .before .before in
+    let s = c .before .before .before .before .before .before .before .before .before .before .before .before .before .before .before .before .before .before .before in
     let w = Did s in
     let does = received (c .before .before .before .before .before .before .before .before .before .before .before .before .before .before) in
     rw (c .before .before .put-session .ensures, does, s .pre .1)
-    (told-made (s .args .k) (s .args .table .now) (s .args .mail .now) (s .pre .0) (Table.withSession (s .args .table .now) (entryAt (s .args .mail .now) (s .args .k) .session) (w .session)) (fromSession (entryAt (s .args .mail .now) (s .args .k) .session)) (w .sends) Nothing _ (ap (λ (r : SessionStep). r .outbox .n) (received (c .before .before .before .before .before .before .before .before .before .before .before .before .before .before))) (s .args .allowed) _ _ (c .before .before .before .before .before .before .before .before .before .before .before .before .admit .ensures) (not-false _ (c .before .before .before .before .before .before .before .before .if1 .left)) (rw (s .pre .1) at (c .before .before .before .before .before .before .post .ensures (w .sends) (ap (λ (r : SessionStep). r .outbox) does))))
+    (told-made (s .args .k) (s .args .table .now) (s .args .mail .now) (s .pre .0) (Table.withSession (s .args .table .now) (entryAt (s .args .mail .now) (s .args .k) .session) (w .session)) (fromSession (entryAt (s .args .mail .now) (s .args .k) .session)) (w .sends) Nothing _ (ap (λ (r : SessionStep). r .outbox .n) does) (s .args .allowed) _ _ (c .before .before .before .before .before .before .before .before .before .before .before .before .admit .ensures) (not-false _ (c .before .before .before .before .before .before .before .before .if1 .left)) (rw (s .pre .1) at (c .before .before .before .before .before .before .post .ensures (w .sends) (ap (λ (r : SessionStep). r .outbox) does))))
 
 pub deliver-to-session-spec : {M : Type 1} → statement M
 deliver-to-session-spec =
     tie.close
     (tie.spec
-    session-requires
-    message-to-session-requires
-    receive-requires
+    session-receives-requires
     admit-requires
     same-length
     same-length-2

@@ -2,21 +2,18 @@
 use mathlib.Core.Path.{_≡_, refl, sym, ap, _∙_}
 use native.Mathlib.Omega.{arith}
 use Prim.Native.Nat.{_≤_, _<_}
-use lib.ListN.{length, getD}
+use lib.ListN.{getD}
+use borrow.Author.Needs.{needs}
 use borrow.Author.Tests.{eq-eqb, ne-eqb}
-use Rattle.item.specs.declared.ItemStep.{ItemStep}
-use Rattle.item.specs.Rules as Item
-use Rattle.message.specs.Outbox.{room}
 use Rattle.session.specs.declared.SessionStep.{SessionStep}
+use Rattle.item.specs.Rules as Item
 use Rattle.mailbox.specs.Entry.{unused}
 use Rattle.mailbox.specs.Layout.{Kept, countOf, entriesOf}
 use Rattle.mailbox.proofs.Laws.{getD-entries}
-use Rattle.waits.specs.OnTable.{locks}
 use Rattle.refusal.specs.Refusal.{first}
-use Rattle.step.specs.Step.{stepCauses, delivered, itemReceives, sessionActs}
-use Rattle.step.proofs.Acting.{mail-kept, item-packed, juniors-whole, item-sends-few, acts-few, acted-refused, acted-concluded, delivers, item-acts, session-acts}
+use Rattle.step.specs.Step.{stepCauses, itemReceives, sessionActs}
+use Rattle.step.proofs.Acting.{mail-kept, juniors-whole, for-item, acts-few, acted-refused, acted-concluded, delivers, item-acts, session-acts}
 use Rattle.step.proofs.Form.{plan-keeps}
-use borrow.Author.Needs.{needs}
 use Rattle.step.proofs.act.Statement.{statement}
 use Rattle.step.proofs.act.Tie as tie
 
@@ -28,21 +25,13 @@ kept c =
 none : (c : tie.Else1) → first (stepCauses (c .before .before .before .before .before .before .before .before .args .verb) (c .before .before .before .before .before .before .before .before .args .t) (c .before .before .before .before .before .before .before .before .args .x) (c .before .before .before .before .before .before .before .before .args .table .now) (entriesOf (c .before .before .before .before .before .before .before .before .args .mail .now))) ≡ 0
 none c = sym (c .before .step-refusal .ensures) ∙ c .if1 .left
 
-found : (c : tie.Then2) → (c .before .before .before .before .before .delivered .result) < countOf (c .before .before .before .before .before .before .before .before .before .args .mail .now)
+found : (c : tie.Then2) → c .before .before .before .before .before .delivered .result < countOf (c .before .before .before .before .before .before .before .before .before .args .mail .now)
 found c =
     let s = c .before .before .before .before .before .before .before .before .before in
     rw (c .before .before .before .before .before .delivered .ensures) (delivers (s .args .verb) (s .args .t) (s .args .x) (s .args .table .now) (s .args .mail .now) (s .pre .0) (s .pre .1) (none (c .before)) (λ q. absurd (omega (arith, c .if2 .taken))) (λ q. absurd (omega (arith, c .if2 .taken))))
 
-received : (c : tie.After-receive) → c .receive .result ≡ Item.stepOf (itemReceives (c .before .before .before .before .before .before .before .before .before .before .before .before .before .before .args .x) (c .before .before .before .before .before .before .before .before .before .before .before .before .before .before .args .table .now) (getD (entriesOf (c .before .before .before .before .before .before .before .before .before .before .before .before .before .before .args .mail .now)) (c .before .before .before .before .before .before .before .before .before .before .delivered .result) unused))
-unfolding locks
-received c = c .receive .ensures ∙ rw (c .before .before .before .item .ensures, c .before .message-to-item .ensures, getD-entries (c .before .before .before .before .before .before .before .before .before .before .before .before .before .before .args .mail .now) (c .before .before .before .before .before .before .before .before .before .before .delivered .result) (found (c .before .before .before .before .before))) refl
-
-few : (c : tie.After-receive) → c .receive .result .outbox .n ≤ room
-few c =
-    let s = c .before .before .before .before .before .before .before .before .before .before .before .before .before .before in
-    let p = item-packed (s .args .t) (s .args .x) (s .args .table .now) (s .args .mail .now) (s .pre .2) in
-    let n : c .receive .result .outbox .n ≡ length (itemReceives (s .args .x) (s .args .table .now) (getD (entriesOf (s .args .mail .now)) (c .before .before .before .before .before .before .before .before .before .before .delivered .result) unused) .sends) = ap (λ (r : ItemStep). r .outbox .n) (received c) in
-    omega (arith, n, item-sends-few (s .args .x) (s .args .table .now) (getD (entriesOf (s .args .mail .now)) (c .before .before .before .before .before .before .before .before .before .before .delivered .result) unused) p)
+received : (c : tie.After-item-receives) → c .item-receives .result ≡ Item.stepOf (itemReceives (c .before .before .before .before .before .before .before .before .before .before .before .before .args .x) (c .before .before .before .before .before .before .before .before .before .before .before .before .args .table .now) (getD (entriesOf (c .before .before .before .before .before .before .before .before .before .before .before .before .args .mail .now)) (c .before .before .before .before .before .before .before .before .delivered .result) unused))
+received c = rw (getD-entries (c .before .before .before .before .before .before .before .before .before .before .before .before .args .mail .now) (c .before .before .before .before .before .before .before .before .delivered .result) (found (c .before .before .before))) (c .item-receives .ensures .0)
 
 acted : (c : tie.After-session-acts) → c .session-acts .result .outbox .n ≤ 65
 acted c =
@@ -70,25 +59,19 @@ returns c =
     let cause = c .before .before .step-refusal .ensures in
     rw (c .refused .ensures, acted-refused (s .args .verb) (s .args .t) (s .args .x) (s .args .table .now) (s .args .mail .now) (λ z. c .before .if1 .taken (cause ∙ z)), cause) refl
 
-item-requires : tie.Need-item-requires
-item-requires c κs = search needs
-
-message-to-item-requires : tie.Need-message-to-item-requires
-message-to-item-requires c κs = record { kept = kept (c .before .before .before .before .before .before .before .before .before .before); inside = found (c .before .before .before) }
-
-receive-requires : tie.Need-receive-requires
-receive-requires c κs =
-    let s = c .before .before .before .before .before .before .before .before .before .before .before .before .before in
-    rw (c .before .before .item .ensures) (item-packed (s .args .t) (s .args .x) (s .args .table .now) (s .args .mail .now) (s .pre .2))
+item-receives-requires : tie.Need-item-receives-requires
+item-receives-requires c κs =
+    let s = c .before .before .before .before .before .before .before .before .before .before .before in
+    for-item (s .args .t) (s .args .x) (s .args .table .now) (s .args .mail .now) (s .pre .2) (c .before .before .before .before .before .before .before .delivered .result) (record { kept = kept (c .before .before .before .before .before .before .before .before .before); inside = found (c .before .before) })
 
 commit-item-requires : tie.Need-commit-item-requires
 commit-item-requires c κs =
-    let s = c .before .before .before .before .before .before .before .before .before .before .before .before .before .before .before .before in
+    let s = c .before .before .before .before .before .before .before .before .before .before .before .before .before .before in
     let j = s .pre .2 in
     let entries = entriesOf (s .args .mail .now) in
-    let formed = plan-keeps (s .args .t) (s .args .x) (s .args .table .now) (s .args .mail .now) j (s .args .verb) (s .pre .0) (s .pre .1) (none (c .before .before .before .before .before .before .before .before)) .formed in
-    let is = item-acts (s .args .verb) (s .args .t) (s .args .x) (s .args .table .now) entries (eq-eqb (s .args .verb) 3 (c .before .before .before .before .before .before .before .if2 .taken)) in
-    (record { sized = j .formed .records .sized; low = j .session-low; high = j .session-high }, record { sized = j .formed .records .sized; low = j .item-low; high = j .item-high }, rw (received (c .before .before), c .before .before .before .before .before .before .before .before .before .before .before .before .delivered .ensures) (rw (is) at formed), kept (c .before .before .before .before .before .before .before .before .before .before .before .before .before .before), omega (arith, few (c .before .before)))
+    let formed = plan-keeps (s .args .t) (s .args .x) (s .args .table .now) (s .args .mail .now) j (s .args .verb) (s .pre .0) (s .pre .1) (none (c .before .before .before .before .before .before)) .formed in
+    let is = item-acts (s .args .verb) (s .args .t) (s .args .x) (s .args .table .now) entries (eq-eqb (s .args .verb) 3 (c .before .before .before .before .before .if2 .taken)) in
+    (record { sized = j .formed .records .sized; low = j .session-low; high = j .session-high }, record { sized = j .formed .records .sized; low = j .item-low; high = j .item-high }, rw (received (c .before .before), c .before .before .before .before .before .before .before .before .before .before .delivered .ensures) (rw (is) at formed), kept (c .before .before .before .before .before .before .before .before .before .before .before .before), c .before .before .item-receives .ensures .1)
 
 same-length-3 : tie.Need-same-length-3
 same-length-3 c = search needs
@@ -98,10 +81,10 @@ same-length-4 c = search needs
 
 returns-2 : tie.Need-returns-2
 returns-2 c =
-    let s = c .before .before .before .before .before .before .before .before .before .before .before .before .before .before .before .before .before .before .before .before .before in
+    let s = c .before .before .before .before .before .before .before .before .before .before .before .before .before .before .before .before .before .before .before in
     let entries = entriesOf (s .args .mail .now) in
-    let is = item-acts (s .args .verb) (s .args .t) (s .args .x) (s .args .table .now) entries (eq-eqb (s .args .verb) 3 (c .before .before .before .before .before .before .before .before .before .before .before .before .if2 .taken)) in
-    c .before .before .before .before .commit-item .ensures (itemReceives (s .args .x) (s .args .table .now) (getD entries (c .before .before .before .before .before .before .before .before .before .before .before .before .before .before .before .before .before .delivered .result) unused)) (received (c .before .before .before .before .before .before .before)) ∙ sym (acted-concluded (s .args .verb) (s .args .t) (s .args .x) (s .args .table .now) (s .args .mail .now) (none (c .before .before .before .before .before .before .before .before .before .before .before .before .before)) ∙ rw (is, ← c .before .before .before .before .before .before .before .before .before .before .before .before .before .before .before .before .before .delivered .ensures) refl)
+    let is = item-acts (s .args .verb) (s .args .t) (s .args .x) (s .args .table .now) entries (eq-eqb (s .args .verb) 3 (c .before .before .before .before .before .before .before .before .before .before .if2 .taken)) in
+    c .before .before .before .before .commit-item .ensures (itemReceives (s .args .x) (s .args .table .now) (getD entries (c .before .before .before .before .before .before .before .before .before .before .before .before .before .before .before .delivered .result) unused)) (received (c .before .before .before .before .before .before .before)) ∙ sym (acted-concluded (s .args .verb) (s .args .t) (s .args .x) (s .args .table .now) (s .args .mail .now) (none (c .before .before .before .before .before .before .before .before .before .before .before)) ∙ rw (is, ← c .before .before .before .before .before .before .before .before .before .before .before .before .before .before .before .delivered .ensures) refl)
 
 session-acts-requires : tie.Need-session-acts-requires
 session-acts-requires c κs =
@@ -127,4 +110,4 @@ returns-3 c =
     c .before .before .before .before .commit-session .ensures (sessionActs (s .args .verb) (s .args .t) (s .args .x) (s .args .table .now) (getD entries (c .before .before .before .before .before .before .before .before .before .before .before .before .before .before .before .delivered .result) unused)) (c .before .before .before .before .before .before .before .session-acts .ensures) ∙ sym (acted-concluded (s .args .verb) (s .args .t) (s .args .x) (s .args .table .now) (s .args .mail .now) (none (c .before .before .before .before .before .before .before .before .before .before .before)) ∙ rw (is, ← c .before .before .before .before .before .before .before .before .before .before .before .before .before .before .before .delivered .ensures) refl)
 
 pub act-spec : {M : Type 1} → statement M
-act-spec = tie.close (tie.spec delivered-requires step-refusal-requires refused-requires same-length same-length-2 returns item-requires message-to-item-requires receive-requires commit-item-requires same-length-3 same-length-4 returns-2 session-acts-requires commit-session-requires same-length-5 same-length-6 returns-3)
+act-spec = tie.close (tie.spec delivered-requires step-refusal-requires refused-requires same-length same-length-2 returns item-receives-requires commit-item-requires same-length-3 same-length-4 returns-2 session-acts-requires commit-session-requires same-length-5 same-length-6 returns-3)

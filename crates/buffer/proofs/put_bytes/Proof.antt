@@ -5,27 +5,27 @@ use native.Mathlib.Omega.{arith}
 use native.Mathlib.Numerals.{add-one}
 use lib.ListN.{length, length-set}
 use lib.Seq.{paste, paste-zero, paste-suc}
 use Rattle.buffer.proofs.Laws.{paste-splice}
-use Rattle.text.proofs.put_bytes.Statement.{statement}
-use Rattle.text.proofs.put_bytes.Tie as tie
+use Rattle.buffer.proofs.put_bytes.Statement.{statement}
+use Rattle.buffer.proofs.put_bytes.Tie as tie
 
 abbrev Inv-loop : tie.InvT-loop
-Inv-loop out₀ at bytes i₀ out i = (i ≤ length bytes) × (length out ≡ length out₀) × (out ≡ paste out₀ at bytes i)
+Inv-loop t₀ at bytes i₀ t i = (i ≤ length bytes) × (length t ≡ length t₀) × (t ≡ paste t₀ at bytes i)
 
 abbrev μ-loop : tie.MeasureT-loop
-μ-loop out₀ at bytes i₀ out i = length bytes - i
+μ-loop t₀ at bytes i₀ t i = length bytes - i
 
 loop-holds : tie.Need-loop-holds Inv-loop μ-loop
-loop-holds c = (omega arith, refl, paste-zero (c .args .out .now) (c .args .at) (c .args .bytes .now))
+loop-holds c = (omega arith, refl, paste-zero (c .args .t .now) (c .args .at) (c .args .bytes .now))
 
-shared-slice-read-out : tie.Need-shared-slice-read-out Inv-loop μ-loop
-shared-slice-read-out c = omega arith
+shared-slice-read-t : tie.Need-shared-slice-read-t Inv-loop μ-loop
+shared-slice-read-t c = omega arith
 
-add-out : tie.Need-add-out Inv-loop μ-loop
-add-out c = omega arith
+add-t : tie.Need-add-t Inv-loop μ-loop
+add-t c = omega arith
 
-slice-write-out : tie.Need-slice-write-out Inv-loop μ-loop
-slice-write-out c = omega arith
+slice-write-t : tie.Need-slice-write-t Inv-loop μ-loop
+slice-write-t c = omega arith
 
 add-i : tie.Need-add-i Inv-loop μ-loop
 add-i c = omega arith
@@ -39,7 +39,7 @@ loop-again c =
     let l = c .before .before .loop in (
       omega arith,
       simp length-set (l .inv .1),
-      rw (l .inv .2, add-one) (paste-suc (a .out .now) (a .at) (a .bytes .now) (l .i) 0 (omega arith) (omega arith)),
+      rw (l .inv .2, add-one) (paste-suc (a .t .now) (a .at) (a .bytes .now) (l .i) 0 (omega arith) (omega arith)),
     )
 
 add-result : tie.Need-add-result Inv-loop μ-loop
@@ -53,7 +53,7 @@ returns c =
     let a = c .before .before .args in
     let l = c .before .loop in
     let all : l .i ≡ length (a .bytes .now) = omega arith in
-    (l .inv .2 ∙ paste-splice (a .out .now) (a .at) (a .bytes .now) (l .i) (sym all), ap (λ (n : ℕ). a .at + n) all)
+    (l .inv .2 ∙ paste-splice (a .t .now) (a .at) (a .bytes .now) (l .i) (sym all), ap (λ (n : ℕ). a .at + n) all)
 
 pub put-bytes-spec : {M : Type 1} → statement M
 put-bytes-spec =
@@ -62,9 +62,9 @@ put-bytes-spec =
     Inv-loop
     μ-loop
     loop-holds
-    shared-slice-read-out
-    add-out
-    slice-write-out
+    shared-slice-read-t
+    add-t
+    slice-write-t
     add-i
     loop-less
     loop-again
