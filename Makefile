@@ -19,6 +19,8 @@
 #   make fuzz          the comparison with new seeds: FUZZ_SECONDS=60, SEED=n to repeat one
 #   make bench         times of a call beside model, floor and hand-written Rust;
 #                      BEFORE=path/to/liblockmgr.so beside an earlier library too
+#   make earlier       the library and an earlier one, which knows no ranks, on the same calls,
+#                      byte for byte: BEFORE=path/to/liblockmgr.so
 #   make picture       draws docs/cycle.svg anew (needs Graphviz)
 #   make format        lays out all sources anew; make format-check only looks
 #   make clean         removes what was built
@@ -65,7 +67,7 @@ C_TESTS := asan helpers room
 
 .NOTPARALLEL:
 .PHONY: help test proofs demo replay statement lib install model compare replays statements ctest workers \
-	install-test replay-test statement-test fuzz bench picture format format-check clean FORCE
+	install-test replay-test statement-test fuzz bench earlier picture format format-check clean FORCE
 
 # The lines above, up to the first that is no comment.
 help:
@@ -204,6 +206,10 @@ bench: $(LIB) $(if $(BEFORE),$(SHARED)) $(PROGRAMS:%=build/bin/%)
 	cargo run $(CARGO_COMPARE) --bin bench -- $(if $(BEFORE),"$(abspath $(BEFORE))" "$(abspath $(SHARED))")
 	cargo run $(CARGO_COMPARE) --bin replays -- $(abspath build/bin/replay) bench
 	cargo run $(CARGO_COMPARE) --bin statements -- $(abspath build/bin/statement) bench
+
+earlier: $(LIB)
+	@[ -n "$(BEFORE)" ] || { echo "Beside which library? BEFORE=path/to/liblockmgr.so"; exit 1; }
+	cargo run $(CARGO_COMPARE) --bin earlier -- "$(abspath $(BEFORE))"
 
 # The example's cycle, after the step that closes it.
 picture:

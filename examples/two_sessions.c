@@ -3,8 +3,9 @@
  * and are led out of it again. How the cycle closes and is found is shown by
  * single deliveries; for the rest the mail is drained. Each session edits the
  * items that it is granted; the victim's edit is undone after the drain that
- * rolls it back, before the other session goes on. Every answer is checked; the
- * exit status is 0 if all are as expected.
+ * rolls it back, before the other session goes on. Then the same calls are made
+ * with other ranks, and the other session is the victim. Every answer is
+ * checked; the exit status is 0 if all are as expected.
  */
 #include "lockmgr.h"
 
@@ -58,6 +59,11 @@ static const script_step found[] = {
     {TO_ITEM, 2, 1, {0, 1, 0, 2, 1},
      "The probe of session 1 has come to an item that session 1 holds: a deadlock.\n"
      "Item 1 declares session 2, the most junior on the way, the victim."},
+};
+
+static const script_step crossed[] = {
+    {REQUEST, 1, 2, {0, 1, 0, 0, 0}, "The design office wants item 2 as well."},
+    {REQUEST, 2, 1, {0, 1, 0, 0, 0}, "The tool room wants item 1 as well."},
 };
 
 /* clang-format on */
@@ -249,16 +255,37 @@ static void look(unsigned cycle_length, unsigned stage_of_1, unsigned stage_of_2
     expect("stage of session 2", lockmgr_stage(table, 2), stage_of_2);
 }
 
+/* Starts a lock manager in the buffers, and each session locks an item. */
+static void start_and_lock(const lockmgr_options *options)
+{
+    unsigned session;
+    expect("refusal of start", lockmgr_start_with(options, table, sizeof table, mail, sizeof mail),
+           LOCKMGR_ACCEPTED);
+    for (session = 1; session <= SESSIONS; session++)
+        expect("rank", lockmgr_rank(table, session), options->ranks[session - 1]);
+    PLAY(first_locks);
+    drain(4, "Both requests arrive. The items are free: each sends its session a grant.");
+}
+
+/* One session holds both items, and nothing is on its way. */
+static void expect_both_items(unsigned session)
+{
+    unsigned item;
+    expect("messages left:", lockmgr_mail_count(mail), 0);
+    for (item = 1; item <= ITEMS; item++) {
+        expect("it holds the item:", lockmgr_holds(table, session, item) ? 1 : 0, 1);
+        expect("holder of the item:", lockmgr_holder(table, item), session);
+        expect("last editor of the item:", catalogue[item], session);
+    }
+}
+
 int main(void)
 {
     lockmgr_options options = lockmgr_default_options(SESSIONS, ITEMS);
     printf("A lock manager for %d sessions and %d items.\n", SESSIONS, ITEMS);
-    expect("refusal of start", lockmgr_start_with(&options, table, sizeof table, mail, sizeof mail),
-           LOCKMGR_ACCEPTED);
 
     printf("\nEach session locks an item\n\n");
-    PLAY(first_locks);
-    drain(4, "Both requests arrive. The items are free: each sends its session a grant.");
+    start_and_lock(&options);
     look(0, LOCKMGR_GROWING, LOCKMGR_GROWING);
 
     printf("\nEach wants the other's item: a cycle\n\n");
@@ -276,13 +303,21 @@ int main(void)
               "session 2 leaves the wait queue of item 1, releases item 2 and is rolled\n"
               "back. Item 2 goes to session 1, which holds both items now.");
     look(0, LOCKMGR_GROWING, LOCKMGR_ROLLED_BACK);
-    expect("messages left:", lockmgr_mail_count(mail), 0);
-    expect("session 1 holds item 1:", lockmgr_holds(table, 1, 1) ? 1 : 0, 1);
-    expect("session 1 holds item 2:", lockmgr_holds(table, 1, 2) ? 1 : 0, 1);
-    expect("holder of item 1:", lockmgr_holder(table, 1), 1);
-    expect("holder of item 2:", lockmgr_holder(table, 2), 1);
-    expect("last editor of item 1:", catalogue[1], 1);
-    expect("last editor of item 2:", catalogue[2], 1);
+    expect_both_items(1);
+
+    printf("\nAnother season: the tool room above the design office\n\n");
+    print_indented("Session 1 belongs to the design office and gets rank 2, session 2 to the tool\n"
+                   "room and gets rank 1: the senior one has the higher number now. The lock\n"
+                   "manager is started anew with these ranks.\n");
+    printf("\n");
+    options.ranks[0] = 2;
+    options.ranks[1] = 1;
+    start_and_lock(&options);
+    PLAY(crossed);
+    drain(14, "The same cycle, but session 1 is the most junior: it is the victim and is\n"
+              "rolled back. Item 1 goes to session 2, which holds both items now.");
+    look(0, LOCKMGR_ROLLED_BACK, LOCKMGR_GROWING);
+    expect_both_items(2);
 
     if (differences) {
         printf("\n%d answers differ from what is expected.\n", differences);

@@ -19,9 +19,10 @@
  * LIFE OF A LOCK MANAGER
  *
  *   1. Choose the number of sessions and of items, and the capacity of the
- *      mailbox; LOCKMGR_CAPACITY tells one that is enough. Provide two buffers
- *      of the sizes LOCKMGR_TABLE_SIZE and LOCKMGR_MAIL_SIZE: the table, which
- *      holds all sessions and items, and the mail, which is the mailbox.
+ *      mailbox; LOCKMGR_CAPACITY tells one that is enough. Choose ranks as well
+ *      if seniority is not to go by session numbers (see SENIORITY). Provide two
+ *      buffers of the sizes LOCKMGR_TABLE_SIZE and LOCKMGR_MAIL_SIZE: the table,
+ *      which holds all sessions and items, and the mail, which is the mailbox.
  *   2. lockmgr_start fills both.
  *   3. lockmgr_step does one thing at a time: a session sends a request or a
  *      release, or one message is delivered. Every step names one session and
@@ -33,12 +34,7 @@
  *      lockmgr_cycle_text writes in words who waits there for whom.
  *   6. There is no call to end it: drop the buffers, or start again on them.
  *
- * Sessions and items are numbered from 1. Session 1 is the most senior, the
- * session with the highest number the most junior. Seniority decides two
- * things: who is rolled back, and who of those in its wait queue holds an item
- * next when its release arrives. Who came first does not matter for that: a
- * session in the queue can be passed over by senior ones that come later, at
- * most once by each, since a session asks for nothing after its first release.
+ * Sessions and items are numbered from 1.
  *
  *   uint8_t table[LOCKMGR_TABLE_SIZE(2, 3)];                  // 2 sessions, 3 items
  *   uint8_t mail[LOCKMGR_MAIL_SIZE(LOCKMGR_CAPACITY(2, 3))];
@@ -58,25 +54,57 @@
  *       ...
  *
  *
+ * SENIORITY
+ *
+ * Seniority decides two things: who is rolled back, and who of those in its
+ * wait queue holds an item next when its release arrives. Who came first does
+ * not matter for that: a session in the queue can be passed over by senior ones
+ * that come later, at most once by each, since a session asks for nothing after
+ * its first release.
+ *
+ * Every session has a rank, and rank 1 is the most senior. By default session k
+ * has rank k (lockmgr_default_options): session 1 is the most senior, the
+ * session with the highest number the most junior. Other ranks are for a maker
+ * who wants, say, the sessions of the tool room above those of the design
+ * office, and changes that each season. lockmgr_start takes a list of S ranks,
+ * a byte for each session: byte k - 1 is the rank of session k. They are the
+ * numbers 1 to S, none missing and none twice.
+ *
+ *   // Sessions 1 and 2 belong to the design office, 3 and 4 to the tool room.
+ *   static const uint8_t ranks[] = {3, 4, 1, 2};
+ *   lockmgr_options options = lockmgr_default_options(4, 3);
+ *   memcpy(options.ranks, ranks, sizeof ranks);
+ *
+ * Wherever this header says senior or junior, ranks are meant, also in what is
+ * guaranteed. Session numbers decide only in which order a session sends its
+ * stored probes.
+ *
+ * Ranks are fixed from the start on: they stand in the table, where
+ * lockmgr_rank reads them, and no later call changes them. For other ranks let
+ * the sessions end and start anew.
+ *
+ *
  * THE BUFFERS
  *
- * All buffers are yours: the table, the mail, and the one for the text of a
- * cycle. A call borrows them until it returns and keeps no pointer. What the
- * library asks of you, because no code can check it:
+ * All buffers are yours: the table, the mail, the list of ranks for a start,
+ * and the one for the text of a cycle. A call borrows them until it returns and
+ * keeps no pointer. What the library asks of you, because no code can check it:
  *
  *   - a pointer with a length other than 0 points to that many bytes;
- *   - the buffers of one call do not overlap;
- *   - one call at a time works on a buffer. Calls on different buffers may run
- *     at the same time in different threads.
+ *   - the buffers of one call do not overlap. To start anew with the ranks that
+ *     stand in the table, copy them first;
+ *   - one call at a time works on a buffer; a list of ranks may be read by
+ *     several. Calls on different buffers may run at the same time in different
+ *     threads.
  *
- * A null pointer is allowed with length 0. As table or mail it is refused with
- * LOCKMGR_BAD_SIZE like every other wrong length; for a text it is a buffer of
- * 0 bytes, which is too short. With another length it crashes, as it does in
- * any C library. Any contents are allowed: every call judges the bytes first
- * and refuses those that are not well-formed. A refused call leaves every byte
- * as it was. The buffers need no alignment; table and mail hold no pointers and
- * no padding, so that you may copy them, store them in a file, send them
- * elsewhere and go on there (see VERSIONS).
+ * A null pointer is allowed with length 0. As table, mail or list of ranks it
+ * is refused with LOCKMGR_BAD_SIZE like every other wrong length; for a text it
+ * is a buffer of 0 bytes, which is too short. With another length it crashes,
+ * as it does in any C library. Any contents are allowed: every call judges the
+ * bytes first and refuses those that are not well-formed. A refused call leaves
+ * every byte as it was. The buffers need no alignment; table and mail hold no
+ * pointers and no padding, so that you may copy them, store them in a file,
+ * send them elsewhere and go on there (see VERSIONS).
  *
  * All numbers in calls are 64 bits wide, so that nothing you pass is cut off
  * before it is judged: 257 is not taken for 1.
@@ -173,12 +201,12 @@
  * And give the mailbox at least LOCKMGR_CAPACITY(sessions, items) messages,
  * which is 6 S + M + 1, or 449 for 64 sessions and 64 items. Then no delivery
  * has ever been refused with LOCKMGR_MAIL_FULL: in all states of small lock
- * managers, in searches for the worst case (made before version 0.2), and in
- * long random runs, none of which needed more than 4 S + M. This is tried, not
- * proved. For deadlocks the order of deliveries does not matter, for room it
- * does: a mailbox of 962 messages has been jammed by passing over routes that
- * carry rebroadcasts. Leaving places free before a call is no substitute for a
- * rule.
+ * managers and in searches for the worst case (both made before there were
+ * ranks, the searches before version 0.2), and in long random runs with any
+ * ranks. None of these needed more than 4 S + M. This is tried, not proved. For
+ * deadlocks the order of deliveries does not matter, for room it does: a
+ * mailbox of 962 messages has been jammed by passing over routes that carry
+ * rebroadcasts. Leaving places free before a call is no substitute for a rule.
  *
  * If every delivery is refused all the same, or a drain ends with
  * LOCKMGR_DRAIN_FULL, move the mail into a larger buffer with
@@ -197,14 +225,16 @@
  * change a rule: recompile. Callers that start with lockmgr_options keep
  * compiling. What is guaranteed is proved for a lock manager that one minor
  * version has served from its start on. For this 0.2 to 0.4 count as one, since
- * calls were added and no rule changed between them.
+ * calls were added and no rule changed between them. 0.5 stands alone: its
+ * tables have ranks, and its rules read them.
  *
  * LOCKMGR_LAYOUT_VERSION numbers the bytes of table and mail. The buffers do
  * not carry it. If you store or send them, store that number and
  * LOCKMGR_VERSION beside them, and go on only with a library of the same
  * layout, major and minor number, 0.2 to 0.4 again counting as one. There is
  * no conversion: let the sessions end under the old version and start anew
- * under the new one.
+ * under the new one. This holds for all that was stored under 0.1 to 0.4, which
+ * has layout 1.
  * Buffers of another layout are no danger, since every call judges them, and
  * most are refused with LOCKMGR_BAD_SIZE; but do not rely on it.
  */
@@ -221,16 +251,16 @@ extern "C" {
 /* ---- Version ------------------------------------------------------------ */
 
 #define LOCKMGR_VERSION_MAJOR 0
-#define LOCKMGR_VERSION_MINOR 4
-#define LOCKMGR_VERSION_PATCH 1
-#define LOCKMGR_VERSION "0.4.1"
+#define LOCKMGR_VERSION_MINOR 5
+#define LOCKMGR_VERSION_PATCH 0
+#define LOCKMGR_VERSION "0.5.0"
 
 /* One number that grows with the version. */
 #define LOCKMGR_VERSION_NUMBER \
     (LOCKMGR_VERSION_MAJOR * 10000 + LOCKMGR_VERSION_MINOR * 100 + LOCKMGR_VERSION_PATCH)
 
 /* The version of the byte layout of table and mail. */
-#define LOCKMGR_LAYOUT_VERSION 1
+#define LOCKMGR_LAYOUT_VERSION 2
 
 /* ---- Bounds and sizes --------------------------------------------------- */
 
@@ -241,7 +271,7 @@ extern "C" {
 
 /* Bytes of a table for so many sessions and items, of a mail for so many
  * messages. Constant expressions if the arguments are constants. */
-#define LOCKMGR_TABLE_SIZE(sessions, items) LOCKMGR_ITEMS_END(sessions, items)
+#define LOCKMGR_TABLE_SIZE(sessions, items) LOCKMGR_RANKS_END(sessions, items)
 #define LOCKMGR_MAIL_SIZE(capacity) LOCKMGR_BODY_PLACE(capacity, capacity)
 
 /* A capacity with which no delivery is refused for lack of room, if one of the
@@ -255,19 +285,19 @@ extern "C" {
  * Only code that reads or writes the bytes itself needs these names.
  *
  * The table: a header with the number of sessions and of items, then the
- * session records, then the item records. The mail: a header with the capacity
- * and the count, then for each message its route, then for each message its
- * body; messages stand in order of sending, and unused places are zero. All
- * numbers are little-endian.
+ * session records, then the item records, then the ranks, a byte for each
+ * session. The mail: a header with the capacity and the count, then for each
+ * message its route, then for each message its body; messages stand in order of
+ * sending, and unused places are zero. All numbers are little-endian.
  *
  * A table is well-formed if the stages are 1 to 6; an item is awaited in the
  * stages 2, 4 and 5 and only there; no held bit, junior or holder is above the
  * numbers there are; the sessions of a wait queue are distinct and none is the
- * holder; and what is unused is zero. A mail is well-formed if its count is
- * at most its capacity; directions, sessions, items and kinds are in bounds;
- * a kind travels in its direction; a and b are sessions in probes, cleans and
- * aborts and else 0; an abort is addressed to its victim; and what is unused
- * is zero.
+ * holder; what is unused is zero; and the ranks are as SENIORITY says. A mail
+ * is well-formed if its count is at most its capacity; directions, sessions,
+ * items and kinds are in bounds; a kind travels in its direction; a and b are
+ * sessions in probes, cleans and aborts and else 0; an abort is addressed to
+ * its victim; and what is unused is zero.
  */
 
 /* Bytes of the table's header, and of each record. */
@@ -314,6 +344,11 @@ extern "C" {
 #define LOCKMGR_ITEMS_END(sessions, items) \
     LOCKMGR_ITEM_PLACE(sessions, LOCKMGR_CAST_(size_t, items) + 1)
 
+/* Where the ranks begin, with that of session 1, and where they end. */
+#define LOCKMGR_RANKS_PLACE(sessions, items) LOCKMGR_ITEMS_END(sessions, items)
+#define LOCKMGR_RANKS_END(sessions, items) \
+    (LOCKMGR_RANKS_PLACE(sessions, items) + LOCKMGR_CAST_(size_t, sessions))
+
 /* Where the route and the body of a message begin; places count from 0. */
 #define LOCKMGR_ROUTE_PLACE(place) \
     (LOCKMGR_MAIL_HEADER + LOCKMGR_ROUTE_SIZE * LOCKMGR_CAST_(size_t, place))
@@ -348,10 +383,10 @@ enum lockmgr_verb {
  * that holds is answered. All other fields of a refused answer are 0, and the
  * buffers are as they were.
  *
- * lockmgr_start gives only 2; lockmgr_step gives 1 to 9; lockmgr_drain gives
- * only 2, 3 and 4; lockmgr_report gives only 2, 3 and 5; lockmgr_cycle_text
- * gives only 2, 3, 5, 10 and 11. No call gives 12 or 13: they are what the
- * statement program prints in place of a statement.
+ * lockmgr_start gives only 2 and 14; lockmgr_step gives 1 to 9; lockmgr_drain
+ * gives only 2, 3 and 4; lockmgr_report gives only 2, 3 and 5;
+ * lockmgr_cycle_text gives only 2, 3, 5, 10 and 11. No call gives 12 or 13:
+ * they are what the statement program prints in place of a statement.
  */
 enum lockmgr_refusal {
     /* The call was accepted. */
@@ -359,7 +394,7 @@ enum lockmgr_refusal {
     /* Step: the verb is not 1 to 4. */
     LOCKMGR_BAD_VERB = 1,
     /* Start: a number of sessions, items or messages is 0 or above its bound,
-     * or a buffer has not the length that belongs to them.
+     * or table, mail or list of ranks has not the length that belongs to them.
      * Step, drain: the same of the numbers that the two buffers themselves
      * carry. Report, cycle text: the same of the table. */
     LOCKMGR_BAD_SIZE = 2,
@@ -389,7 +424,10 @@ enum lockmgr_refusal {
      * to them, or on some day more sessions were rolled back than took part. */
     LOCKMGR_BAD_LIST = 12,
     /* Statement: no session took part on any day. */
-    LOCKMGR_NOBODY = 13
+    LOCKMGR_NOBODY = 13,
+    /* Start: the ranks are not the numbers 1 to S, none missing and none twice.
+     * In a table such ranks are LOCKMGR_BAD_TABLE. */
+    LOCKMGR_BAD_RANKS = 14
 };
 
 /* Stages of a session; see above. */
@@ -485,15 +523,19 @@ typedef struct {
 
 /*
  * Starts a lock manager: all sessions grow and hold nothing, all items are
- * free, the mail is empty. Every byte of both buffers is written; what they
- * held before does not matter.
+ * free, the mail is empty, and byte k - 1 of the list is the rank of session k
+ * from now on. Every byte of table and mail is written; what they held before
+ * does not matter. The list is only read.
  *
  * Answers 0, or LOCKMGR_BAD_SIZE if a number is out of bounds or
+ *     ranks_len != sessions or
  *     table_len != LOCKMGR_TABLE_SIZE(sessions, items) or
- *     mail_len != LOCKMGR_MAIL_SIZE(capacity).
+ *     mail_len != LOCKMGR_MAIL_SIZE(capacity),
+ * else LOCKMGR_BAD_RANKS if the ranks are not as SENIORITY says.
  */
 /* clang-format off */
 uint8_t lockmgr_start(uint64_t sessions, uint64_t items, uint64_t capacity,
+                      const uint8_t *ranks, size_t ranks_len,
                       uint8_t *table, size_t table_len,
                       uint8_t *mail, size_t mail_len);
 /* clang-format on */
@@ -638,7 +680,7 @@ static inline const char *lockmgr_refusal_text(uint64_t refusal)
     static const char *const texts[] = {
         "accepted",   "bad verb",     "bad size",   "bad table",  "bad mail",
         "bad number", "wrong stage",  "wrong item", "no message", "mail full",
-        "no cycle",   "short buffer", "bad list",   "nobody",
+        "no cycle",   "short buffer", "bad list",   "nobody",     "bad ranks",
     };
     return lockmgr_text_(texts, sizeof texts / sizeof texts[0], refusal);
 }
@@ -689,30 +731,39 @@ static inline const char *lockmgr_ending_text(uint64_t ending)
 typedef struct {
     uint64_t sessions;
     uint64_t items;
-    uint64_t capacity; /* plain: LOCKMGR_CAPACITY(sessions, items) */
+    uint64_t capacity;                   /* plain: LOCKMGR_CAPACITY(sessions, items) */
+    uint8_t ranks[LOCKMGR_MAX_SESSIONS]; /* element k - 1 is the rank of session
+                                          * k; plain: 1, 2, 3, ... */
 } lockmgr_options;
 
 static inline lockmgr_options lockmgr_default_options(uint64_t sessions, uint64_t items)
 {
     lockmgr_options options;
+    unsigned k;
     options.sessions = sessions;
     options.items = items;
     options.capacity = LOCKMGR_CAPACITY(sessions, items);
+    for (k = 0; k < LOCKMGR_MAX_SESSIONS; k++)
+        options.ranks[k] = LOCKMGR_CAST_(uint8_t, k + 1);
     return options;
 }
 
 /*
- * lockmgr_start with the numbers of the options; the same answers. A null
- * pointer, with any length, is refused with LOCKMGR_BAD_SIZE; so are options
- * for numbers out of bounds.
+ * lockmgr_start with the numbers of the options and as many of the ranks as
+ * there are sessions, from the first on; the same answers. A null pointer, with
+ * any length, is refused with LOCKMGR_BAD_SIZE; so are options for numbers out
+ * of bounds.
  */
 static inline uint8_t lockmgr_start_with(const lockmgr_options *options, uint8_t *table,
                                          size_t table_len, uint8_t *mail, size_t mail_len)
 {
+    size_t ranks_len = LOCKMGR_MAX_SESSIONS;
     if (options == NULL || table == NULL || mail == NULL)
         return LOCKMGR_BAD_SIZE;
-    return lockmgr_start(options->sessions, options->items, options->capacity, table, table_len,
-                         mail, mail_len);
+    if (options->sessions < LOCKMGR_MAX_SESSIONS)
+        ranks_len = LOCKMGR_CAST_(size_t, options->sessions);
+    return lockmgr_start(options->sessions, options->items, options->capacity, options->ranks,
+                         ranks_len, table, table_len, mail, mail_len);
 }
 
 /* ---- Reading the buffers ------------------------------------------------ */
@@ -726,6 +777,13 @@ static inline uint8_t lockmgr_start_with(const lockmgr_options *options, uint8_t
 static inline unsigned lockmgr_stage(const uint8_t *table, unsigned session)
 {
     return table[LOCKMGR_SESSION_PLACE(session) + LOCKMGR_SESSION_STAGE];
+}
+
+/* The rank of a session; the lower of two ranks is the senior one. */
+static inline unsigned lockmgr_rank(const uint8_t *table, unsigned session)
+{
+    return table[LOCKMGR_RANKS_PLACE(table[LOCKMGR_TABLE_SESSIONS], table[LOCKMGR_TABLE_ITEMS]) +
+                 session - 1];
 }
 
 /* The item that a session waits for, or 0. */

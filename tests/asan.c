@@ -125,17 +125,38 @@ typedef struct {
     uint64_t sessions, items, capacity;
 } config;
 
-static unsigned start(config c, manager m)
+static unsigned start_with_ranks(config c, buffer ranks, manager m)
 {
     manager before = copied(m);
-    unsigned refusal = lockmgr_start(c.sessions, c.items, c.capacity, m.table.bytes, m.table.length,
-                                     m.mail.bytes, m.mail.length);
+    buffer ranks_before = resized(ranks, ranks.length);
+    unsigned refusal = lockmgr_start(c.sessions, c.items, c.capacity, ranks.bytes, ranks.length,
+                                     m.table.bytes, m.table.length, m.mail.bytes, m.mail.length);
     calls++;
     accepted += refusal == LOCKMGR_ACCEPTED;
-    CHECK(refusal == LOCKMGR_ACCEPTED || refusal == LOCKMGR_BAD_SIZE);
+    CHECK(refusal == LOCKMGR_ACCEPTED || refusal == LOCKMGR_BAD_SIZE ||
+          refusal == LOCKMGR_BAD_RANKS);
     if (refusal != LOCKMGR_ACCEPTED)
         CHECK(same(m, before));
+    CHECK(equal(ranks, ranks_before));
+    drop(ranks_before);
     drop_both(before);
+    return refusal;
+}
+
+/* A list of ranks, drawn. Of a number of sessions out of bounds the last byte
+ * counts: the list would be right if the number were cut off. */
+static buffer any_ranks(config c)
+{
+    buffer ranks = new_buffer(c.sessions % 256);
+    draw_ranks(ranks.bytes, (unsigned)ranks.length);
+    return ranks;
+}
+
+static unsigned start(config c, manager m)
+{
+    buffer ranks = any_ranks(c);
+    unsigned refusal = start_with_ranks(c, ranks, m);
+    drop(ranks);
     return refusal;
 }
 
@@ -154,6 +175,10 @@ static lockmgr_answer step(uint64_t verb, uint64_t session, uint64_t item, manag
         accepted++;
         CHECK(lockmgr_mail_count(m.mail.bytes) + taken ==
               lockmgr_mail_count(before.mail.bytes) + answer.sent);
+        size_t ranks = LOCKMGR_RANKS_PLACE(m.table.bytes[LOCKMGR_TABLE_SESSIONS],
+                                           m.table.bytes[LOCKMGR_TABLE_ITEMS]);
+        CHECK(memcmp(m.table.bytes + ranks, before.table.bytes + ranks, m.table.length - ranks) ==
+              0);
         CHECK(answer.closed <= 1);
         CHECK((answer.victim == 0) == (answer.initiator == 0));
     }
@@ -327,10 +352,16 @@ static void play(config c, manager m)
     }
 }
 
-static manager fresh(config c)
+static manager not_started(config c)
 {
     manager m = {new_buffer(LOCKMGR_TABLE_SIZE(c.sessions, c.items)),
                  new_buffer(LOCKMGR_MAIL_SIZE(c.capacity))};
+    return m;
+}
+
+static manager fresh(config c)
+{
+    manager m = not_started(c);
     CHECK(start(c, m) == LOCKMGR_ACCEPTED);
     return m;
 }
@@ -338,20 +369,89 @@ static manager fresh(config c)
 /* Start writes every byte. */
 static void test_start(config c)
 {
-    manager m = fresh(c);
+    manager m = not_started(c);
+    buffer ranks = any_ranks(c);
+    CHECK(start_with_ranks(c, ranks, m) == LOCKMGR_ACCEPTED);
     CHECK(m.table.bytes[LOCKMGR_TABLE_SESSIONS] == c.sessions);
     CHECK(m.table.bytes[LOCKMGR_TABLE_ITEMS] == c.items);
     CHECK(lockmgr_mail_capacity(m.mail.bytes) == c.capacity);
     size_t others = 0;
     for (unsigned k = 1; k <= c.sessions; k++) {
         others += lockmgr_stage(m.table.bytes, k) != LOCKMGR_GROWING;
+        others += lockmgr_rank(m.table.bytes, k) != ranks.bytes[k - 1];
         m.table.bytes[LOCKMGR_SESSION_PLACE(k) + LOCKMGR_SESSION_STAGE] = 0;
     }
-    for (size_t k = LOCKMGR_TABLE_HEADER; k < m.table.length; k++)
+    for (size_t k = LOCKMGR_TABLE_HEADER; k < LOCKMGR_RANKS_PLACE(c.sessions, c.items); k++)
         others += m.table.bytes[k] != 0;
     for (size_t k = LOCKMGR_MAIL_COUNT; k < m.mail.length; k++)
         others += m.mail.bytes[k] != 0;
     CHECK(others == 0);
+    drop(ranks);
+    drop_both(m);
+}
+
+/* A list with a bad rank: start refuses it, but a bad size comes first. */
+static void check_bad_list(config c, buffer ranks, manager m)
+{
+    config no_items = c;
+    no_items.items = 0;
+    manager long_mail = with_mail(m, resized(m.mail, m.mail.length + 1));
+    buffer long_ranks = resized(ranks, ranks.length + 1);
+    CHECK(start_with_ranks(c, ranks, m) == LOCKMGR_BAD_RANKS);
+    CHECK(start_with_ranks(no_items, ranks, m) == LOCKMGR_BAD_SIZE);
+    CHECK(start_with_ranks(c, ranks, long_mail) == LOCKMGR_BAD_SIZE);
+    CHECK(start_with_ranks(c, long_ranks, m) == LOCKMGR_BAD_SIZE);
+    drop(long_ranks);
+    drop(long_mail.mail);
+}
+
+/* A table with a bad rank: every other call refuses it, and a bad mail and bad
+ * numbers come behind. */
+static void check_bad_table(manager m)
+{
+    manager bad_mail = copied(m);
+    bad_mail.mail.bytes[LOCKMGR_MAIL_COUNT] = 1;
+    for (unsigned verb = LOCKMGR_REQUEST; verb <= LOCKMGR_DELIVER_TO_SESSION; verb++) {
+        CHECK(refusal_of(verb, 1, 1, m) == LOCKMGR_BAD_TABLE);
+        CHECK(refusal_of(verb, 0, 0, bad_mail) == LOCKMGR_BAD_TABLE);
+    }
+    drains(UINT64_MAX, m, LOCKMGR_BAD_TABLE, 0, 0);
+    drains(0, bad_mail, LOCKMGR_BAD_TABLE, 0, 0);
+    CHECK(report(1, m.table).refusal == LOCKMGR_BAD_TABLE);
+    CHECK(report(0, m.table).refusal == LOCKMGR_BAD_TABLE);
+    drop_both(bad_mail);
+}
+
+/* Lists of ranks of wrong lengths; then every rank in turn made 0, too high, or
+ * that of another session, in the list and in the table. */
+static void test_ranks(config c)
+{
+    manager m = fresh(c);
+    buffer ranks = any_ranks(c);
+    const size_t lengths[] = {0, ranks.length - 1, ranks.length + 1, 2 * ranks.length, 256};
+    for (size_t k = 0; k < LENGTH(lengths); k++) {
+        buffer other = resized(ranks, lengths[k]);
+        CHECK(start_with_ranks(c, other, m) == LOCKMGR_BAD_SIZE);
+        drop(other);
+    }
+    CHECK(start_with_ranks(c, ranks, m) == LOCKMGR_ACCEPTED);
+    for (size_t k = 0; k < ranks.length; k++) {
+        uint8_t *in_table = m.table.bytes + LOCKMGR_RANKS_PLACE(c.sessions, c.items) + k;
+        uint8_t right = ranks.bytes[k], next = ranks.bytes[(k + 1) % ranks.length];
+        const unsigned bad[] = {0, next, (unsigned)c.sessions + 1, right + 64u, right + 128u, 255};
+        CHECK(*in_table == right);
+        for (size_t n = 0; n < LENGTH(bad); n++) {
+            if (bad[n] == right)
+                continue; /* the only session is its own next */
+            ranks.bytes[k] = (uint8_t)bad[n];
+            check_bad_list(c, ranks, m);
+            *in_table = (uint8_t)bad[n];
+            check_bad_table(m);
+            ranks.bytes[k] = *in_table = right;
+        }
+    }
+    CHECK(start_with_ranks(c, ranks, m) == LOCKMGR_ACCEPTED);
+    drop(ranks);
     drop_both(m);
 }
 
@@ -495,6 +595,7 @@ static void test_null(void)
     CHECK(start(c, no_table) == LOCKMGR_BAD_SIZE);
     CHECK(start(c, no_mail) == LOCKMGR_BAD_SIZE);
     CHECK(start(c, nothing) == LOCKMGR_BAD_SIZE);
+    CHECK(start_with_ranks(c, none, m) == LOCKMGR_BAD_SIZE);
     CHECK(refusal_of(LOCKMGR_REQUEST, 1, 1, no_table) == LOCKMGR_BAD_SIZE);
     CHECK(refusal_of(LOCKMGR_REQUEST, 1, 1, no_mail) == LOCKMGR_BAD_SIZE);
     CHECK(refusal_of(LOCKMGR_REQUEST, 1, 1, nothing) == LOCKMGR_BAD_SIZE);
@@ -729,6 +830,7 @@ int main(void)
         test_longest_text();
         for (size_t k = 0; k < LENGTH(sizes); k++) {
             test_start(sizes[k].config);
+            test_ranks(sizes[k].config);
             test_runs(sizes[k].config, sizes[k].steps);
             test_drains(sizes[k].config, sizes[k].steps);
             test_endings(sizes[k].config);

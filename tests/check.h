@@ -52,4 +52,14 @@ static inline unsigned between(unsigned low, unsigned high)
     return low + (unsigned)(bits() % (high - low + 1));
 }
 
+/* The ranks of so many sessions, drawn. */
+static inline void draw_ranks(uint8_t *ranks, unsigned sessions)
+{
+    for (unsigned k = 0; k < sessions; k++) {
+        unsigned place = between(0, k);
+        ranks[k] = ranks[place];
+        ranks[place] = (uint8_t)(k + 1);
+    }
+}
+
 #endif

@@ -1,7 +1,7 @@
 /*
- * The helpers of the header: versions, texts, options, the bound of a drain,
- * deliveries with their events, a larger mail; and what each answers to null,
- * to wrong lengths and to numbers out of bounds.
+ * The helpers of the header: versions, texts, options, ranks, the bound of a
+ * drain, deliveries with their events, a larger mail; and what each answers to
+ * null, to wrong lengths and to numbers out of bounds.
  */
 #include "lockmgr.h"
 
@@ -48,11 +48,13 @@ static void test_version(void)
              LOCKMGR_VERSION_PATCH);
     CHECK(strcmp(text, LOCKMGR_VERSION) == 0);
     CHECK(lockmgr_version() == LOCKMGR_VERSION_NUMBER);
-    CHECK(LOCKMGR_LAYOUT_VERSION == 1);
+    CHECK(LOCKMGR_LAYOUT_VERSION == 2);
     /* This layout: its figures. A change of them is a new layout version. */
-    CHECK(LOCKMGR_TABLE_SIZE(3, 5) == 2 + 74 * 3 + 66 * 5);
+    CHECK(LOCKMGR_TABLE_SIZE(3, 5) == 2 + 75 * 3 + 66 * 5);
     CHECK(LOCKMGR_SESSION_PLACE(3) == 2 + 74 * 2);
     CHECK(LOCKMGR_ITEM_PLACE(3, 5) == 2 + 74 * 3 + 66 * 4);
+    CHECK(LOCKMGR_RANKS_PLACE(3, 5) == 2 + 74 * 3 + 66 * 5);
+    CHECK(LOCKMGR_RANKS_END(3, 5) == 2 + 75 * 3 + 66 * 5);
     CHECK(LOCKMGR_MAIL_SIZE(7) == 4 + 6 * 7);
     CHECK(LOCKMGR_ROUTE_PLACE(2) == 4 + 3 * 2);
     CHECK(LOCKMGR_BODY_PLACE(7, 2) == 4 + 3 * (7 + 2));
@@ -77,13 +79,14 @@ static void check_texts(const char *text(uint64_t number), unsigned first, unsig
 
 static void test_texts(void)
 {
-    check_texts(lockmgr_refusal_text, LOCKMGR_ACCEPTED, LOCKMGR_NOBODY);
+    check_texts(lockmgr_refusal_text, LOCKMGR_ACCEPTED, LOCKMGR_BAD_RANKS);
     check_texts(lockmgr_verb_text, LOCKMGR_REQUEST, LOCKMGR_DELIVER_TO_SESSION);
     check_texts(lockmgr_stage_text, LOCKMGR_GROWING, LOCKMGR_ROLLED_BACK);
     check_texts(lockmgr_kind_text, LOCKMGR_MSG_REQUEST, LOCKMGR_MSG_WITHDRAWN);
     check_texts(lockmgr_event_text, LOCKMGR_EVENT_NONE, LOCKMGR_EVENT_ROLLED_BACK);
     check_texts(lockmgr_ending_text, LOCKMGR_DRAIN_EMPTY, LOCKMGR_DRAIN_LIMITED);
     CHECK(strcmp(lockmgr_refusal_text(LOCKMGR_BAD_NUMBER), "bad number") == 0);
+    CHECK(strcmp(lockmgr_refusal_text(LOCKMGR_BAD_RANKS), "bad ranks") == 0);
     CHECK(strcmp(lockmgr_verb_text(LOCKMGR_DELIVER_TO_ITEM), "deliver to item") == 0);
     CHECK(strcmp(lockmgr_stage_text(LOCKMGR_CLEANING), "cleaning") == 0);
     CHECK(strcmp(lockmgr_kind_text(LOCKMGR_MSG_ABORT), "abort") == 0);
@@ -106,6 +109,8 @@ static void test_options(void)
 {
     lockmgr_options options = lockmgr_default_options(S, M), bad;
     CHECK(options.sessions == S && options.items == M && options.capacity == C);
+    for (unsigned k = 1; k <= LOCKMGR_MAX_SESSIONS; k++)
+        CHECK(options.ranks[k - 1] == k);
     fresh();
     CHECK(lockmgr_mail_capacity(mail) == C && lockmgr_mail_count(mail) == 0);
     request(1, 1);
@@ -134,6 +139,80 @@ static void test_options(void)
         }
     }
     CHECK(unchanged());
+}
+
+/* ---- Ranks ------------------------------------------------------------------ */
+
+/* The options of a lock manager in which session 2 is senior to session 1. The
+ * rank behind theirs is a bad one, which nobody reads. */
+static lockmgr_options reversed_options(void)
+{
+    lockmgr_options options = lockmgr_default_options(S, M);
+    options.ranks[0] = 2;
+    options.ranks[1] = 1;
+    options.ranks[2] = 0;
+    return options;
+}
+
+static void test_ranks(void)
+{
+    static uint8_t largest[LOCKMGR_TABLE_SIZE(LOCKMGR_MAX_SESSIONS, 1)];
+    lockmgr_options options = reversed_options();
+    fresh();
+    CHECK(lockmgr_rank(table, 1) == 1 && lockmgr_rank(table, 2) == 2);
+    CHECK(lockmgr_start_with(&options, table, sizeof table, mail, sizeof mail) == LOCKMGR_ACCEPTED);
+    CHECK(lockmgr_rank(table, 1) == 2 && lockmgr_rank(table, 2) == 1);
+    CHECK(table[LOCKMGR_RANKS_PLACE(S, M)] == 2 && table[LOCKMGR_RANKS_PLACE(S, M) + 1] == 1);
+    request(1, 1);
+    remember();
+    for (unsigned rank = 0; rank < 256; rank++) {
+        options.ranks[1] = (uint8_t)rank;
+        if (rank != 1)
+            CHECK(lockmgr_start_with(&options, table, sizeof table, mail, sizeof mail) ==
+                  LOCKMGR_BAD_RANKS);
+    }
+    CHECK(unchanged());
+
+    options = lockmgr_default_options(LOCKMGR_MAX_SESSIONS, 1);
+    options.capacity = C;
+    for (unsigned k = 1; k <= LOCKMGR_MAX_SESSIONS; k++)
+        options.ranks[k - 1] = (uint8_t)(LOCKMGR_MAX_SESSIONS + 1 - k);
+    CHECK(lockmgr_start_with(&options, largest, sizeof largest, mail, sizeof mail) ==
+          LOCKMGR_ACCEPTED);
+    for (unsigned k = 1; k <= LOCKMGR_MAX_SESSIONS; k++)
+        CHECK(lockmgr_rank(largest, k) == LOCKMGR_MAX_SESSIONS + 1 - k);
+    options.ranks[LOCKMGR_MAX_SESSIONS - 1] = 2;
+    CHECK(lockmgr_start_with(&options, largest, sizeof largest, mail, sizeof mail) ==
+          LOCKMGR_BAD_RANKS);
+}
+
+/* With ranks reversed a deadlock has session 1 as its victim and session 2 as
+ * its initiator, and its text begins with session 2. */
+static void test_reversed(void)
+{
+    static const char expected[] = "session 2 waits for item 1 held by session 1\n"
+                                   "session 1 waits for item 2 held by session 2\n";
+    lockmgr_options options = reversed_options();
+    uint8_t text[LOCKMGR_MAX_TEXT];
+    lockmgr_answer declared = {0, 0, 0, 0, 0};
+    CHECK(lockmgr_start_with(&options, table, sizeof table, mail, sizeof mail) == LOCKMGR_ACCEPTED);
+    request(1, 1);
+    request(2, 2);
+    CHECK(lockmgr_drain(4, table, sizeof table, mail, sizeof mail).ending == LOCKMGR_DRAIN_EMPTY);
+    request(1, 2);
+    request(2, 1);
+    for (unsigned k = 0; k < 4 && declared.victim == 0; k++)
+        declared = lockmgr_deliver(0, table, sizeof table, mail, sizeof mail).answer;
+    CHECK(declared.victim == 1 && declared.initiator == 2);
+    for (unsigned session = 1; session <= S; session++) {
+        lockmgr_text cycle = lockmgr_cycle_text(session, table, sizeof table, text, sizeof text);
+        CHECK(cycle.refusal == LOCKMGR_ACCEPTED && cycle.length == sizeof expected - 1);
+        CHECK(memcmp(text, expected, cycle.length) == 0);
+    }
+    CHECK(lockmgr_drain(10, table, sizeof table, mail, sizeof mail).ending == LOCKMGR_DRAIN_EMPTY);
+    CHECK(lockmgr_stage(table, 1) == LOCKMGR_ROLLED_BACK);
+    CHECK(lockmgr_holds(table, 2, 1) && lockmgr_holds(table, 2, 2));
+    CHECK(lockmgr_rank(table, 1) == 2 && lockmgr_rank(table, 2) == 1);
 }
 
 /* ---- Deliveries ------------------------------------------------------------ */
@@ -334,6 +413,8 @@ int main(void)
     test_version();
     test_texts();
     test_options();
+    test_ranks();
+    test_reversed();
     test_drain_bound();
     test_events();
     test_drain_and_events();

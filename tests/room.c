@@ -1,7 +1,8 @@
 /*
  * Room in the mail, as the header tells it: mailboxes that jam, and the two
  * rules under which the capacity of LOCKMGR_CAPACITY is enough, driven through
- * lists of calls that fill the mail and through random runs.
+ * lists of calls that fill the mail and through random runs; with plain ranks
+ * and with drawn ones.
  */
 #include "lockmgr.h"
 
@@ -16,6 +17,19 @@ static uint8_t mail[LOCKMGR_MAIL_SIZE(LOCKMGR_MAX_CAPACITY)];
 static uint8_t larger[LOCKMGR_MAIL_SIZE(LOCKMGR_MAX_CAPACITY)];
 static size_t table_len, mail_len;
 
+/* 1 if every start draws ranks, 0 if session k has rank k. */
+static int drawn;
+
+/* The session with this rank. In what follows a session is named by its rank, so
+ * that a list of calls fills the mail whatever the ranks are. */
+static unsigned ranked(unsigned rank)
+{
+    unsigned session = 1;
+    while (lockmgr_rank(table, session) != rank)
+        session++;
+    return session;
+}
+
 /* The greatest count of messages since the start. */
 static unsigned peak;
 
@@ -29,8 +43,17 @@ static unsigned count(void)
 
 static void start(unsigned sessions, unsigned items, unsigned capacity)
 {
+    static uint64_t ranks_state;
     lockmgr_options options = lockmgr_default_options(sessions, items);
     options.capacity = capacity;
+    if (drawn) {
+        /* From numbers of their own, so that random runs are the same. */
+        uint64_t state = random_state;
+        random_state = ranks_state;
+        draw_ranks(options.ranks, sessions);
+        ranks_state = random_state;
+        random_state = state;
+    }
     table_len = LOCKMGR_TABLE_SIZE(sessions, items);
     mail_len = LOCKMGR_MAIL_SIZE(capacity);
     peak = 0;
@@ -38,8 +61,9 @@ static void start(unsigned sessions, unsigned items, unsigned capacity)
 }
 
 /* A request or a release; its refusal. */
-static unsigned call(unsigned verb, unsigned session, unsigned item)
+static unsigned call(unsigned verb, unsigned rank, unsigned item)
 {
+    unsigned session = ranked(rank);
     unsigned refusal = lockmgr_step(verb, session, item, table, table_len, mail, mail_len).refusal;
     if (count() > peak)
         peak = count();
@@ -182,7 +206,7 @@ static void test_one_message(void)
     check_rescue(63);
     CHECK(release_with_long_queue(63));
     /* The next holder is the most senior, who stood last. */
-    CHECK(lockmgr_holder(table, 1) == 1);
+    CHECK(lockmgr_holder(table, 1) == ranked(1));
 }
 
 /* The oldest message does not fit, but one behind it makes room: a drain looks
@@ -199,9 +223,9 @@ static void test_not_jammed(void)
     CHECK(!jammed());
     while (count() > 1)
         CHECK(deliver(1) == LOCKMGR_ACCEPTED);
-    CHECK(lockmgr_holds(table, 1, 2));
+    CHECK(lockmgr_holds(table, ranked(1), 2));
     CHECK(drain(oldest));
-    CHECK(lockmgr_holder(table, 1) == 2);
+    CHECK(lockmgr_holder(table, 1) == ranked(2));
 }
 
 /* A pump that leaves alone, as long as there is anything else, the rebroadcasts
@@ -250,7 +274,7 @@ static void test_passed_over(void)
         CHECK(count() == 31 * (session - HUB) + (session == S));
     }
     CHECK(count() == CAPACITY && jammed());
-    CHECK(lockmgr_report(HUB, table, table_len).length == 3);
+    CHECK(lockmgr_report(ranked(HUB), table, table_len).length == 3);
     check_rescue(LOCKMGR_MAX_CAPACITY);
 }
 
@@ -354,7 +378,7 @@ static void test_long_drain(void)
         CHECK(drain(oldest));
     }
     CHECK(delivered == 8198);
-    CHECK(lockmgr_stage(table, S) == LOCKMGR_ROLLED_BACK);
+    CHECK(lockmgr_stage(table, ranked(S)) == LOCKMGR_ROLLED_BACK);
     printf("a cycle of %d sessions: %lu deliveries in one drain\n", S, (unsigned long)delivered);
 }
 
@@ -365,8 +389,8 @@ static void random_call(unsigned items)
 {
     for (unsigned k = 0; k < 8; k++) {
         unsigned session = between(1, S), item = between(1, items);
-        unsigned stage = lockmgr_stage(table, session);
-        int held = lockmgr_holds(table, session, item);
+        unsigned stage = lockmgr_stage(table, ranked(session));
+        int held = lockmgr_holds(table, ranked(session), item);
         if (stage == LOCKMGR_GROWING && !held) {
             CHECK(call(LOCKMGR_REQUEST, session, item) == LOCKMGR_ACCEPTED);
             return;
@@ -399,6 +423,7 @@ static void test_rule_1(void)
         }
         most = peak > most ? peak : most;
     }
+    CHECK(most <= 4 * S + M);
     printf("rule 1, random runs: at most %u messages\n", most);
 }
 
@@ -417,21 +442,25 @@ static void test_rule_2(void)
         CHECK(drain(oldest));
         most = peak > most ? peak : most;
     }
+    CHECK(most <= 4 * S + M);
     printf("rule 2, random runs: at most %u messages\n", most);
 }
 
 int main(void)
 {
     setvbuf(stdout, NULL, _IOLBF, 0);
-    test_one_message();
-    test_not_jammed();
-    test_passed_over();
-    test_random_pump();
-    test_worst("rules 1 and 2, oldest first", worst_oldest_first, 249);
-    test_worst("rule 1, any order", worst_any_order, 250);
-    test_worst("rule 2, calls at any time", worst_calls_at_any_time, 189);
-    test_long_drain();
-    test_rule_1();
-    test_rule_2();
+    for (drawn = 0; drawn <= 1; drawn++) {
+        printf("%s ranks\n", drawn ? "drawn" : "plain");
+        test_one_message();
+        test_not_jammed();
+        test_passed_over();
+        test_random_pump();
+        test_worst("rules 1 and 2, oldest first", worst_oldest_first, 249);
+        test_worst("rule 1, any order", worst_any_order, 250);
+        test_worst("rule 2, calls at any time", worst_calls_at_any_time, 189);
+        test_long_drain();
+        test_rule_1();
+        test_rule_2();
+    }
     return verdict();
 }

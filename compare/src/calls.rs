@@ -6,7 +6,7 @@ use model::{Answer, Config, Cycle, Drained, Misreading, Text};
 pub use crate::library::Library;
 
 pub trait Calls {
-    fn start(&self, config: Config, table: &mut [u8], mail: &mut [u8]) -> u8;
+    fn start(&self, config: Config, ranks: &[u8], table: &mut [u8], mail: &mut [u8]) -> u8;
     fn step(&self, verb: u64, session: u64, item: u64, table: &mut [u8], mail: &mut [u8])
         -> Answer;
     fn report(&self, session: u64, table: &[u8]) -> Cycle;
@@ -18,9 +18,9 @@ pub trait Calls {
 macro_rules! calls {
     ($name:ident, $module:path) => {
         impl Calls for $name {
-            fn start(&self, config: Config, table: &mut [u8], mail: &mut [u8]) -> u8 {
+            fn start(&self, config: Config, r: &[u8], table: &mut [u8], mail: &mut [u8]) -> u8 {
                 use $module as answers;
-                answers::start(config, table, mail)
+                answers::start(config, r, table, mail)
             }
             fn step(&self, v: u64, s: u64, i: u64, table: &mut [u8], mail: &mut [u8]) -> Answer {
                 use $module as answers;
@@ -54,8 +54,8 @@ calls!(Fast, fast);
 pub struct Misread(pub Misreading);
 
 impl Calls for Misread {
-    fn start(&self, config: Config, table: &mut [u8], mail: &mut [u8]) -> u8 {
-        model::start(config, table, mail)
+    fn start(&self, config: Config, ranks: &[u8], table: &mut [u8], mail: &mut [u8]) -> u8 {
+        model::start_as(self.0, config, ranks, table, mail)
     }
     fn step(&self, v: u64, s: u64, i: u64, table: &mut [u8], mail: &mut [u8]) -> Answer {
         model::step_as(self.0, v, s, i, table, mail)
@@ -67,6 +67,6 @@ impl Calls for Misread {
         model::drain_as(self.0, limit, table, mail)
     }
     fn cycle_text(&self, session: u64, table: &[u8], text: &mut [u8]) -> Text {
-        model::cycle_text(session, table, text)
+        model::cycle_text_as(self.0, session, table, text)
     }
 }

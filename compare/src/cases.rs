@@ -3,7 +3,8 @@
 
 use crate::comparison::{held, Buffers, Comparison};
 use crate::forge::{
-    self, circling, clear_route, full_mail, well_formed, Beside, Filling, Routes, BREAKS,
+    self, breaks, circling, clear_route, full_mail, well_formed, Beside, Break, Filling, Routes,
+    RANK_BREAKS,
 };
 use crate::numbers::{
     kind, DELIVER_TO_ITEM, DELIVER_TO_SESSION, GROWING, RELEASE, REQUEST, SHRINKING, TO_ITEM,
@@ -14,7 +15,7 @@ use model::layout::{
     TABLE_SESSIONS,
 };
 use model::scenario::Random;
-use model::{Answer, Config, Drained, Ending, Misreading, ACCEPTED};
+use model::{Answer, Config, Drained, Ending, Misreading, Ranks, Refusal, ACCEPTED};
 
 type Outcome = Result<(), String>;
 type Case = fn(&mut Comparison, &mut Random) -> Outcome;
@@ -28,6 +29,7 @@ const LAST_VERB: u64 = DELIVER_TO_SESSION;
 /// has them.
 const ROUND: &[(&str, u64, u64, Case)] = &[
     ("run from start", 2, 1, small_run),
+    ("run from start, three sessions", 1, 1, three_sessions),
     ("run from start, more sessions", 1, 5, medium_run),
     ("run from start, largest", 1, 100, largest_run),
     ("cycle of all sessions", 1, 50, long_cycle),
@@ -49,11 +51,26 @@ const ROUND: &[(&str, u64, u64, Case)] = &[
     ("many messages at once", 1, 5, many_sends),
     ("broken form", 2, 1, broken),
     ("broken form, largest", 1, 20, broken_largest),
+    ("bad ranks", 2, 1, bad_ranks),
+    ("bad ranks, largest", 1, 20, bad_ranks_largest),
     ("damaged", 250, 1, damaged),
     ("other bounds of equal length", 4, 1, other_bounds),
     ("numbers out of bounds", 60, 1, numbers),
     ("start", 60, 1, starts),
 ];
+
+/// The rounds of seeds 1 to this are compared each time.
+const ROUNDS: u64 = 600;
+
+/// These rounds and the walks. It fails with the first difference.
+pub fn all(comparison: &mut Comparison) -> Outcome {
+    for seed in 1..=ROUNDS {
+        let repeat = format!("(make fuzz SEED={seed} FUZZ_SECONDS=0 repeats it)");
+        round(comparison, seed).map_err(|reason| format!("round {seed}: {reason}\n{repeat}"))?;
+    }
+    every_value(comparison).map_err(|reason| format!("every value: {reason}"))?;
+    every_place(comparison).map_err(|reason| format!("every place: {reason}"))
+}
 
 /// One round. It fails with the first difference.
 pub fn round(comparison: &mut Comparison, seed: u64) -> Outcome {
@@ -71,10 +88,15 @@ pub fn round(comparison: &mut Comparison, seed: u64) -> Outcome {
     Ok(())
 }
 
-/// Buffers of a fresh lock manager.
-fn fresh(comparison: &mut Comparison, config: Config) -> Result<Buffers, String> {
+/// Buffers of a fresh lock manager, with any ranks.
+fn fresh(
+    comparison: &mut Comparison,
+    random: &mut Random,
+    config: Config,
+) -> Result<Buffers, String> {
     let mut buffers = Buffers::filled(config, 0xA5);
-    match comparison.start(config, &mut buffers)? {
+    let ranks = forge::ranks(random, config.sessions);
+    match comparison.start(config, &ranks, &mut buffers)? {
         ACCEPTED => Ok(buffers),
         refusal => Err(format!("start is refused with {refusal}")),
     }
@@ -82,14 +104,23 @@ fn fresh(comparison: &mut Comparison, config: Config) -> Result<Buffers, String>
 
 /// A lock manager from its start, with the check of demand 3 on all its calls.
 struct Started {
+    ranks: Ranks,
     buffers: Buffers,
     demand3: Demand3,
 }
 
 impl Started {
-    fn new(comparison: &mut Comparison, config: Config) -> Result<Started, String> {
+    fn new(
+        comparison: &mut Comparison,
+        random: &mut Random,
+        config: Config,
+    ) -> Result<Started, String> {
+        let buffers = fresh(comparison, random, config)?;
+        let ranks = Ranks::decode(buffers.ranks()).ok_or("start leaves bad ranks")?;
+        comparison.coverage.started(&ranks);
         Ok(Started {
-            buffers: fresh(comparison, config)?,
+            ranks,
+            buffers,
             demand3: Demand3::default(),
         })
     }
@@ -102,11 +133,14 @@ impl Started {
         let before = self.buffers.clone();
         let after = &mut self.buffers;
         let answer = comparison.step(verb, session, item, after)?;
+        let counted = self.demand3;
         self.demand3.after_step(
             answer,
             (&before.table, &before.mail),
             (&after.table, &after.mail),
         )?;
+        let accepted = u64::from(answer.refusal == ACCEPTED);
+        self.checked(comparison, accepted, counted);
         Ok(answer)
     }
 
@@ -114,6 +148,7 @@ impl Started {
         let before = self.buffers.clone();
         let after = &mut self.buffers;
         let drained = comparison.drain(limit, after)?;
+        let counted = self.demand3;
         self.demand3.after_drain(
             Misreading::None,
             limit,
@@ -121,10 +156,18 @@ impl Started {
             (&before.table, &before.mail),
             (&after.table, &after.mail),
         )?;
+        self.checked(comparison, drained.made, counted);
         if drained.ending == Ending::Empty as u8 {
             comparison.coverage.settled();
         }
         Ok(drained)
+    }
+
+    /// Demand 3 was checked after so many accepted steps, and had counted this
+    /// before them.
+    fn checked(&self, comparison: &mut Comparison, steps: u64, before: Demand3) {
+        let victims = self.demand3.declared_by_rank - before.declared_by_rank;
+        comparison.coverage.checked(&self.ranks, steps, victims);
     }
 }
 
@@ -150,22 +193,22 @@ fn any_limit(random: &mut Random) -> u64 {
     }
 }
 
-/// A report and a text on the same session.
+/// A report and a text on the same session; their refusals.
 fn read(
     comparison: &mut Comparison,
     random: &mut Random,
     session: u64,
     buffers: &Buffers,
-) -> Outcome {
-    comparison.report(session, buffers)?;
+) -> Result<[u8; 2], String> {
+    let cycle = comparison.report(session, buffers)?;
     let room = match random.between(1, 4) {
         1 => 0,
         2 => random.between(1, 100) as usize,
         3 => random.between(101, 500) as usize,
         _ => MAX_TEXT - random.between(0, 1) as usize,
     };
-    comparison.cycle_text(session, room, buffers)?;
-    Ok(())
+    let text = comparison.cycle_text(session, room, buffers)?;
+    Ok([cycle.refusal, text.refusal])
 }
 
 /// The text for a session into a far longer buffer and into none and, if there is
@@ -305,7 +348,7 @@ fn any_step(random: &mut Random, config: Config) -> (u64, u64, u64) {
 /// A run of steps and drains from start, by bursts, with all mail delivered now
 /// and then.
 fn run(comparison: &mut Comparison, random: &mut Random, config: Config, steps: u64) -> Outcome {
-    let mut started = Started::new(comparison, config)?;
+    let mut started = Started::new(comparison, random, config)?;
     let deliver_in_ten = random.between(2, 9);
     let release_one_in = random.between(3, 40);
     let drain_one_in = random.between(10, 100);
@@ -376,6 +419,12 @@ fn small_run(comparison: &mut Comparison, random: &mut Random) -> Outcome {
     run(comparison, random, config, 400)
 }
 
+/// Three sessions, whose ranks come in every order.
+fn three_sessions(comparison: &mut Comparison, random: &mut Random) -> Outcome {
+    let config = Config::new(3, random.between(2, 4), 64);
+    run(comparison, random, config, 150)
+}
+
 fn medium_run(comparison: &mut Comparison, random: &mut Random) -> Outcome {
     let config = Config {
         sessions: random.between(9, 32),
@@ -398,7 +447,7 @@ fn long_cycle(comparison: &mut Comparison, random: &mut Random) -> Outcome {
         random.between(3, LARGEST.sessions - 1)
     };
     let config = Config::new(sessions, sessions, LARGEST.capacity);
-    let mut started = Started::new(comparison, config)?;
+    let mut started = Started::new(comparison, random, config)?;
     let mut accepted = |comparison: &mut Comparison, verb, session, item| {
         let answer = started.step(comparison, (verb, session, item))?;
         match answer.refusal {
@@ -798,25 +847,133 @@ fn broken_forms(
     random: &mut Random,
     config: Option<Config>,
 ) -> Outcome {
-    for way in BREAKS {
+    for way in breaks() {
         let config = config.unwrap_or_else(|| forge::config(random));
         let count = random.between(0, config.capacity);
         let mut buffers = well_formed(random, config, count);
-        if !way.apply(random, config, &mut buffers) {
-            continue;
+        if way.apply(random, config, &mut buffers) {
+            refused(comparison, random, config, &mut buffers, way)?;
+            comparison.coverage.broken(way.name);
         }
-        let (verb, session, item) = any_call(random, config);
-        let refusal = comparison.step(verb, session, item, &mut buffers)?.refusal;
-        let drained = comparison.drain(limit(random), &mut buffers)?.refusal;
-        if [refusal, drained] != [way.refusal as u8; 2] {
-            return Err(format!(
-                "{} is refused with {refusal} and {drained}",
-                way.name
-            ));
-        }
-        comparison.coverage.broken(way.name);
-        read(comparison, random, session, &buffers)?;
     }
+    Ok(())
+}
+
+/// A step and a drain of buffers that are broken in this way are refused as they
+/// must be, and so are a report and a text if it is the table.
+fn refused(
+    comparison: &mut Comparison,
+    random: &mut Random,
+    config: Config,
+    buffers: &mut Buffers,
+    way: &Break,
+) -> Outcome {
+    let (verb, session, item) = any_call(random, config);
+    let step = comparison.step(verb, session, item, buffers)?.refusal;
+    let drained = comparison.drain(limit(random), buffers)?.refusal;
+    let [report, text] = read(comparison, random, session, buffers)?;
+    let judging = match way.refusal {
+        Refusal::BadTable => 4,
+        _ => 2,
+    };
+    let found = &[step, drained, report, text][..judging];
+    if found.iter().any(|&refusal| refusal != way.refusal as u8) {
+        return Err(format!("{} is refused with {found:?}", way.name));
+    }
+    Ok(())
+}
+
+fn bad_ranks(comparison: &mut Comparison, random: &mut Random) -> Outcome {
+    let drawn = forge::config(random);
+    let config = Config {
+        sessions: drawn.sessions.max(2),
+        ..drawn
+    };
+    every_bad_list(comparison, random, config)
+}
+
+fn bad_ranks_largest(comparison: &mut Comparison, random: &mut Random) -> Outcome {
+    every_bad_list(comparison, random, LARGEST)
+}
+
+/// Ranks broken in each way: in a table, at a start, and at a start beside a wrong
+/// size; then good ranks for another number of sessions.
+fn every_bad_list(comparison: &mut Comparison, random: &mut Random, config: Config) -> Outcome {
+    for way in RANK_BREAKS {
+        let count = random.between(0, config.capacity);
+        let mut buffers = well_formed(random, config, count);
+        way.apply(random, config, &mut buffers);
+        refused(comparison, random, config, &mut buffers, way)?;
+        let bad = buffers.ranks();
+        let buffers = Buffers::filled(config, 0xA5);
+        refused_start(
+            comparison,
+            config,
+            bad,
+            buffers,
+            Refusal::BadRanks,
+            way.name,
+        )?;
+        bad_beside_size(comparison, random, config, bad)?;
+    }
+    let sessions = config.sessions;
+    let (less, more) = (random.between(1, sessions - 1), random.between(1, 40));
+    // Right if the upper bits of its length were lost.
+    let mut far_longer = forge::ranks(random, sessions);
+    far_longer.resize(far_longer.len() + (1 << (8 * random.between(1, 2))), 0);
+    for (name, list) in [
+        ("empty list", Vec::new()),
+        ("list too short", forge::ranks(random, less)),
+        ("list too long", forge::ranks(random, sessions + more)),
+        ("list too long by 256 or 65536", far_longer),
+    ] {
+        let buffers = Buffers::filled(config, 0xA5);
+        refused_start(comparison, config, &list, buffers, Refusal::BadSize, name)?;
+    }
+    Ok(())
+}
+
+/// Bad ranks at a start, in a list of a wrong length or beside another wrong size:
+/// 2 comes first.
+fn bad_beside_size(
+    comparison: &mut Comparison,
+    random: &mut Random,
+    config: Config,
+    bad: &[u8],
+) -> Outcome {
+    let list = if random.one_in(2) {
+        [bad, &[0]].concat()
+    } else {
+        vec![0; bad.len() - 1]
+    };
+    let mut buffers = Buffers::filled(config, 0xA5);
+    let (filled, name) = (buffers.clone(), "bad ranks in a list of a wrong length");
+    refused_start(comparison, config, &list, filled, Refusal::BadSize, name)?;
+    let mut other = config;
+    match random.between(1, 4) {
+        1 => buffers.table.push(0),
+        2 => buffers.mail.truncate(buffers.mail.len() - 1),
+        3 => other.items += 1,
+        _ => other.capacity -= 1,
+    }
+    let name = "bad ranks beside another wrong size";
+    refused_start(comparison, other, bad, buffers, Refusal::BadSize, name)
+}
+
+/// A start that must be refused so.
+fn refused_start(
+    comparison: &mut Comparison,
+    config: Config,
+    ranks: &[u8],
+    mut buffers: Buffers,
+    refusal: Refusal,
+    name: &'static str,
+) -> Outcome {
+    let found = comparison.start(config, ranks, &mut buffers)?;
+    if found != refusal as u8 {
+        return Err(format!("{name} is refused with {found}"));
+    }
+    comparison.coverage.bad_ranks(name);
     Ok(())
 }
 
@@ -894,9 +1051,13 @@ fn any_byte(random: &mut Random, old: u8) -> u8 {
 }
 
 /// So many sessions more and items less give a table of equal length, whose
-/// records then lie elsewhere.
-const MORE_SESSIONS: u64 = ITEM_SIZE as u64 / 2;
-const LESS_ITEMS: u64 = SESSION_SIZE as u64 / 2;
+/// records then lie elsewhere. A session has a record and a rank.
+const MORE_SESSIONS: u64 = ITEM_SIZE as u64 / 3;
+const LESS_ITEMS: u64 = (SESSION_SIZE as u64 + 1) / 3;
+const _: () = assert!(
+    MORE_SESSIONS * (SESSION_SIZE as u64 + 1) == LESS_ITEMS * ITEM_SIZE as u64,
+    "tables of equal length"
+);
 
 fn other_bounds(comparison: &mut Comparison, random: &mut Random) -> Outcome {
     let config = Config {
@@ -905,7 +1066,7 @@ fn other_bounds(comparison: &mut Comparison, random: &mut Random) -> Outcome {
         capacity: random.between(1, 8),
     };
     let mut buffers = if random.one_in(2) {
-        fresh(comparison, config)?
+        fresh(comparison, random, config)?
     } else {
         well_formed(random, config, 0)
     };
@@ -929,10 +1090,11 @@ fn numbers(comparison: &mut Comparison, random: &mut Random) -> Outcome {
     comparison.step(verb, odd_session, item, &mut buffers)?;
     comparison.step(verb, session, odd_item, &mut buffers)?;
     comparison.step(verb, odd_session, odd_item, &mut buffers)?;
-    read(comparison, random, odd_session, &buffers)
+    read(comparison, random, odd_session, &buffers)?;
+    Ok(())
 }
 
-/// Starts with right and wrong numbers and lengths, on bytes of any kind.
+/// Starts with right and wrong numbers, lengths and ranks, on bytes of any kind.
 fn starts(comparison: &mut Comparison, random: &mut Random) -> Outcome {
     let mut config = forge::config(random);
     if random.one_in(8) {
@@ -945,15 +1107,20 @@ fn starts(comparison: &mut Comparison, random: &mut Random) -> Outcome {
     }
     let filler = random.between(0, 255) as u8;
     let mut buffers = Buffers::filled(config, filler);
-    match random.between(1, 8) {
+    let mut ranks = forge::ranks(random, config.sessions);
+    match random.between(1, 9) {
         1 => config.sessions = odd_number(random, config.sessions, LARGEST.sessions),
         2 => config.items = odd_number(random, config.items, LARGEST.items),
         3 => config.capacity = odd_number(random, config.capacity, LARGEST.capacity),
         4 => damage(random, &mut buffers),
         5 => (config.sessions, config.items) = (config.items, config.sessions),
+        6 => {
+            let session = config.any_session(random) as usize;
+            ranks[session - 1] = any_byte(random, ranks[session - 1]);
+        }
         _ => {}
     }
-    comparison.start(config, &mut buffers)?;
+    comparison.start(config, &ranks, &mut buffers)?;
     // Bounds passed, and buffers of the length that would belong to them.
     if random.one_in(4) {
         let mut config = Config::new(1, 1, 1);
@@ -966,7 +1133,8 @@ fn starts(comparison: &mut Comparison, random: &mut Random) -> Outcome {
             _ => config.capacity = 0,
         }
         let mut buffers = Buffers::filled(config, filler);
-        comparison.start(config, &mut buffers)?;
+        let ranks = Ranks::plain(config.sessions as usize);
+        comparison.start(config, ranks.bytes(), &mut buffers)?;
         // The same numbers carried by the buffers.
         buffers.set_numbers(config);
         comparison.step(REQUEST, 1, 1, &mut buffers)?;

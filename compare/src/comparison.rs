@@ -5,11 +5,11 @@ use crate::calls::Calls;
 use crate::coverage::Coverage;
 use crate::numbers::{DELIVER_TO_ITEM, DELIVER_TO_SESSION, TO_ITEM};
 use model::layout::{
-    body_at, item_at, read_u16, route_at, session_at, write_u16, BODY_SIZE, DIRECTION, HELD,
-    MAIL_CAPACITY, MAIL_COUNT, MAIL_HEADER, QUEUE, QUEUE_LENGTH, ROUTE_ITEM, ROUTE_SESSION,
+    body_at, item_at, ranks_at, read_u16, route_at, session_at, write_u16, BODY_SIZE, DIRECTION,
+    HELD, MAIL_CAPACITY, MAIL_COUNT, MAIL_HEADER, QUEUE, QUEUE_LENGTH, ROUTE_ITEM, ROUTE_SESSION,
     ROUTE_SIZE, TABLE_HEADER, TABLE_ITEMS, TABLE_SESSIONS,
 };
-use model::{Answer, Config, Cycle, Drained, Text};
+use model::{Answer, Config, Cycle, Drained, Ranks, Text};
 use std::fmt::Debug;
 
 /// The two buffers of a lock manager.
@@ -28,11 +28,26 @@ impl Buffers {
         }
     }
 
-    /// The numbers of a config, written where the buffers carry them.
+    /// The numbers of a config and plain ranks, written where the buffers carry
+    /// them.
     pub fn set_numbers(&mut self, config: Config) {
         self.table[TABLE_SESSIONS] = config.sessions as u8;
         self.table[TABLE_ITEMS] = config.items as u8;
         write_u16(&mut self.mail[MAIL_CAPACITY], config.capacity as usize);
+        self.set_ranks(Ranks::plain(config.sessions as usize).bytes());
+    }
+
+    pub fn ranks(&self) -> &[u8] {
+        &self.table[ranks_at(self.sessions(), self.items())]
+    }
+
+    pub fn ranks_mut(&mut self) -> &mut [u8] {
+        let bytes = ranks_at(self.sessions(), self.items());
+        &mut self.table[bytes]
+    }
+
+    pub fn set_ranks(&mut self, ranks: &[u8]) {
+        self.ranks_mut().copy_from_slice(ranks);
     }
 
     pub fn session(&self, session: usize) -> &[u8] {
@@ -54,6 +69,10 @@ impl Buffers {
 
     fn sessions(&self) -> usize {
         self.table[TABLE_SESSIONS].into()
+    }
+
+    fn items(&self) -> usize {
+        self.table[TABLE_ITEMS].into()
     }
 
     pub fn capacity(&self) -> usize {
@@ -157,6 +176,7 @@ impl Guarded {
 pub struct Comparison {
     subject: Box<dyn Calls>,
     pub coverage: Coverage,
+    ranks: Guarded,
     table: Guarded,
     mail: Guarded,
     text: Guarded,
@@ -170,6 +190,7 @@ impl Comparison {
         Comparison {
             subject: Box::new(subject),
             coverage: Coverage::new(),
+            ranks: Guarded::default(),
             table: Guarded::default(),
             mail: Guarded::default(),
             text: Guarded::default(),
@@ -191,15 +212,22 @@ impl Comparison {
         same_bytes(call, before, "mail", &self.mail, &self.after.mail)
     }
 
-    pub fn start(&mut self, config: Config, buffers: &mut Buffers) -> Result<u8, String> {
+    pub fn start(
+        &mut self,
+        config: Config,
+        ranks: &[u8],
+        buffers: &mut Buffers,
+    ) -> Result<u8, String> {
         self.load(buffers);
+        self.ranks.load(ranks);
         let (table, mail) = (self.table.lent(), self.mail.lent());
-        let found = self.subject.start(config, table, mail);
+        let found = self.subject.start(config, self.ranks.lent(), table, mail);
         let after = &mut self.after;
-        let expected = model::start(config, &mut after.table, &mut after.mail);
-        let call = format!("start {config:?}");
+        let expected = model::start(config, ranks, &mut after.table, &mut after.mail);
+        let call = format!("start {config:?} with {} ranks", ranks.len());
         same_answer(&call, buffers, found, expected)?;
         self.same_buffers(&call, buffers)?;
+        same_bytes(&call, buffers, "ranks", &self.ranks, ranks)?;
         self.coverage.start(config, buffers, expected);
         std::mem::swap(buffers, &mut self.after);
         Ok(expected)

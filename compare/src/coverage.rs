@@ -1,9 +1,10 @@
 //! What the compared calls have met: refusals, endings of drains, pairs of kind
 //! and stage, the branches of every rule, ways to break the form, sizes and
-//! numbers, searches of a full mail, texts of cycles. A place that was never met
-//! makes the comparison worthless, so it fails then.
+//! numbers, searches of a full mail, texts of cycles, ranks. A place that was never
+//! met makes the comparison worthless, so it fails then.
 
 use crate::comparison::{held, queue, Buffers};
+use crate::forge::{breaks, RANK_BREAKS};
 use crate::numbers::{
     delivered_direction, kind, CLEANING, DELIVER_TO_ITEM, GROWING, RELEASE, REQUEST, TO_ITEM,
     TO_SESSION, WAITING, WITHDRAWING,
@@ -12,16 +13,20 @@ use model::layout::{
     AWAITED, BODY_A, BODY_B, DIRECTION, HOLDER, JUNIORS, KIND, MAX_SESSIONS, MAX_TEXT, ROUTE_ITEM,
     ROUTE_SESSION, ROUTE_SIZE, STAGE, TABLE_HEADER, TABLE_ITEMS, TABLE_SESSIONS,
 };
-use model::{Answer, Config, Cycle, Drained, Ending, Refusal, Text, ACCEPTED};
+use model::{Answer, Config, Cycle, Drained, Ending, Ranks, Refusal, Text, ACCEPTED};
 use std::collections::BTreeMap;
 use std::fmt::{self, Display, Formatter};
 
-/// Refusals of each call and endings of drains must be met this often.
+/// Refusals of each call, endings of drains and bad ranks must be met this often.
 pub const AT_LEAST: u64 = 1_000;
+
+/// Each rule that is settled by seniority must be met this often against the
+/// session numbers.
+const BY_RANK_AT_LEAST: u64 = 50;
 
 /// The calls and the refusals that each can give.
 const CALLS: [(&str, &[Refusal]); 5] = [
-    ("start", &[Refusal::BadSize]),
+    ("start", &[Refusal::BadSize, Refusal::BadRanks]),
     ("step", Refusal::ALL.split_at(Refusal::MailFull as usize).0),
     (
         "report",
@@ -49,8 +54,14 @@ const REPORT: usize = 2;
 const DRAIN: usize = 3;
 const CYCLE_TEXT: usize = 4;
 
-/// Refusals and, first, an accepted call.
-const ANSWERS: usize = Refusal::ALL.len() + 1;
+/// Refusals by their number and, first, an accepted call. No call gives 12 and 13.
+const ANSWERS: usize = Refusal::BadRanks as usize + 1;
+
+/// The numbers that some call answers.
+fn answers() -> impl Iterator<Item = usize> {
+    let refusals = Refusal::ALL.into_iter().map(|refusal| refusal as usize);
+    [ACCEPTED.into()].into_iter().chain(refusals)
+}
 
 /// Whether a call can give a refusal of this number.
 fn gives(refusals: &[Refusal], number: usize) -> bool {
@@ -123,6 +134,7 @@ const SESSION_RULES: &[&str] = &[
     "probe: junior to the stored one",
     "probe: not junior to the stored one, dropped",
     "probe: the session itself is the junior",
+    "probe: the session is not junior to its junior",
     "probe: the session itself is the initiator",
     "resend: from the awaited item, probes",
     "resend: from the awaited item, none stored",
@@ -262,11 +274,69 @@ const TEXTS: &[&str] = &[
     "on no cycle: buffer of length 0",
 ];
 
+/// Rules that are settled by seniority, and the text.
+const BY_RANK: &[&str] = &[
+    "request: joins, senior to the holder",
+    "request: joins, junior to the holder",
+    "release: next holder from the front of the queue",
+    "release: next holder from the middle of the queue",
+    "release: next holder from the end of the queue",
+    "probe: holder senior, dropped",
+    "probe: holder junior, passed on",
+    "clean: with probes",
+    "clean: without probes",
+    "rebroadcast: probes and resends",
+    "rebroadcast: resends alone",
+    "probe: junior to the stored one",
+    "probe: not junior to the stored one, dropped",
+    "probe: the session itself is the junior",
+    "probe: the session is not junior to its junior",
+    TEXT_BY_RANK,
+];
+
+const TEXT_BY_RANK: &str = "a text from another session than the lowest-numbered";
+
+/// Lists of calls from a start, by their ranks.
+const STARTED: [[&str; 3]; 2] = [
+    ["plain ranks", "reversed ranks", "any other ranks"],
+    [
+        "64 sessions, plain ranks",
+        "64 sessions, reversed ranks",
+        "64 sessions, any other ranks",
+    ],
+];
+
+/// The same for three sessions, in every order.
+const STARTED_THREE: [([u8; 3], &str); 6] = [
+    ([1, 2, 3], "3 sessions, ranks 1 2 3"),
+    ([1, 3, 2], "3 sessions, ranks 1 3 2"),
+    ([2, 1, 3], "3 sessions, ranks 2 1 3"),
+    ([2, 3, 1], "3 sessions, ranks 2 3 1"),
+    ([3, 1, 2], "3 sessions, ranks 3 1 2"),
+    ([3, 2, 1], "3 sessions, ranks 3 2 1"),
+];
+
+/// What demand 3 was checked on with ranks that are not plain.
+const CHECKED_STEPS: &str = "accepted steps";
+const CHECKED_VICTIMS: &str = "declarations of another victim than by number";
+
+/// Lists at a start that are refused with 2.
+const BAD_SIZES: &[&str] = &[
+    "empty list",
+    "list too short",
+    "list too long",
+    "list too long by 256 or 65536",
+    "bad ranks in a list of a wrong length",
+    "bad ranks beside another wrong size",
+];
+
 /// Named counts, in the order of their list.
 struct Group {
     title: &'static str,
     names: Vec<&'static str>,
     counts: BTreeMap<&'static str, u64>,
+    /// Each must be met this often.
+    at_least: u64,
 }
 
 impl Group {
@@ -275,12 +345,17 @@ impl Group {
             title,
             names: names.to_vec(),
             counts: names.iter().map(|&name| (name, 0)).collect(),
+            at_least: 1,
         }
     }
 
     fn hit(&mut self, name: &'static str) {
+        self.add(name, 1);
+    }
+
+    fn add(&mut self, name: &'static str, more: u64) {
         let count = self.counts.get_mut(name);
-        *count.unwrap_or_else(|| panic!("no place is called {name}")) += 1;
+        *count.unwrap_or_else(|| panic!("no place is called {name}")) += more;
     }
 }
 
@@ -297,11 +372,17 @@ pub struct Coverage {
     /// Texts by the members of their cycle.
     cycles: [u64; MAX_SESSIONS + 1],
     breaks: Group,
+    by_rank: Group,
+    started: Group,
+    checked: Group,
+    bad_ranks: Group,
 }
 
 impl Coverage {
     pub fn new() -> Coverage {
-        let breaks: Vec<_> = crate::forge::BREAKS.iter().map(|b| b.name).collect();
+        let breaks: Vec<_> = breaks().map(|way| way.name).collect();
+        let rank_breaks = RANK_BREAKS.iter().map(|way| way.name);
+        let bad_ranks: Vec<_> = rank_breaks.chain(BAD_SIZES.iter().copied()).collect();
         Coverage {
             refusals: Default::default(),
             endings: Default::default(),
@@ -320,6 +401,28 @@ impl Coverage {
             texts: Group::new("Texts of cycles", &[&LINES, TEXTS].concat()),
             cycles: [0; MAX_SESSIONS + 1],
             breaks: Group::new("Ways to break the form", &breaks),
+            by_rank: Group {
+                at_least: BY_RANK_AT_LEAST,
+                ..Group::new("Of these, met by rank and not by number", BY_RANK)
+            },
+            started: Group::new(
+                "Lists of calls from a start",
+                &[STARTED.as_flattened(), &STARTED_THREE.map(|(_, name)| name)].concat(),
+            ),
+            checked: Group {
+                at_least: AT_LEAST,
+                ..Group::new(
+                    "Demand 3 checked, ranks not plain",
+                    &[CHECKED_STEPS, CHECKED_VICTIMS],
+                )
+            },
+            bad_ranks: Group {
+                at_least: AT_LEAST,
+                ..Group::new(
+                    "Bad ranks at a start, the first four in a table too, for each call",
+                    &bad_ranks,
+                )
+            },
         }
     }
 
@@ -330,6 +433,40 @@ impl Coverage {
     /// A form broken in one way was refused as it must be.
     pub fn broken(&mut self, name: &'static str) {
         self.breaks.hit(name);
+    }
+
+    /// Bad ranks were refused by a start and, unless it was for a size, by each call
+    /// that gets a table.
+    pub fn bad_ranks(&mut self, name: &'static str) {
+        self.bad_ranks.hit(name);
+    }
+
+    /// A list of calls begins with an accepted start.
+    pub fn started(&mut self, ranks: &Ranks) {
+        let list = ranks.bytes();
+        let reversed = list.iter().rev().eq(Ranks::plain(list.len()).bytes());
+        let order = match (ranks.is_plain(), reversed) {
+            (true, _) => 0,
+            (false, true) => 1,
+            (false, false) => 2,
+        };
+        let started = &mut self.started;
+        started.hit(STARTED[0][order]);
+        if list.len() == MAX_SESSIONS {
+            started.hit(STARTED[1][order]);
+        }
+        if let Some((_, name)) = STARTED_THREE.iter().find(|(three, _)| three == list) {
+            started.hit(name);
+        }
+    }
+
+    /// Demand 3 was checked after so many accepted steps, with so many declarations
+    /// of another victim than by number.
+    pub fn checked(&mut self, ranks: &Ranks, steps: u64, victims: u64) {
+        if !ranks.is_plain() {
+            self.checked.add(CHECKED_STEPS, steps);
+            self.checked.add(CHECKED_VICTIMS, victims);
+        }
     }
 
     /// Demand 3 was checked after a drain that emptied the mail.
@@ -493,6 +630,9 @@ impl Coverage {
             lower |= queues().any(|other| other < item);
         }
         self.cycles[members.len()] += 1;
+        if members.iter().min() != members.first() {
+            self.by_rank.hit(TEXT_BY_RANK);
+        }
         texts.hit(if members[0] as u64 == session {
             "asked about the most senior member"
         } else {
@@ -548,8 +688,18 @@ impl Coverage {
         let (session, item) = (session as usize, item as usize);
         match verb {
             REQUEST | RELEASE => self.own_step(verb, before.session(session)),
-            DELIVER_TO_ITEM => self.at_item(own, before.item(item), body(TO_ITEM), answer),
-            _ => self.at_session(own, from, before.session(session), body(TO_SESSION)),
+            DELIVER_TO_ITEM => {
+                let (record, body) = (before.item(item), body(TO_ITEM));
+                let met = |ranks: &Ranks| Coverage::at_item(ranks, own, record, body, answer);
+                hit(&mut self.items, &mut self.by_rank, before, met);
+            }
+            _ => {
+                let (record, body) = (before.session(session), body(TO_SESSION));
+                let row = KINDS.iter().position(|&(kind, _)| kind == body[KIND]);
+                self.pairs[row.unwrap()][usize::from(record[STAGE]) - 1] += 1;
+                let met = |ranks: &Ranks| Coverage::at_session(ranks, own, from, record, body);
+                hit(&mut self.sessions, &mut self.by_rank, before, met);
+            }
         }
     }
 
@@ -628,12 +778,13 @@ impl Coverage {
         });
     }
 
-    fn at_item(&mut self, from: u8, record: &[u8], body: &[u8], answer: Answer) {
+    /// The rules that an accepted delivery to an item meets.
+    fn at_item(ranks: &Ranks, from: u8, record: &[u8], body: &[u8], answer: Answer) -> Met {
         let holder = record[HOLDER];
         let queue = queue(record);
         let waits = queue.contains(&from);
-        let senior_to = |holder: u8, queue: &[u8]| queue.iter().any(|&waiting| waiting < holder);
-        let rules = &mut self.items;
+        let with_probes = || queue.iter().any(|&waiting| ranks.senior(waiting, holder));
+        let mut rules = Met::default();
         match body[KIND] {
             kind::REQUEST if from == holder => rules.hit("request: from the holder, dropped"),
             kind::REQUEST if waits => rules.hit("request: from the queue, dropped"),
@@ -642,7 +793,7 @@ impl Coverage {
             }
             kind::REQUEST if holder == 0 => rules.hit("request: no holder but a queue, granted"),
             kind::REQUEST => {
-                rules.hit(if from < holder {
+                rules.hit(if ranks.senior(from, holder) {
                     "request: joins, senior to the holder"
                 } else {
                     "request: joins, junior to the holder"
@@ -661,18 +812,13 @@ impl Coverage {
             }
             kind::RELEASE if from != holder => rules.hit("release: not from the holder, dropped"),
             kind::RELEASE => {
-                // The most senior has the least number.
-                let least = queue.iter().min();
-                rules.hit(match queue {
-                    [] => "release: empty queue, no holder",
-                    [_] => "release: next holder, nobody left waiting",
-                    [first, ..] if least == Some(first) => {
-                        "release: next holder from the front of the queue"
-                    }
-                    [.., last] if least == Some(last) => {
-                        "release: next holder from the end of the queue"
-                    }
-                    _ => "release: next holder from the middle of the queue",
+                let last = queue.len().saturating_sub(1);
+                rules.hit(match ranks.most_senior(queue) {
+                    None => "release: empty queue, no holder",
+                    Some(_) if last == 0 => "release: next holder, nobody left waiting",
+                    Some(0) => "release: next holder from the front of the queue",
+                    Some(next) if next == last => "release: next holder from the end of the queue",
+                    Some(_) => "release: next holder from the middle of the queue",
                 });
                 if queue.len() == MAX_SESSIONS - 1 {
                     rules.hit("release: next holder from a queue of 63");
@@ -680,9 +826,13 @@ impl Coverage {
             }
             kind::PROBE if !waits => rules.hit("probe: not from the queue, dropped"),
             kind::PROBE if holder == 0 => rules.hit("probe: no holder, dropped"),
-            kind::PROBE if holder < body[BODY_A] => rules.hit("probe: holder senior, dropped"),
-            kind::PROBE if holder > body[BODY_A] => rules.hit("probe: holder junior, passed on"),
-            kind::PROBE => rules.hit("probe: holder is the initiator, declared"),
+            kind::PROBE if holder == body[BODY_A] => {
+                rules.hit("probe: holder is the initiator, declared")
+            }
+            kind::PROBE if ranks.senior(holder, body[BODY_A]) => {
+                rules.hit("probe: holder senior, dropped")
+            }
+            kind::PROBE => rules.hit("probe: holder junior, passed on"),
             kind::CLEAN if holder == 0 => rules.hit("clean: no holder, dropped"),
             kind::CLEAN => {
                 rules.hit(if waits {
@@ -690,7 +840,7 @@ impl Coverage {
                 } else {
                     "clean: not from the queue"
                 });
-                rules.hit(if senior_to(holder, queue) {
+                rules.hit(if with_probes() {
                     "clean: with probes"
                 } else {
                     "clean: without probes"
@@ -698,44 +848,39 @@ impl Coverage {
             }
             kind::REBROADCAST if holder == 0 => rules.hit("rebroadcast: no holder, dropped"),
             kind::REBROADCAST if queue.is_empty() => rules.hit("rebroadcast: empty queue"),
-            kind::REBROADCAST if senior_to(holder, queue) => {
-                rules.hit("rebroadcast: probes and resends")
-            }
+            kind::REBROADCAST if with_probes() => rules.hit("rebroadcast: probes and resends"),
             kind::REBROADCAST => rules.hit("rebroadcast: resends alone"),
             _ if waits => rules.hit("withdraw: from the queue"),
             _ => rules.hit("withdraw: not from the queue"),
         }
+        rules
     }
 
-    fn at_session(&mut self, own: u8, from: u8, record: &[u8], body: &[u8]) {
+    /// The rules that a delivery to a session meets.
+    fn at_session(ranks: &Ranks, own: u8, from: u8, record: &[u8], body: &[u8]) -> Met {
         let (kind, a, b) = (body[KIND], body[BODY_A], body[BODY_B]);
-        let stage = record[STAGE];
-        let row = KINDS
-            .iter()
-            .position(|&(number, _)| number == kind)
-            .unwrap();
-        self.pairs[row][usize::from(stage) - 1] += 1;
-
         let awaited = record[AWAITED] == from;
         let held = held(record);
         let sender = 1u64 << (from - 1);
         let stored = record[JUNIORS].iter().any(|&junior| junior != 0);
-        let rules = &mut self.sessions;
-        match (kind, stage) {
+        let mut rules = Met::default();
+        match (kind, record[STAGE]) {
             (kind::GRANT, WAITING) if awaited => rules.hit("grant: from the awaited item"),
             (kind::GRANT, WAITING) => rules.hit("grant: from another item, dropped"),
             (kind::PROBE, GROWING | WAITING) => {
                 let before = record[JUNIORS][usize::from(a) - 1];
                 rules.hit(if before == 0 {
                     "probe: none stored"
-                } else if b.max(own) > before {
+                } else if ranks.senior(before, ranks.more_junior(b, own)) {
                     "probe: junior to the stored one"
                 } else {
                     "probe: not junior to the stored one, dropped"
                 });
-                if own > b {
-                    rules.hit("probe: the session itself is the junior");
-                }
+                rules.hit(if ranks.senior(b, own) {
+                    "probe: the session itself is the junior"
+                } else {
+                    "probe: the session is not junior to its junior"
+                });
                 if own == a {
                     rules.hit("probe: the session itself is the initiator");
                 }
@@ -765,6 +910,7 @@ impl Coverage {
             (kind::WITHDRAWN, WITHDRAWING) => rules.hit("withdrawn: holds none"),
             _ => {}
         }
+        rules
     }
 
     /// The places that were met too seldom.
@@ -799,24 +945,52 @@ impl Coverage {
         }
         for group in self.groups() {
             for name in &group.names {
-                if group.counts[name] == 0 {
-                    missing.push(format!("{}: {name}", group.title));
+                let count = group.counts[name];
+                if count < group.at_least {
+                    missing.push(format!("{}: {name}: {count} times", group.title));
                 }
             }
         }
         missing
     }
 
-    fn groups(&self) -> [&Group; 7] {
+    fn groups(&self) -> [&Group; 11] {
         [
             &self.items,
             &self.sessions,
+            &self.by_rank,
+            &self.started,
+            &self.checked,
+            &self.bad_ranks,
             &self.breaks,
             &self.situations,
             &self.searches,
             &self.drains,
             &self.texts,
         ]
+    }
+}
+
+/// The rules that a step has met.
+#[derive(Default)]
+struct Met(Vec<&'static str>);
+
+impl Met {
+    fn hit(&mut self, name: &'static str) {
+        self.0.push(name);
+    }
+}
+
+/// Counts the rules that a step meets by the ranks of the table and, apart, those
+/// of them that it would not meet by number.
+fn hit(rules: &mut Group, by_rank: &mut Group, before: &Buffers, met: impl Fn(&Ranks) -> Met) {
+    let ranks = Ranks::decode(before.ranks()).expect("an accepted step");
+    let by_number = met(&Ranks::plain(before.ranks().len()));
+    for name in met(&ranks).0 {
+        rules.hit(name);
+        if !by_number.0.contains(&name) {
+            by_rank.hit(name);
+        }
     }
 }
 
@@ -859,15 +1033,15 @@ impl Display for Coverage {
             "Calls by refusal (0: accepted; -: not given by that call)"
         )?;
         write!(out, "  {:10}", "")?;
-        for refusal in 0..ANSWERS {
+        for refusal in answers() {
             write!(out, "{refusal:>9}")?;
         }
         writeln!(out)?;
         for (row, (call, refusals)) in CALLS.iter().enumerate() {
             write!(out, "  {call:10}")?;
-            for (refusal, count) in self.refusals[row].iter().enumerate() {
+            for refusal in answers() {
                 if refusal == usize::from(ACCEPTED) || gives(refusals, refusal) {
-                    write!(out, "{count:>9}")?;
+                    write!(out, "{:>9}", self.refusals[row][refusal])?;
                 } else {
                     write!(out, "{:>9}", "-")?;
                 }

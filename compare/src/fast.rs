@@ -6,7 +6,7 @@ use crate::numbers::{
     kind::*, CLEANING, GROWING, ROLLED_BACK, SHRINKING, TO_ITEM, TO_SESSION, WAITING, WITHDRAWING,
 };
 use model::layout::{
-    body_at, item_at, items_end, mail_length, read_u16, route_at, routes_end, session_at,
+    body_at, item_at, items_end, mail_length, ranks_at, read_u16, route_at, routes_end, session_at,
     table_length, within, write_u16, AWAITED, BODY_SIZE, DIRECTION, HELD, HOLDER, ITEM_SIZE,
     JUNIORS, MAIL_CAPACITY, MAIL_COUNT, MAIL_HEADER, MAX_CAPACITY, MAX_ITEMS, MAX_SESSIONS, QUEUE,
     QUEUE_LENGTH, ROUTE_ITEM, ROUTE_SESSION, ROUTE_SIZE, SESSION_SIZE, STAGE, TABLE_HEADER,
@@ -108,7 +108,33 @@ fn table_well_formed(table: &[u8], size: Size) -> bool {
         wrong |= members.count_ones() as usize != length;
         wrong |= record[HOLDER] != 0 && members >> (record[HOLDER] & 63) & 1 != 0;
     }
+    wrong |= !ranks_well_formed(ranks(table, size));
     !wrong && over.iter().fold(0, |all, &byte| all | byte) == 0
+}
+
+/// The rank of each session.
+fn ranks(table: &[u8], size: Size) -> &[u8] {
+    &table[ranks_at(size.sessions, size.items)]
+}
+
+/// Ranks as bits: those from 1 to S, of which there are as many as sessions.
+fn ranks_well_formed(ranks: &[u8]) -> bool {
+    let mut seen = 0u64;
+    let mut wrong = false;
+    for &rank in ranks {
+        let bit = rank.wrapping_sub(1);
+        wrong |= usize::from(bit) >= ranks.len();
+        seen |= 1 << (bit & 63);
+    }
+    !wrong && seen.count_ones() as usize == ranks.len()
+}
+
+fn rank(ranks: &[u8], session: u8) -> u8 {
+    ranks[usize::from(session) - 1]
+}
+
+fn senior(ranks: &[u8], session: u8, other: u8) -> bool {
+    rank(ranks, session) < rank(ranks, other)
 }
 
 /// Entries that are checked or searched at once, and their bytes in each array.
@@ -271,9 +297,9 @@ impl Sends {
 
     /// Probes of the waiting sessions senior to the holder, then resends to all
     /// but one.
-    fn probes_and_resends(&mut self, holder: u8, queue: &[u8], but: u8) {
+    fn probes_and_resends(&mut self, ranks: &[u8], holder: u8, queue: &[u8], but: u8) {
         for &waiting in queue {
-            if waiting < holder {
+            if senior(ranks, waiting, holder) {
                 self.push(holder, PROBE, waiting, holder);
             }
         }
@@ -330,7 +356,7 @@ fn cycle_length(table: &[u8], size: Size, session: u8) -> u8 {
     0
 }
 
-pub fn start(config: Config, table: &mut [u8], mail: &mut [u8]) -> u8 {
+pub fn start(config: Config, ranks: &[u8], table: &mut [u8], mail: &mut [u8]) -> u8 {
     let numbers = (
         within(config.sessions, MAX_SESSIONS),
         within(config.items, MAX_ITEMS),
@@ -339,8 +365,12 @@ pub fn start(config: Config, table: &mut [u8], mail: &mut [u8]) -> u8 {
     let (Some(sessions), Some(items), Some(capacity)) = numbers else {
         return Refusal::BadSize as u8;
     };
-    if table.len() != config.table_length() || mail.len() != config.mail_length() {
+    let lengths = [table.len(), mail.len(), ranks.len()];
+    if lengths != [config.table_length(), config.mail_length(), sessions] {
         return Refusal::BadSize as u8;
+    }
+    if !ranks_well_formed(ranks) {
+        return Refusal::BadRanks as u8;
     }
     table.fill(0);
     mail.fill(0);
@@ -349,6 +379,7 @@ pub fn start(config: Config, table: &mut [u8], mail: &mut [u8]) -> u8 {
     for session in 1..=sessions {
         table[session_at(session)][STAGE] = GROWING;
     }
+    table[ranks_at(sessions, items)].copy_from_slice(ranks);
     write_u16(&mut mail[MAIL_CAPACITY], capacity);
     ACCEPTED
 }
@@ -396,6 +427,7 @@ fn try_cycle_text(session: u64, table: &[u8], text: &mut [u8]) -> Result<usize, 
     let (size, session) = judge_reading(session, table)?;
     let waits_at = waits(table, size, |item, _| item as u8);
     let holder = |item: u8| item_record(table, size, item.into())[HOLDER];
+    let ranks = ranks(table, size);
 
     let (mut at, mut first, mut length) = (session, session, 0);
     for _ in 0..size.sessions {
@@ -406,7 +438,9 @@ fn try_cycle_text(session: u64, table: &[u8], text: &mut [u8]) -> Result<usize, 
         // A session's number stands in two lines: as the holder, and as it waits.
         length += SESSION.len() + AT_ITEM.len() + HELD_BY.len() + 1;
         length += 2 * digits(at) + digits(item);
-        first = first.min(at);
+        if senior(ranks, at, first) {
+            first = at;
+        }
         at = holder(item);
         if at == session {
             break;
@@ -624,13 +658,14 @@ fn receive(
     sends: &mut Sends,
     answer: &mut Answer,
 ) -> (Record, bool) {
+    let ranks = ranks(table, size);
     if direction == TO_ITEM {
         let mut record = *item_record(table, size, x.into());
-        let joined = at_item(&mut record, t, body, sends, answer);
+        let joined = at_item(&mut record, ranks, t, body, sends, answer);
         (Record::Item(record), joined)
     } else {
         let mut record = *session_record(table, t.into());
-        at_session(&mut record, t, x, body, sends);
+        at_session(&mut record, ranks, t, x, body, sends);
         (Record::Session(record), false)
     }
 }
@@ -638,6 +673,7 @@ fn receive(
 /// An item receives a message; whether the sender joined its queue.
 fn at_item(
     record: &mut ItemBytes,
+    ranks: &[u8],
     from: u8,
     [kind, a, b]: [u8; 3],
     sends: &mut Sends,
@@ -658,7 +694,7 @@ fn at_item(
             }
             record[QUEUE][length] = from;
             record[QUEUE_LENGTH] += 1;
-            if from < holder {
+            if senior(ranks, from, holder) {
                 sends.push(holder, PROBE, from, holder);
             }
             return true;
@@ -668,14 +704,19 @@ fn at_item(
                 record[HOLDER] = 0;
                 return false;
             }
-            // The least number is the most senior: nobody left causes a probe.
-            let next = queue.iter().fold(u8::MAX, |least, &w| least.min(w));
+            // By rank, with the session below it: nobody left causes a probe.
+            let ranked = |&w: &u8| u16::from_be_bytes([rank(ranks, w), w]);
+            let [_, next] = queue
+                .iter()
+                .map(ranked)
+                .fold(u16::MAX, u16::min)
+                .to_be_bytes();
             record[HOLDER] = next;
             leave_queue(record, next);
             sends.push(next, GRANT, 0, 0);
             sends.resends(&record[QUEUE][..length - 1], 0);
         }
-        PROBE if holder >= a && queue.contains(&from) => {
+        PROBE if holder != 0 && !senior(ranks, holder, a) && queue.contains(&from) => {
             if holder == a {
                 answer.victim = b;
                 answer.initiator = a;
@@ -686,9 +727,9 @@ fn at_item(
         }
         CLEAN if holder != 0 => {
             sends.push(holder, CLEAN, a, b);
-            sends.probes_and_resends(holder, queue, from);
+            sends.probes_and_resends(ranks, holder, queue, from);
         }
-        REBROADCAST if holder != 0 => sends.probes_and_resends(holder, queue, 0),
+        REBROADCAST if holder != 0 => sends.probes_and_resends(ranks, holder, queue, 0),
         WITHDRAW => {
             leave_queue(record, from);
             sends.push(from, WITHDRAWN, 0, 0);
@@ -712,6 +753,7 @@ fn leave_queue(record: &mut ItemBytes, session: u8) {
 /// Session `own` receives a message from an item.
 fn at_session(
     record: &mut SessionBytes,
+    ranks: &[u8],
     own: u8,
     from: u8,
     [kind, a, b]: [u8; 3],
@@ -726,9 +768,9 @@ fn at_session(
             record[AWAITED] = 0;
         }
         (PROBE, stage @ (GROWING | WAITING)) => {
-            let junior = b.max(own);
+            let junior = if senior(ranks, b, own) { own } else { b };
             let stored = &mut record[JUNIORS][usize::from(a) - 1];
-            if junior > *stored {
+            if *stored == 0 || senior(ranks, *stored, junior) {
                 *stored = junior;
                 if stage == WAITING {
                     sends.push(awaited, PROBE, a, junior);

@@ -11,7 +11,7 @@ use model::layout::{
     ROUTE_SESSION, ROUTE_SIZE, STAGE,
 };
 use model::scenario::Random;
-use model::{Config, Refusal};
+use model::{Config, Ranks, Refusal};
 
 /// What a start is given: mostly small numbers, so that messages and records
 /// often fit each other.
@@ -30,6 +30,20 @@ pub fn config(random: &mut Random) -> Config {
             3 => random.between(17, 100),
             _ => random.between(3, 16),
         },
+    }
+}
+
+/// Ranks for so many sessions: plain, reversed or in any order, which for few is
+/// often one of the two.
+pub fn ranks(random: &mut Random, sessions: u64) -> Vec<u8> {
+    let mut plain = Ranks::plain(sessions as usize).bytes().to_vec();
+    match random.between(1, if sessions > 8 { 3 } else { 6 }) {
+        1 => plain,
+        2 => {
+            plain.reverse();
+            plain
+        }
+        _ => random.order(sessions),
     }
 }
 
@@ -78,6 +92,7 @@ pub fn well_formed(random: &mut Random, config: Config, messages: u64) -> Buffer
         let (route, body) = message(random, config);
         buffers.set_message(place, route, body);
     }
+    buffers.set_ranks(&ranks(random, config.sessions));
     buffers
 }
 
@@ -133,7 +148,7 @@ pub fn set_item(random: &mut Random, config: Config, record: &mut [u8], holder: 
     let others = (1..=config.sessions as u8).filter(|&session| session != holder);
     record.fill(0);
     record[HOLDER] = holder;
-    set_queue(record, &some_of(random, others.collect(), length));
+    set_queue(record, &random.some_of(others.collect(), length));
 }
 
 fn set_queue(record: &mut [u8], queue: &[u8]) {
@@ -142,23 +157,13 @@ fn set_queue(record: &mut [u8], queue: &[u8]) {
     record[QUEUE][..queue.len()].copy_from_slice(queue);
 }
 
-/// So many of these numbers, in any order.
-fn some_of(random: &mut Random, mut numbers: Vec<u8>, count: usize) -> Vec<u8> {
-    for k in 0..count {
-        let other = random.between(k as u64, numbers.len() as u64 - 1) as usize;
-        numbers.swap(k, other);
-    }
-    numbers.truncate(count);
-    numbers
-}
-
 /// Well-formed buffers in which so many sessions wait in a cycle; one of them.
 /// They may stand in other queues too: in those of items that nobody holds, and
 /// of higher-numbered ones than the one at which they wait.
 pub fn cycle(random: &mut Random, config: Config, members: usize) -> (Buffers, u8) {
     let mut buffers = well_formed(random, config, 0);
-    let sessions = some_of(random, (1..=config.sessions as u8).collect(), members);
-    let items = some_of(random, (1..=config.items as u8).collect(), members);
+    let sessions = random.some_of((1..=config.sessions as u8).collect(), members);
+    let items = random.some_of((1..=config.items as u8).collect(), members);
     let holders = sessions.iter().cycle().skip(1);
     for (&item, &holder) in items.iter().zip(holders) {
         let others = Filling::draw(random).of(random, config.sessions - 1) as usize;
@@ -437,6 +442,11 @@ impl Target<'_> {
         }
     }
 
+    /// Two drawn numbers, for places in a list.
+    fn draws(&mut self) -> [usize; 2] {
+        [0; 2].map(|_| self.random.bits() as usize)
+    }
+
     /// Any session's record.
     fn session(&mut self) -> &mut [u8] {
         let session = self.any_session();
@@ -465,6 +475,13 @@ impl Target<'_> {
         let record = self.session();
         record[STAGE] = stage;
         record[AWAITED] = item;
+        true
+    }
+
+    /// The rank of any session.
+    fn set_rank(&mut self, rank: u8) -> bool {
+        let session = usize::from(self.any_session());
+        self.buffers.ranks_mut()[session - 1] = rank;
         true
     }
 
@@ -531,7 +548,38 @@ impl Target<'_> {
     }
 }
 
-pub const BREAKS: &[Break] = &[
+/// Makes one byte of a list equal to another, if there are two.
+fn repeat(list: &mut [u8], [first, apart]: [usize; 2]) -> bool {
+    let length = list.len();
+    if length < 2 {
+        return false;
+    }
+    let first = first % length;
+    list[(first + 1 + apart % (length - 1)) % length] = list[first];
+    true
+}
+
+/// All ways.
+pub fn breaks() -> impl Iterator<Item = &'static Break> {
+    BREAKS.iter().chain(RANK_BREAKS)
+}
+
+/// Those that break the ranks, of two sessions or more.
+pub const RANK_BREAKS: &[Break] = &[
+    table("a rank twice", |t| {
+        let draws = t.draws();
+        repeat(t.buffers.ranks_mut(), draws)
+    }),
+    table("rank 0", |t| t.set_rank(0)),
+    table("rank S + 1", |t| t.set_rank(t.config.sessions as u8 + 1)),
+    table("rank above S + 1", |t| {
+        let rank = t.above(t.config.sessions + 1);
+        t.set_rank(rank)
+    }),
+];
+
+/// Those that break the records or the mail.
+const BREAKS: &[Break] = &[
     table("stage 0", |t| t.set_session(STAGE, 0)),
     table("stage above 6", |t| {
         let stage = t.above(ROLLED_BACK.into());
@@ -598,16 +646,10 @@ pub const BREAKS: &[Break] = &[
         t.set_waiting(Some(session))
     }),
     table("a session twice in a queue", |t| {
-        let (first, apart) = (t.random.bits() as usize, t.random.bits() as usize);
+        let draws = t.draws();
         let record = t.item();
         let length = usize::from(record[QUEUE_LENGTH]);
-        if length < 2 {
-            return false;
-        }
-        let first = first % length;
-        let second = (first + 1 + apart % (length - 1)) % length;
-        record[QUEUE][second] = record[QUEUE][first];
-        true
+        repeat(&mut record[QUEUE][..length], draws)
     }),
     table("the holder in its own queue", |t| t.set_waiting(None)),
     table("a byte behind a queue", |t| {

@@ -1,9 +1,11 @@
 //! The C calls of a library, safe on slices: of the one that this program is
-//! linked with, or of one that is loaded, to measure two side by side. The
+//! linked with, or of one that is loaded, to have two side by side. The
 //! declarations of its calls are those of include/lockmgr.h.
 
 use crate::calls::Calls;
-use model::{Answer, Config, Cycle, Drained, Text};
+use crate::comparison::Buffers;
+use model::layout::{items_end, TABLE_SESSIONS};
+use model::{Answer, Config, Cycle, Drained, Text, ACCEPTED};
 use std::ffi::{c_char, c_int, c_void, CStr, CString};
 use std::{mem, ptr};
 
@@ -40,6 +42,8 @@ extern "C" {
         sessions: u64,
         items: u64,
         capacity: u64,
+        ranks: *const u8,
+        ranks_len: usize,
         table: *mut u8,
         table_len: usize,
         mail: *mut u8,
@@ -81,15 +85,26 @@ extern "C" {
     fn dlsym(library: *mut c_void, name: *const c_char) -> *mut c_void;
 }
 
-type Start = unsafe extern "C" fn(u64, u64, u64, *mut u8, usize, *mut u8, usize) -> u8;
+type Start =
+    unsafe extern "C" fn(u64, u64, u64, *const u8, usize, *mut u8, usize, *mut u8, usize) -> u8;
+type StartUnranked = unsafe extern "C" fn(u64, u64, u64, *mut u8, usize, *mut u8, usize) -> u8;
 type Step = unsafe extern "C" fn(u64, u64, u64, *mut u8, usize, *mut u8, usize) -> LockmgrAnswer;
 type Report = unsafe extern "C" fn(u64, *const u8, usize) -> LockmgrCycle;
 type Drain = unsafe extern "C" fn(u64, *mut u8, usize, *mut u8, usize) -> LockmgrDrained;
 type CycleText = unsafe extern "C" fn(u64, *const u8, usize, *mut u8, usize) -> LockmgrText;
 
-/// The functions of a library.
+/// How a library starts.
+#[derive(Clone, Copy)]
+enum Starts {
+    Ranked(Start),
+    /// An earlier one, whose tables end with the item records.
+    Unranked(StartUnranked),
+}
+
+/// The functions of a library. An earlier one that knows no ranks is lent the
+/// table without them: they are its last bytes.
 pub struct Library {
-    start: Start,
+    start: Starts,
     step: Step,
     report: Report,
     drain: Drain,
@@ -104,7 +119,7 @@ const RTLD_NOW: c_int = 2;
 impl Library {
     /// The one that this program is linked with.
     pub const LINKED: Library = Library {
-        start: lockmgr_start,
+        start: Starts::Ranked(lockmgr_start),
         step: lockmgr_step,
         report: lockmgr_report,
         drain: lockmgr_drain,
@@ -132,13 +147,22 @@ impl Library {
                 Ok(function)
             }
         };
+        let start = find(c"lockmgr_start")?;
         // SAFETY: by the caller's promise each has the type of that name in
-        // include/lockmgr.h, and the library stays loaded.
+        // include/lockmgr.h, a start that of its layout, and the library stays
+        // loaded.
         unsafe {
+            let report = mem::transmute::<*mut c_void, Report>(find(c"lockmgr_report")?);
             Ok(Library {
-                start: mem::transmute::<*mut c_void, Start>(find(c"lockmgr_start")?),
+                start: match takes_ranks(report) {
+                    Some(true) => Starts::Ranked(mem::transmute::<*mut c_void, Start>(start)),
+                    Some(false) => {
+                        Starts::Unranked(mem::transmute::<*mut c_void, StartUnranked>(start))
+                    }
+                    None => return Err(format!("{path} takes other tables")),
+                },
                 step: mem::transmute::<*mut c_void, Step>(find(c"lockmgr_step")?),
-                report: mem::transmute::<*mut c_void, Report>(find(c"lockmgr_report")?),
+                report,
                 drain: mem::transmute::<*mut c_void, Drain>(find(c"lockmgr_drain")?),
                 cycle_text: find(c"lockmgr_cycle_text")
                     .ok()
@@ -149,6 +173,45 @@ impl Library {
 
     pub fn has_cycle_text(&self) -> bool {
         self.cycle_text.is_some()
+    }
+
+    pub fn takes_ranks(&self) -> bool {
+        matches!(self.start, Starts::Ranked(_))
+    }
+
+    /// The length of a table with so many sessions as the library is lent it.
+    fn length(&self, table: &[u8], sessions: u64) -> usize {
+        if self.takes_ranks() {
+            table.len()
+        } else {
+            table.len().saturating_sub(sessions as usize)
+        }
+    }
+
+    /// The same by the number of sessions that the table carries.
+    fn carried_length(&self, table: &[u8]) -> usize {
+        let sessions = table.get(TABLE_SESSIONS).copied().unwrap_or(0);
+        self.length(table, sessions.into())
+    }
+}
+
+/// Whether a library takes tables with ranks or, as an earlier one, without: it
+/// reports on the smallest table of its own layout alone.
+///
+/// # Safety
+/// The function is a library's report, whose type is the same in every layout.
+unsafe fn takes_ranks(report: Report) -> Option<bool> {
+    let config = Config::new(1, 1, 1);
+    let mut fresh = Buffers::filled(config, 0);
+    model::start(config, &[1], &mut fresh.table, &mut fresh.mail);
+    let accepts = |table: &[u8]| {
+        // SAFETY: the pointer is good for its length, and report only reads.
+        unsafe { report(1, table.as_ptr(), table.len()) }.refusal == ACCEPTED
+    };
+    if accepts(&fresh.table) {
+        Some(true)
+    } else {
+        accepts(&fresh.table[..items_end(1, 1)]).then_some(false)
     }
 }
 
@@ -172,18 +235,33 @@ fn pointer(bytes: &mut [u8]) -> *mut u8 {
 }
 
 impl Calls for Library {
-    fn start(&self, config: Config, table: &mut [u8], mail: &mut [u8]) -> u8 {
-        // SAFETY: each pointer is good for its length, and two `&mut` never overlap.
+    fn start(&self, config: Config, ranks: &[u8], table: &mut [u8], mail: &mut [u8]) -> u8 {
+        let Config {
+            sessions,
+            items,
+            capacity,
+        } = config;
+        let (table_len, mail_len) = (self.length(table, sessions), mail.len());
+        let (table, mail) = (pointer(table), pointer(mail));
+        // SAFETY: each pointer is good for its length, two `&mut` never overlap, and
+        // the ranks are only read.
         unsafe {
-            (self.start)(
-                config.sessions,
-                config.items,
-                config.capacity,
-                pointer(table),
-                table.len(),
-                pointer(mail),
-                mail.len(),
-            )
+            match self.start {
+                Starts::Ranked(start) => start(
+                    sessions,
+                    items,
+                    capacity,
+                    const_pointer(ranks),
+                    ranks.len(),
+                    table,
+                    table_len,
+                    mail,
+                    mail_len,
+                ),
+                Starts::Unranked(start) => {
+                    start(sessions, items, capacity, table, table_len, mail, mail_len)
+                }
+            }
         }
     }
 
@@ -202,7 +280,7 @@ impl Calls for Library {
                 session,
                 item,
                 pointer(table),
-                table.len(),
+                self.carried_length(table),
                 pointer(mail),
                 mail.len(),
             )
@@ -217,8 +295,9 @@ impl Calls for Library {
     }
 
     fn report(&self, session: u64, table: &[u8]) -> Cycle {
+        let length = self.carried_length(table);
         // SAFETY: the pointer is good for its length, and report only reads.
-        let cycle = unsafe { (self.report)(session, const_pointer(table), table.len()) };
+        let cycle = unsafe { (self.report)(session, const_pointer(table), length) };
         Cycle {
             refusal: cycle.refusal,
             length: cycle.length,
@@ -231,7 +310,7 @@ impl Calls for Library {
             (self.drain)(
                 limit,
                 pointer(table),
-                table.len(),
+                self.carried_length(table),
                 pointer(mail),
                 mail.len(),
             )
@@ -252,7 +331,7 @@ impl Calls for Library {
             cycle_text(
                 session,
                 const_pointer(table),
-                table.len(),
+                self.carried_length(table),
                 pointer(text),
                 text.len(),
             )

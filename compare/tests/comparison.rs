@@ -6,13 +6,13 @@ use compare::cases::{every_place, round};
 use compare::comparison::{Buffers, Comparison};
 use compare::numbers::{delivered_direction, DELIVER_TO_ITEM};
 use model::layout::{
-    body_at, read_u16, route_at, BODY_SIZE, DIRECTION, KIND, MAIL_CAPACITY, MAX_SESSIONS,
+    body_at, ranks_at, read_u16, route_at, BODY_SIZE, DIRECTION, KIND, MAIL_CAPACITY, MAX_SESSIONS,
     ROUTE_ITEM, ROUTE_SESSION, ROUTE_SIZE,
 };
 use model::mailbox::{count, kind};
 use model::table::Table;
 use model::waits::{cycle_waits, text_of};
-use model::{Answer, Config, Cycle, Drained, Misreading, Refusal, Text, ACCEPTED};
+use model::{Answer, Config, Cycle, Drained, Misreading, Ranks, Refusal, Text, ACCEPTED};
 
 #[test]
 fn fast_answers_like_the_model() {
@@ -31,8 +31,16 @@ fn difference(subject: impl Calls + 'static) -> Option<String> {
 
 #[test]
 fn every_misreading_and_replaced_rule_is_found() {
-    let misreadings = Misreading::OF_01.into_iter().chain(Misreading::OF_F2);
-    for misreading in misreadings.chain(Misreading::REPLACED) {
+    for &misreading in [
+        &Misreading::OF_01[..],
+        &Misreading::OF_F2,
+        &Misreading::OF_F6,
+        &Misreading::IN_BYTES,
+        &Misreading::OUTSIDE_STEPS,
+    ]
+    .into_iter()
+    .flatten()
+    {
         let found = difference(Misread(misreading));
         println!("{misreading:?}: {found:?}");
         assert!(found.is_some(), "{misreading:?}");
@@ -96,14 +104,62 @@ enum Wrong {
     TraceOfRefusedText,
     /// Without a buffer a session on no cycle is refused with 11.
     ShortFirst,
+    /// A start writes plain ranks.
+    PlainStart,
+    /// Only the lowest byte of the length of the ranks counts.
+    NarrowRanks,
+    /// A start refused with 14 leaves a trace in the table.
+    TraceOfBadRanks,
+    /// A step that declares writes plain ranks.
+    PlainStep,
+    /// A drain writes plain ranks.
+    PlainDrain,
+    /// A step takes bad ranks for plain ones.
+    RanksUnseenByStep,
+    /// A drain takes bad ranks for plain ones.
+    RanksUnseenByDrain,
+    /// A report takes bad ranks for plain ones.
+    RanksUnseenByReport,
+    /// A text takes bad ranks for plain ones.
+    RanksUnseenByText,
+}
+
+/// Writes plain ranks into a table whose length is right.
+fn make_plain(table: &mut [u8]) {
+    if let Some((sessions, items)) = Table::size(table) {
+        table[ranks_at(sessions, items)].copy_from_slice(Ranks::plain(sessions).bytes());
+    }
+}
+
+/// A call that takes bad ranks in a table for plain ones, if it is wrong so, and
+/// leaves them.
+fn unseen<A>(wrong: bool, table: &mut [u8], call: impl FnOnce(&mut [u8]) -> A) -> A {
+    let place = Table::size(table).map(|(sessions, items)| ranks_at(sessions, items));
+    let bad = place.map(|place| (table[place.clone()].to_vec(), place));
+    match bad.filter(|(ranks, _)| wrong && Ranks::decode(ranks).is_none()) {
+        None => call(table),
+        Some((ranks, place)) => {
+            make_plain(table);
+            let answer = call(table);
+            table[place].copy_from_slice(&ranks);
+            answer
+        }
+    }
 }
 
 impl Calls for Wrong {
-    fn start(&self, config: Config, table: &mut [u8], mail: &mut [u8]) -> u8 {
+    fn start(&self, config: Config, ranks: &[u8], table: &mut [u8], mail: &mut [u8]) -> u8 {
         let last = mail.last().copied();
-        let refusal = model::start(config, table, mail);
-        if let (Wrong::ShortStart, Some(last)) = (self, last) {
-            *mail.last_mut().unwrap() = last;
+        let counted = match self {
+            Wrong::NarrowRanks => ranks.len() & 255,
+            _ => ranks.len(),
+        };
+        let refusal = model::start(config, &ranks[..counted], table, mail);
+        match (self, last) {
+            (Wrong::ShortStart, Some(last)) => *mail.last_mut().unwrap() = last,
+            (Wrong::PlainStart, _) if refusal == ACCEPTED => make_plain(table),
+            (Wrong::TraceOfBadRanks, _) if refusal == Refusal::BadRanks as u8 => table[0] ^= 1,
+            _ => {}
         }
         refusal
     }
@@ -126,7 +182,9 @@ impl Calls for Wrong {
         if let Some(answer) = self.search(v, s, i, table, mail) {
             return answer;
         }
-        let answer = model::step(v, session, item, table, mail);
+        let answer = unseen(*self == Wrong::RanksUnseenByStep, table, |table| {
+            model::step(v, session, item, table, mail)
+        });
         if let (Some(last), true) = (ignored, answer.refusal != ACCEPTED) {
             *mail.last_mut().unwrap() = last;
         }
@@ -139,13 +197,15 @@ impl Calls for Wrong {
             {
                 *mail.last_mut().unwrap() = 1;
             }
+            Wrong::PlainStep if answer.victim != 0 => make_plain(table),
             _ => {}
         }
         answer
     }
 
     fn report(&self, session: u64, table: &[u8]) -> Cycle {
-        let mut cycle = model::report(session, table);
+        let (wrong, mut table) = (*self == Wrong::RanksUnseenByReport, table.to_vec());
+        let mut cycle = unseen(wrong, &mut table, |table| model::report(session, table));
         if *self == Wrong::ShortWalk && usize::from(cycle.length) == MAX_SESSIONS {
             cycle.length = 0;
         }
@@ -158,7 +218,9 @@ impl Calls for Wrong {
         } else {
             limit
         };
-        let mut drained = model::drain(limit, table, mail);
+        let mut drained = unseen(*self == Wrong::RanksUnseenByDrain, table, |table| {
+            model::drain(limit, table, mail)
+        });
         if drained.refusal != ACCEPTED {
             if let (Wrong::TraceOfRefusedDrain, Some(last)) = (self, table.last_mut()) {
                 *last ^= 1;
@@ -174,12 +236,18 @@ impl Calls for Wrong {
             Wrong::TraceOfMove if drained.made > capacity as u64 && count > 1 => {
                 mail.copy_within(body_at(capacity, 0), body_at(capacity, 1).start);
             }
+            Wrong::PlainDrain if drained.made > 0 => make_plain(table),
             _ => {}
         }
         drained
     }
 
     fn cycle_text(&self, session: u64, table: &[u8], text: &mut [u8]) -> Text {
+        if *self == Wrong::RanksUnseenByText {
+            return unseen(true, &mut table.to_vec(), |table| {
+                model::cycle_text(session, table, text)
+            });
+        }
         let session = if *self == Wrong::NarrowMember {
             session & 255
         } else {
@@ -331,6 +399,15 @@ fn every_wrong_byte_is_found() {
         Wrong::TraceOfText,
         Wrong::TraceOfRefusedText,
         Wrong::ShortFirst,
+        Wrong::PlainStart,
+        Wrong::NarrowRanks,
+        Wrong::TraceOfBadRanks,
+        Wrong::PlainStep,
+        Wrong::PlainDrain,
+        Wrong::RanksUnseenByStep,
+        Wrong::RanksUnseenByDrain,
+        Wrong::RanksUnseenByReport,
+        Wrong::RanksUnseenByText,
     ] {
         let found = difference(wrong);
         println!("{wrong:?}: {found:?}");

@@ -3,8 +3,9 @@
 use crate::config::Config;
 use crate::item::ToSessions;
 use crate::layout::{within, MAX_CAPACITY, MAX_ITEMS, MAX_SESSIONS};
-use crate::mailbox::{count, route, Direction, Mailbox, Message, Route};
+use crate::mailbox::{count, route, Body, Direction, Mailbox, Message, Route};
 use crate::misreading::Misreading;
+use crate::ranks::Ranks;
 use crate::session::{Stage, ToItems};
 use crate::table::Table;
 use crate::waits::{cycle_members, cycle_waits, text_of};
@@ -86,10 +87,12 @@ pub enum Refusal {
     NoCycle = 10,
     /// F-4: "a buffer too short for the whole text"
     ShortBuffer = 11,
+    /// F-6: "A bad list gives 14 at start, after 2". No call gives 12 and 13.
+    BadRanks = 14,
 }
 
 impl Refusal {
-    pub const ALL: [Refusal; 11] = [
+    pub const ALL: [Refusal; 12] = [
         Refusal::BadVerb,
         Refusal::BadSize,
         Refusal::BadTable,
@@ -101,6 +104,7 @@ impl Refusal {
         Refusal::MailFull,
         Refusal::NoCycle,
         Refusal::ShortBuffer,
+        Refusal::BadRanks,
     ];
 }
 
@@ -143,14 +147,36 @@ fn number(given: u64, max: usize) -> Result<u8, Refusal> {
     Ok(given as u8)
 }
 
-pub fn start(config: Config, table: &mut [u8], mail: &mut [u8]) -> u8 {
-    match try_start(config, table, mail) {
+/// F-6: "Start now takes S ranks, one for each session."
+pub fn start(config: Config, ranks: &[u8], table: &mut [u8], mail: &mut [u8]) -> u8 {
+    start_as(Misreading::None, config, ranks, table, mail)
+}
+
+/// A start by the rules, or by one misreading of them.
+pub fn start_as(
+    misreading: Misreading,
+    config: Config,
+    ranks: &[u8],
+    table: &mut [u8],
+    mail: &mut [u8],
+) -> u8 {
+    match try_start(misreading, config, ranks, table, mail) {
         Ok(()) => ACCEPTED,
         Err(refusal) => refusal as u8,
     }
 }
 
-fn try_start(config: Config, table: &mut [u8], mail: &mut [u8]) -> Result<(), Refusal> {
+fn try_start(
+    misreading: Misreading,
+    config: Config,
+    ranks: &[u8],
+    table: &mut [u8],
+    mail: &mut [u8],
+) -> Result<(), Refusal> {
+    let judged = Ranks::decode_as(misreading, ranks).ok_or(Refusal::BadRanks);
+    if misreading == Misreading::RanksFirst && judged.is_err() {
+        return Err(Refusal::BadRanks);
+    }
     let sessions = within(config.sessions, MAX_SESSIONS).ok_or(Refusal::BadSize)?;
     let items = within(config.items, MAX_ITEMS).ok_or(Refusal::BadSize)?;
     let capacity = within(config.capacity, MAX_CAPACITY).ok_or(Refusal::BadSize)?;
@@ -158,7 +184,14 @@ fn try_start(config: Config, table: &mut [u8], mail: &mut [u8]) -> Result<(), Re
     if table.len() != config.table_length() || mail.len() != config.mail_length() {
         return Err(Refusal::BadSize);
     }
-    Table::fresh(sessions, items).encode(table);
+    // F-6: "A start list of the wrong length is 2"
+    if ranks.len() != sessions {
+        return Err(match misreading {
+            Misreading::WrongLengthIs14 => Refusal::BadRanks,
+            _ => Refusal::BadSize,
+        });
+    }
+    Table::fresh(judged?, items).encode(table);
     Mailbox::empty(capacity).encode(mail);
     Ok(())
 }
@@ -195,11 +228,12 @@ fn try_step(
 ) -> Result<Answer, Refusal> {
     let verb = Verb::decode(verb).ok_or(Refusal::BadVerb)?;
     let (mut records, mut mailbox) = judge(table, mail)?;
+    let ranks = records.ranks.as_read(misreading);
     let session = number(session, records.sessions.len())?;
     let item = number(item, records.items.len())?;
 
     let mut answer = Answer::default();
-    let sends = match verb {
+    let mut sends = match verb {
         Verb::Request => {
             let before = records.session(session).clone();
             if before.stage != Stage::Growing {
@@ -233,7 +267,7 @@ fn try_step(
             let body = mailbox.take(route).ok_or(Refusal::NoMessage)?;
             let before = records.item(item).clone();
             let waited = before.queue.contains(&session);
-            let outcome = before.receive(session, body, misreading);
+            let outcome = before.receive(session, body, &ranks, misreading);
             let waits = outcome.item.queue.contains(&session);
             *records.item_mut(item) = outcome.item;
             // "closed (1 if this step put T in a line and T then lies on a
@@ -256,12 +290,18 @@ fn try_step(
             };
             let body = mailbox.take(route).ok_or(Refusal::NoMessage)?;
             let before = records.session(session).clone();
-            let (after, sends) = before.receive(session, item, body, misreading);
+            let (after, sends) = before.receive(session, item, body, &ranks, misreading);
             *records.session_mut(session) = after;
             from_session(session, sends)
         }
     };
 
+    if misreading == Misreading::ProbesByRank && verb != Verb::DeliverToItem {
+        sends.sort_by_key(|message| match message.body {
+            Body::Probe { initiator, .. } => ranks.of(initiator),
+            _ => 0,
+        });
+    }
     answer.sent = sends.len() as u8;
     mailbox.messages.extend(sends);
     if mailbox.messages.len() > mailbox.capacity {
@@ -338,7 +378,12 @@ fn judge_reading(session: u64, table: &[u8]) -> Result<(Table, u8), Refusal> {
 /// F-4: the text of the ring on which a session lies, written "into the caller's
 /// buffer"; "what follows it in the buffer is untouched".
 pub fn cycle_text(session: u64, table: &[u8], text: &mut [u8]) -> Text {
-    match try_cycle_text(session, table, text) {
+    cycle_text_as(Misreading::None, session, table, text)
+}
+
+/// A text by the rules, or by one misreading of them.
+pub fn cycle_text_as(misreading: Misreading, session: u64, table: &[u8], text: &mut [u8]) -> Text {
+    match try_cycle_text(misreading, session, table, text) {
         Ok(length) => Text {
             refusal: ACCEPTED,
             length,
@@ -351,8 +396,14 @@ pub fn cycle_text(session: u64, table: &[u8], text: &mut [u8]) -> Text {
 }
 
 /// F-4: "Refusals 2, 3 and 5 come first, then 10 [..] and 11".
-fn try_cycle_text(session: u64, table: &[u8], text: &mut [u8]) -> Result<u16, Refusal> {
-    let (records, session) = judge_reading(session, table)?;
+fn try_cycle_text(
+    misreading: Misreading,
+    session: u64,
+    table: &[u8],
+    text: &mut [u8],
+) -> Result<u16, Refusal> {
+    let (mut records, session) = judge_reading(session, table)?;
+    records.ranks = records.ranks.unless(misreading == Misreading::TextByNumber);
     let waits = cycle_waits(&records, session);
     if waits.is_empty() {
         return Err(Refusal::NoCycle);

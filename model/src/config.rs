@@ -1,4 +1,4 @@
-//! What start is given.
+//! What start is given, beside the ranks.
 
 use crate::layout::{mail_length, table_length, MAX_CAPACITY, MAX_ITEMS, MAX_SESSIONS};
 

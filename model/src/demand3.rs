@@ -3,7 +3,6 @@
 use crate::calls::{deliver_as, report, Answer, Drained, Ending, Refusal, ACCEPTED};
 use crate::mailbox::{count, Mailbox};
 use crate::misreading::Misreading;
-use crate::session::senior;
 use crate::table::{rolled_back, Table};
 use crate::waits::{cycle_members, standing_cycles};
 
@@ -18,6 +17,9 @@ pub struct Demand3 {
     pub rolled_back: u64,
     /// Declarations seen, each of them checked.
     pub declared: u64,
+    /// Those of them that name another victim than the greatest session number
+    /// of the cycle.
+    pub declared_by_rank: u64,
     /// Times the mail was empty after a step, each of them checked.
     pub empty: u64,
 }
@@ -43,7 +45,8 @@ impl Demand3 {
         self.rolled_back += rolled_back(&well_formed(before.0)?, &records);
         if answer.victim != 0 && answer.initiator != 0 {
             self.declared += 1;
-            check_declaration(answer, &records)?;
+            let members = check_declaration(answer, &records)?;
+            self.declared_by_rank += u64::from(members.iter().max() != Some(&answer.victim));
         }
         if count(mail) == 0 {
             self.empty += 1;
@@ -146,11 +149,12 @@ pub fn drain_bound(sessions: usize, items: usize, count: usize) -> u64 {
 }
 
 /// "Its ring is read in the table which that step leaves": the initiator lies
-/// on it and is the most senior there, the victim the most junior.
-fn check_declaration(answer: Answer, records: &Table) -> Result<(), String> {
+/// on it and is the most senior there, the victim the most junior. Its members.
+fn check_declaration(answer: Answer, records: &Table) -> Result<Vec<u8>, String> {
     let Answer {
         victim, initiator, ..
     } = answer;
+    let senior = |one, other| records.ranks.senior(one, other);
     let declared = format!("declared: victim {victim}, initiator {initiator}");
     let members = cycle_members(records, initiator);
     if members.is_empty() {
@@ -163,7 +167,7 @@ fn check_declaration(answer: Answer, records: &Table) -> Result<(), String> {
     if !members.contains(&victim) || !most_junior {
         return Err(format!("{declared}: not the most junior of {members:?}"));
     }
-    Ok(())
+    Ok(members)
 }
 
 /// A refused step answers "number, zeros", leaves table and mail as they were,

@@ -1,9 +1,9 @@
 //! The item record and what an item does.
 
-use crate::layout::{within, HOLDER, MAX_SESSIONS, QUEUE, QUEUE_LENGTH};
+use crate::layout::{distinct, within, HOLDER, MAX_SESSIONS, QUEUE, QUEUE_LENGTH};
 use crate::mailbox::Body;
 use crate::misreading::Misreading;
-use crate::session::senior;
+use crate::ranks::Ranks;
 
 #[derive(Clone, PartialEq, Eq, Debug)]
 pub struct Item {
@@ -42,10 +42,11 @@ impl Item {
             return None;
         }
         let (queue, unused) = bytes[QUEUE].split_at(length);
-        let distinct = (1..queue.len()).all(|k| !queue[..k].contains(&queue[k]));
         let known = queue.iter().all(|&s| within(s.into(), sessions).is_some());
-        let fits =
-            distinct && known && !queue.contains(&holder) && unused.iter().all(|&byte| byte == 0);
+        let fits = distinct(queue)
+            && known
+            && !queue.contains(&holder)
+            && unused.iter().all(|&byte| byte == 0);
         fits.then(|| Item {
             holder,
             queue: queue.to_vec(),
@@ -61,19 +62,20 @@ impl Item {
 
     /// The choice of the next holder: its place in the queue. F-1: "a freed item
     /// goes to the most senior session in its line".
-    fn next_holder(&self, misreading: Misreading) -> Option<usize> {
+    fn next_holder(&self, ranks: &Ranks, misreading: Misreading) -> Option<usize> {
         if misreading == Misreading::FirstInLine {
             return (!self.queue.is_empty()).then_some(0);
         }
-        let most_senior = |&waiting: &u8| !self.queue.iter().any(|&other| senior(other, waiting));
-        self.queue.iter().position(most_senior)
+        ranks
+            .unless(misreading == Misreading::NextHolderByNumber)
+            .most_senior(&self.queue)
     }
 
     /// "probe (R, holder) to the holder for each R in line senior to it".
-    fn probes_of_queue(&self) -> ToSessions {
+    fn probes_of_queue(&self, ranks: &Ranks) -> ToSessions {
         self.queue
             .iter()
-            .filter(|&&waiting| senior(waiting, self.holder))
+            .filter(|&&waiting| ranks.senior(waiting, self.holder))
             .map(|&waiting| self.probe_of(waiting))
             .collect()
     }
@@ -109,13 +111,15 @@ impl Item {
 
     /// "Item on delivery. Each record receives its message and gives back the
     /// record that follows." The message comes from session `from`.
-    pub fn receive(self, from: u8, body: Body, misreading: Misreading) -> Outcome {
+    pub fn receive(self, from: u8, body: Body, ranks: &Ranks, misreading: Misreading) -> Outcome {
         match body {
-            Body::Request => self.requested(from),
-            Body::Release => self.released(from, misreading),
-            Body::Probe { initiator, junior } => self.probed(from, initiator, junior, misreading),
-            Body::Clean { victim, initiator } => self.cleaned(from, victim, initiator),
-            Body::Rebroadcast => self.rebroadcast(),
+            Body::Request => self.requested(from, ranks),
+            Body::Release => self.released(from, ranks, misreading),
+            Body::Probe { initiator, junior } => {
+                self.probed(from, initiator, junior, ranks, misreading)
+            }
+            Body::Clean { victim, initiator } => self.cleaned(from, victim, initiator, ranks),
+            Body::Rebroadcast => self.rebroadcast(ranks),
             Body::Withdraw => self.withdraw(from),
             // Well-formed mail brings an item no other kind.
             Body::Grant | Body::Resend | Body::Abort { .. } | Body::Withdrawn => self.drops(),
@@ -125,7 +129,7 @@ impl Item {
     /// "dropped if T is the holder or in line. No holder: T becomes holder,
     /// grant to T. Else T joins the end; if T is senior to the holder, probe
     /// (T, holder) to the holder."
-    fn requested(mut self, from: u8) -> Outcome {
+    fn requested(mut self, from: u8, ranks: &Ranks) -> Outcome {
         if from == self.holder || self.queue.contains(&from) {
             return self.drops();
         }
@@ -134,7 +138,7 @@ impl Item {
             return self.gives(vec![(from, Body::Grant)]);
         }
         self.queue.push(from);
-        let sends = if senior(from, self.holder) {
+        let sends = if ranks.senior(from, self.holder) {
             vec![self.probe_of(from)]
         } else {
             Vec::new()
@@ -147,17 +151,17 @@ impl Item {
     /// remaining R senior to N; then resend to each remaining R; both in line
     /// order." F-1: "N's place in the line closes up, and the others keep their
     /// order."
-    fn released(mut self, from: u8, misreading: Misreading) -> Outcome {
+    fn released(mut self, from: u8, ranks: &Ranks, misreading: Misreading) -> Outcome {
         if from != self.holder {
             return self.drops();
         }
-        let Some(place) = self.next_holder(misreading) else {
+        let Some(place) = self.next_holder(ranks, misreading) else {
             self.holder = 0;
             return self.gives(Vec::new());
         };
         self.holder = self.queue.remove(place);
         let mut sends = vec![(self.holder, Body::Grant)];
-        sends.extend(self.probes_of_queue());
+        sends.extend(self.probes_of_queue(ranks));
         sends.extend(self.resends(None));
         self.gives(sends)
     }
@@ -165,9 +169,16 @@ impl Item {
     /// "dropped if T is not in line, if no holder, or if the holder is senior
     /// to i. Holder junior to i: passed on to it. Holder is i: declared, abort
     /// (j, i) to j."
-    fn probed(self, from: u8, initiator: u8, junior: u8, misreading: Misreading) -> Outcome {
+    fn probed(
+        self,
+        from: u8,
+        initiator: u8,
+        junior: u8,
+        ranks: &Ranks,
+        misreading: Misreading,
+    ) -> Outcome {
         let late = !self.queue.contains(&from) && misreading != Misreading::PassesLateProbe;
-        if late || self.holder == 0 || senior(self.holder, initiator) {
+        if late || self.holder == 0 || ranks.senior(self.holder, initiator) {
             return self.drops();
         }
         if self.holder == initiator {
@@ -188,23 +199,23 @@ impl Item {
     /// "dropped if no holder. Else clean to the holder, then probe (R, holder)
     /// to the holder for each R in line senior to it, then resend to each in
     /// line but T, both in line order."
-    fn cleaned(self, from: u8, victim: u8, initiator: u8) -> Outcome {
+    fn cleaned(self, from: u8, victim: u8, initiator: u8, ranks: &Ranks) -> Outcome {
         if self.holder == 0 {
             return self.drops();
         }
         let mut sends = vec![(self.holder, Body::Clean { victim, initiator })];
-        sends.extend(self.probes_of_queue());
+        sends.extend(self.probes_of_queue(ranks));
         sends.extend(self.resends(Some(from)));
         self.gives(sends)
     }
 
     /// "dropped if no holder; the same probes, then resend to all in line, in
     /// the same order."
-    fn rebroadcast(self) -> Outcome {
+    fn rebroadcast(self, ranks: &Ranks) -> Outcome {
         if self.holder == 0 {
             return self.drops();
         }
-        let mut sends = self.probes_of_queue();
+        let mut sends = self.probes_of_queue(ranks);
         sends.extend(self.resends(None));
         self.gives(sends)
     }

@@ -14,7 +14,8 @@ pub const MAX_CAPACITY: usize = 4096;
 /// The length of the longest text: that of a cycle of all sessions.
 pub const MAX_TEXT: usize = 3045;
 
-/// The table: "S, M, then the session records, then the item records".
+/// The table: "S, M, then the session records, then the item records". F-6:
+/// "The ranks stand in the table behind the item records, S more bytes".
 pub const TABLE_SESSIONS: usize = 0;
 pub const TABLE_ITEMS: usize = 1;
 pub const TABLE_HEADER: usize = 2;
@@ -69,6 +70,12 @@ pub fn items_end(sessions: usize, items: usize) -> usize {
     sessions_end(sessions) + ITEM_SIZE * items
 }
 
+/// The bytes of the ranks, one for each session.
+pub fn ranks_at(sessions: usize, items: usize) -> Range<usize> {
+    let begin = items_end(sessions, items);
+    begin..begin + sessions
+}
+
 /// The bytes of the route of a message, 0 being the oldest.
 pub fn route_at(place: usize) -> Range<usize> {
     record(MAIL_HEADER, ROUTE_SIZE, place)
@@ -88,9 +95,9 @@ fn record(begin: usize, size: usize, place: usize) -> Range<usize> {
     begin + size * place..begin + size * (place + 1)
 }
 
-/// "The table has 2 + 74 × S + 66 × M bytes".
+/// "The table has 2 + 74 × S + 66 × M bytes", F-6: "S more".
 pub fn table_length(sessions: usize, items: usize) -> usize {
-    items_end(sessions, items)
+    ranks_at(sessions, items).end
 }
 
 /// "The mail has 4 + 6 × C bytes".
@@ -102,6 +109,11 @@ pub fn mail_length(capacity: usize) -> usize {
 pub fn within(number: u64, max: usize) -> Option<usize> {
     let number = usize::try_from(number).ok()?;
     (1..=max).contains(&number).then_some(number)
+}
+
+/// Whether no byte stands twice.
+pub fn distinct(bytes: &[u8]) -> bool {
+    (1..bytes.len()).all(|k| !bytes[..k].contains(&bytes[k]))
 }
 
 pub fn read_u16(bytes: &[u8]) -> u16 {

@@ -13,6 +13,7 @@ pub mod item;
 pub mod layout;
 pub mod mailbox;
 pub mod misreading;
+pub mod ranks;
 pub mod replay;
 pub mod scenario;
 pub mod session;
@@ -21,10 +22,11 @@ pub mod table;
 pub mod waits;
 
 pub use calls::{
-    cycle_text, drain, drain_as, report, start, step, step_as, Answer, Cycle, Drained, Ending,
-    Refusal, Text, Verb, ACCEPTED,
+    cycle_text, cycle_text_as, drain, drain_as, report, start, start_as, step, step_as, Answer,
+    Cycle, Drained, Ending, Refusal, Text, Verb, ACCEPTED,
 };
 pub use config::Config;
 pub use misreading::Misreading;
+pub use ranks::Ranks;
 pub use replay::replay;
 pub use statement::{statement, statement_as};

@@ -41,6 +41,30 @@ pub enum Misreading {
     ExchangesArrays,
     /// F-5 with a list accepted that is one byte too long.
     AcceptsLonger,
+    /// 01's rule before F-6, "Session 1 is the most senior."
+    SeniorByNumber,
+    /// F-6 with rank S for the most senior.
+    RanksReversed,
+    /// F-6 with the rank of the next session taken for a session's own.
+    RankOfNext,
+    /// F-6 with the more junior of a probe's junior and T by number.
+    JuniorByNumber,
+    /// F-6 with the next holder by number, as F-1 had it.
+    NextHolderByNumber,
+    /// F-6 with stored probes sent by rising rank of the initiator.
+    ProbesByRank,
+    /// F-6 with the text from the lowest-numbered session, as F-4 had it.
+    TextByNumber,
+    /// F-6 with 14 judged before 2.
+    RanksFirst,
+    /// F-6 with 14 for a list of the wrong length.
+    WrongLengthIs14,
+    /// F-6 with a rank accepted twice at start.
+    AcceptsRankTwice,
+    /// F-6 with rank 0 accepted at start.
+    AcceptsRank0,
+    /// F-6 with rank S + 1 accepted at start.
+    AcceptsRankAbove,
 }
 
 impl Misreading {
@@ -72,7 +96,30 @@ impl Misreading {
         Misreading::AcceptsLonger,
     ];
 
-    /// Rules that a request has replaced. Demand 3 holds under them too; the
-    /// bytes differ.
-    pub const REPLACED: [Misreading; 1] = [Misreading::FirstInLine];
+    /// Those of F-6 that name other sessions in a declaration. The check of
+    /// demand 3 catches each.
+    pub const OF_F6: [Misreading; 4] = [
+        Misreading::SeniorByNumber,
+        Misreading::RanksReversed,
+        Misreading::RankOfNext,
+        Misreading::JuniorByNumber,
+    ];
+
+    /// Misreadings and replaced rules under which demand 3 holds too; the bytes
+    /// differ.
+    pub const IN_BYTES: [Misreading; 3] = [
+        Misreading::FirstInLine,
+        Misreading::NextHolderByNumber,
+        Misreading::ProbesByRank,
+    ];
+
+    /// Those of F-6 in a text and at a start, which no step shows.
+    pub const OUTSIDE_STEPS: [Misreading; 6] = [
+        Misreading::TextByNumber,
+        Misreading::RanksFirst,
+        Misreading::WrongLengthIs14,
+        Misreading::AcceptsRankTwice,
+        Misreading::AcceptsRank0,
+        Misreading::AcceptsRankAbove,
+    ];
 }

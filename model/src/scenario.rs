@@ -6,6 +6,7 @@ use crate::config::Config;
 use crate::demand3::Demand3;
 use crate::mailbox::{count, Body, Mailbox, Message, Route};
 use crate::misreading::Misreading;
+use crate::ranks::Ranks;
 use crate::session::Stage;
 use crate::table::Table;
 
@@ -37,6 +38,21 @@ impl Random {
     fn pick<'a, T>(&mut self, list: &'a [T]) -> Option<&'a T> {
         let last = list.len().checked_sub(1)?;
         list.get(self.between(0, last as u64) as usize)
+    }
+
+    /// So many of these numbers, in any order.
+    pub fn some_of(&mut self, mut numbers: Vec<u8>, count: usize) -> Vec<u8> {
+        for k in 0..count {
+            let other = self.between(k as u64, numbers.len() as u64 - 1) as usize;
+            numbers.swap(k, other);
+        }
+        numbers.truncate(count);
+        numbers
+    }
+
+    /// The numbers 1 to n, in any order.
+    pub fn order(&mut self, n: u64) -> Vec<u8> {
+        self.some_of((1..=n as u8).collect(), n as usize)
     }
 }
 
@@ -112,6 +128,8 @@ pub struct Counts {
     pub refused: u64,
     /// Steps refused with 9.
     pub full: u64,
+    /// Accepted steps with ranks that are not plain.
+    pub by_rank: u64,
     pub demand3: Demand3,
     /// Most deliveries alone until the mail was empty.
     pub most_deliveries: u64,
@@ -127,9 +145,11 @@ impl Counts {
         self.steps += other.steps;
         self.refused += other.refused;
         self.full += other.full;
+        self.by_rank += other.by_rank;
         self.demand3.closed += other.demand3.closed;
         self.demand3.rolled_back += other.demand3.rolled_back;
         self.demand3.declared += other.demand3.declared;
+        self.demand3.declared_by_rank += other.demand3.declared_by_rank;
         self.demand3.empty += other.demand3.empty;
         self.most_deliveries = self.most_deliveries.max(other.most_deliveries);
         for (sum, count) in self.endings.iter_mut().zip(other.endings) {
@@ -177,9 +197,14 @@ pub fn run(seed: u64, misreading: Misreading) -> Result<Counts, String> {
         random.between(1, NARROW)
     };
     let config = Config::new(sessions, items, capacity);
+    let ranks = if random.one_in(8) {
+        Ranks::plain(sessions as usize)
+    } else {
+        Ranks::decode(&random.order(sessions)).ok_or("no ranks")?
+    };
     let mut table = vec![0; config.table_length()];
     let mut mail = vec![0; config.mail_length()];
-    if start(config, &mut table, &mut mail) != ACCEPTED {
+    if start(config, ranks.bytes(), &mut table, &mut mail) != ACCEPTED {
         return Err("start is refused".to_string());
     }
     let mut desk = Desk {
@@ -195,6 +220,9 @@ pub fn run(seed: u64, misreading: Misreading) -> Result<Counts, String> {
         },
     };
     desk.play()?;
+    if !ranks.is_plain() {
+        desk.counts.by_rank = desk.counts.steps - desk.counts.refused;
+    }
     Ok(desk.counts)
 }
 

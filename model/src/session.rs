@@ -1,8 +1,9 @@
-//! The session record, its stages, seniority, and what a session does.
+//! The session record, its stages, and what a session does.
 
 use crate::layout::{within, AWAITED, HELD, JUNIORS, MAX_ITEMS, MAX_SESSIONS, STAGE};
 use crate::mailbox::Body;
 use crate::misreading::Misreading;
+use crate::ranks::Ranks;
 
 /// "Stages: 1 growing, 2 waiting, 3 shrinking, 4 victim whose clean is on its
 /// way, 5 victim withdrawing, 6 rolled back."
@@ -34,20 +35,6 @@ impl Stage {
     /// "awaited is 1 to M in stages 2, 4, 5 and else 0".
     fn awaits(self) -> bool {
         matches!(self, Stage::Waiting | Stage::Cleaning | Stage::Withdrawing)
-    }
-}
-
-/// Seniority: "Session 1 is the most senior." Whether `session` is senior to
-/// `other`.
-pub fn senior(session: u8, other: u8) -> bool {
-    session < other
-}
-
-pub fn more_junior(one: u8, other: u8) -> u8 {
-    if senior(one, other) {
-        other
-    } else {
-        one
     }
 }
 
@@ -165,17 +152,18 @@ impl Session {
         own: u8,
         from: u8,
         body: Body,
+        ranks: &Ranks,
         misreading: Misreading,
     ) -> (Session, ToItems) {
         match (body, self.stage) {
             (Body::Grant, Stage::Waiting) if from == self.awaited => self.granted(),
             (Body::Probe { initiator, junior }, Stage::Growing | Stage::Waiting) => {
-                self.probed(own, initiator, junior, misreading)
+                self.probed(own, initiator, junior, ranks, misreading)
             }
             (Body::Probe { initiator, junior }, Stage::Cleaning | Stage::Withdrawing)
                 if misreading == Misreading::VictimForwards =>
             {
-                self.probed(own, initiator, junior, misreading)
+                self.probed(own, initiator, junior, ranks, misreading)
             }
             (Body::Resend, Stage::Waiting) if from == self.awaited => {
                 let sends = self.stored_probes(self.awaited);
@@ -212,11 +200,14 @@ impl Session {
         own: u8,
         initiator: u8,
         junior: u8,
+        ranks: &Ranks,
         misreading: Misreading,
     ) -> (Session, ToItems) {
-        let junior = more_junior(junior, own);
+        let junior = ranks
+            .unless(misreading == Misreading::JuniorByNumber)
+            .more_junior(junior, own);
         let stored = &mut self.juniors[usize::from(initiator) - 1];
-        let changed = *stored == 0 || senior(*stored, junior);
+        let changed = *stored == 0 || ranks.senior(*stored, junior);
         if changed {
             *stored = junior;
         } else if misreading != Misreading::ForwardsUnchanged {

@@ -1,24 +1,29 @@
-//! The table: "S, M, then the session records, then the item records".
+//! The table: "S, M, then the session records, then the item records", F-6:
+//! then the ranks.
 
 use crate::item::Item;
 use crate::layout::{
-    item_at, session_at, table_length, within, MAX_ITEMS, MAX_SESSIONS, TABLE_HEADER, TABLE_ITEMS,
-    TABLE_SESSIONS,
+    item_at, ranks_at, session_at, table_length, within, MAX_ITEMS, MAX_SESSIONS, TABLE_HEADER,
+    TABLE_ITEMS, TABLE_SESSIONS,
 };
+use crate::ranks::Ranks;
 use crate::session::{Session, Stage};
 
 #[derive(Clone, PartialEq, Eq, Debug)]
 pub struct Table {
     pub sessions: Vec<Session>,
     pub items: Vec<Item>,
+    pub ranks: Ranks,
 }
 
 impl Table {
-    /// "Start writes S and M, every session at stage 1, all else zero".
-    pub fn fresh(sessions: usize, items: usize) -> Table {
+    /// "Start writes S and M, every session at stage 1, all else zero" but for
+    /// the ranks.
+    pub fn fresh(ranks: Ranks, items: usize) -> Table {
         Table {
-            sessions: vec![Session::fresh(); sessions],
+            sessions: vec![Session::fresh(); ranks.bytes().len()],
             items: vec![Item::fresh(); items],
+            ranks,
         }
     }
 
@@ -41,19 +46,21 @@ impl Table {
         Some(Table {
             sessions: (1..=sessions).map(session).collect::<Option<_>>()?,
             items: (1..=items).map(item).collect::<Option<_>>()?,
+            ranks: Ranks::decode(&table[ranks_at(sessions, items)])?,
         })
     }
 
     pub fn encode(&self, table: &mut [u8]) {
-        let sessions = self.sessions.len();
+        let (sessions, items) = (self.sessions.len(), self.items.len());
         table[TABLE_SESSIONS] = sessions as u8;
-        table[TABLE_ITEMS] = self.items.len() as u8;
+        table[TABLE_ITEMS] = items as u8;
         for (k, session) in (1..).zip(&self.sessions) {
             session.encode(&mut table[session_at(k)]);
         }
         for (k, item) in (1..).zip(&self.items) {
             item.encode(&mut table[item_at(sessions, k)]);
         }
+        table[ranks_at(sessions, items)].copy_from_slice(self.ranks.bytes());
     }
 
     /// Sessions are numbered from 1.

@@ -1,7 +1,6 @@
 //! Who waits for whom, and the deadlock cycles (01: rings) of a table, read
 //! from the queues and holders of the items alone.
 
-use crate::session::senior;
 use crate::table::Table;
 use std::fmt::{self, Display, Formatter};
 
@@ -69,8 +68,7 @@ pub fn cycle_members(table: &Table, session: u8) -> Vec<u8> {
 /// on none.
 pub fn cycle_waits(table: &Table, session: u8) -> Vec<Wait> {
     let mut members = cycle_members(table, session);
-    let most_senior = |&member: &u8| !members.iter().any(|&other| senior(other, member));
-    let first = members.iter().position(most_senior).unwrap_or(0);
+    let first = table.ranks.most_senior(&members).unwrap_or(0);
     members.rotate_left(first);
     let wait = |&member: &u8| wait_of(table, member);
     members.iter().filter_map(wait).collect()

@@ -5,7 +5,7 @@ use model::item::Item;
 use model::layout::{session_at, table_length, MAX_SESSIONS, MAX_TEXT, STAGE};
 use model::scenario::Random;
 use model::table::Table;
-use model::{cycle_text, report, start, step, Config, Refusal, Text, ACCEPTED};
+use model::{cycle_text, report, start, step, Config, Ranks, Refusal, Text, ACCEPTED};
 
 fn encoded(records: &Table) -> Vec<u8> {
     let mut bytes = vec![0; table_length(records.sessions.len(), records.items.len())];
@@ -15,7 +15,7 @@ fn encoded(records: &Table) -> Vec<u8> {
 
 /// A table with items of these holders and queues.
 fn table(sessions: usize, items: &[(u8, &[u8])]) -> Vec<u8> {
-    let mut records = Table::fresh(sessions, items.len());
+    let mut records = Table::fresh(Ranks::plain(sessions), items.len());
     for (item, &(holder, queue)) in records.items.iter_mut().zip(items) {
         *item = Item {
             holder,
@@ -27,7 +27,7 @@ fn table(sessions: usize, items: &[(u8, &[u8])]) -> Vec<u8> {
 
 /// Session k waits at item k for the next session, the last for session 1.
 fn cycle_of(sessions: usize) -> Vec<u8> {
-    let mut records = Table::fresh(sessions, sessions);
+    let mut records = Table::fresh(Ranks::plain(sessions), sessions);
     for (session, item) in (1..).zip(&mut records.items) {
         item.holder = session % sessions as u8 + 1;
         item.queue = vec![session];
@@ -76,7 +76,7 @@ fn the_printed_example() {
         vec![0; config.table_length()],
         vec![0; config.mail_length()],
     );
-    start(config, &mut table, &mut mail);
+    start(config, Ranks::plain(2).bytes(), &mut table, &mut mail);
     let steps = [
         (1, 1, 1),
         (1, 2, 2),
@@ -294,7 +294,7 @@ fn waits(records: &Table) -> Vec<(u8, u8)> {
 
 /// Reads the text for a session back, beside the waits of the table; how many
 /// lines it has, 0 if refused.
-fn check(session: u8, table: &[u8], waits: &[(u8, u8)]) -> usize {
+fn check(session: u8, table: &[u8], ranks: &[u8], waits: &[(u8, u8)]) -> usize {
     let mut at = session;
     let comes_back = (0..waits.len()).any(|_| {
         at = waits[usize::from(at)].1;
@@ -316,7 +316,8 @@ fn check(session: u8, table: &[u8], waits: &[(u8, u8)]) -> usize {
     // Round once, from the most senior, and the session asked about is there.
     let mut members: Vec<u8> = lines.iter().map(|&(member, _, _)| member).collect();
     assert!(members.contains(&session));
-    assert_eq!(members.iter().min(), members.first());
+    let rank = |&&member: &&u8| ranks[usize::from(member) - 1];
+    assert_eq!(members.iter().min_by_key(rank), members.first());
     members.sort_unstable();
     members.dedup();
     assert_eq!(members.len(), lines.len());
@@ -325,23 +326,14 @@ fn check(session: u8, table: &[u8], waits: &[(u8, u8)]) -> usize {
     lines.len()
 }
 
-/// The numbers 1 to n, shuffled.
-fn shuffled(random: &mut Random, n: u64) -> Vec<u8> {
-    let mut numbers: Vec<u8> = (1..=n as u8).collect();
-    for k in 1..numbers.len() {
-        let other = random.between(0, k as u64) as usize;
-        numbers.swap(k, other);
-    }
-    numbers
-}
-
-/// Any holders and queues, and some sessions that wait in a cycle, unless one of
-/// them stands in the queue of a lower-numbered item that is held.
+/// Any ranks, holders and queues, and some sessions that wait in a cycle, unless
+/// one of them stands in the queue of a lower-numbered item that is held.
 fn drawn(random: &mut Random) -> Table {
     let most = if random.one_in(4) { 64 } else { 8 };
     let members = random.between(1, most);
     let (sessions, items) = (random.between(members, most), random.between(members, most));
-    let mut records = Table::fresh(sessions as usize, items as usize);
+    let ranks = Ranks::decode(&random.order(sessions)).unwrap();
+    let mut records = Table::fresh(ranks, items as usize);
     let waiting_one_in = match random.between(1, 3) {
         1 => random.between(2, 10),
         2 => random.between(11, 1000),
@@ -349,12 +341,12 @@ fn drawn(random: &mut Random) -> Table {
     };
     for item in &mut records.items {
         item.holder = random.between(0, sessions) as u8;
-        item.queue = shuffled(random, sessions);
+        item.queue = random.order(sessions);
         item.queue.retain(|_| random.one_in(waiting_one_in));
     }
-    let cycle = &shuffled(random, sessions)[..members as usize];
+    let cycle = &random.order(sessions)[..members as usize];
     let holders = cycle.iter().cycle().skip(1);
-    let items = shuffled(random, items);
+    let items = random.order(items);
     for ((&member, &holder), &item) in cycle.iter().zip(holders).zip(&items) {
         let record = records.item_mut(item);
         record.holder = holder;
@@ -375,8 +367,9 @@ fn read_back_from_drawn_tables() {
     for _ in 0..5_000 {
         let records = drawn(&mut random);
         let (table, waits) = (encoded(&records), waits(&records));
+        let ranks = records.ranks.bytes();
         for session in 1..=records.sessions.len() as u8 {
-            texts[check(session, &table, &waits)] += 1;
+            texts[check(session, &table, ranks, &waits)] += 1;
         }
     }
     println!("texts by their lines, 0 if refused: {texts:?}");

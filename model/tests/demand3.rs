@@ -1,5 +1,5 @@
-//! Demand 3 on two million random accepted steps and more that are refused,
-//! checked after every one of them.
+//! Demand 3 on two million random accepted steps with ranks that are not plain,
+//! and on more that are refused or have plain ones, checked after every step.
 
 use model::calls::Answer;
 use model::demand3::Demand3;
@@ -8,9 +8,9 @@ use model::layout::{mail_length, table_length};
 use model::mailbox::Mailbox;
 use model::scenario::{run, Counts, DELIVERIES_BOUND};
 use model::table::Table;
-use model::{Misreading, Refusal};
+use model::{Misreading, Ranks, Refusal};
 
-/// Accepted steps, in all runs.
+/// Accepted steps with ranks that are not plain, in all runs.
 const STEPS: u64 = 2_000_000;
 
 #[test]
@@ -21,7 +21,7 @@ fn holds_after_every_step() {
             Ok(counts) => total.add(counts),
             Err(reason) => panic!("seed {seed}: {reason}"),
         }
-        if total.steps - total.refused >= STEPS {
+        if total.by_rank >= STEPS {
             break;
         }
     }
@@ -30,6 +30,7 @@ fn holds_after_every_step() {
     assert!(total.demand3.closed > 20_000);
     assert!(total.demand3.rolled_back > 20_000);
     assert!(total.demand3.declared > 20_000);
+    assert!(total.demand3.declared_by_rank > 10_000);
     assert!(total.demand3.empty > 100_000);
     assert!(total.full > 10_000);
     assert!(total.stuck > 500);
@@ -43,7 +44,7 @@ fn holds_after_every_step() {
 /// Two sessions, each in the queue of the item that the other holds; session 3
 /// waits for session 1.
 fn with_cycle() -> Table {
-    let mut table = Table::fresh(3, 2);
+    let mut table = Table::fresh(Ranks::plain(3), 2);
     table.items[0] = Item {
         holder: 1,
         queue: vec![2, 3],
@@ -79,7 +80,7 @@ fn declaration(victim: u8, initiator: u8) -> Answer {
 
 #[test]
 fn the_check_can_fail() {
-    let fresh = Table::fresh(3, 2);
+    let fresh = Table::fresh(Ranks::plain(3), 2);
     let cycle = with_cycle();
     let reason = |answer, before, after| check(answer, before, after).unwrap_err();
 

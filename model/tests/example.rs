@@ -5,8 +5,8 @@ mod desk;
 use desk::{Desk, RELEASE, REQUEST, TO_ITEM, TO_SESSION};
 use model::item::Item;
 use model::layout::{
-    body_at, item_at, mail_length, route_at, session_at, table_length, write_u16, AWAITED,
-    BODY_SIZE, HELD, HOLDER, ITEM_SIZE, JUNIORS, MAIL_CAPACITY, MAIL_COUNT, MAIL_HEADER,
+    body_at, item_at, mail_length, ranks_at, route_at, session_at, table_length, write_u16,
+    AWAITED, BODY_SIZE, HELD, HOLDER, ITEM_SIZE, JUNIORS, MAIL_CAPACITY, MAIL_COUNT, MAIL_HEADER,
     MAX_CAPACITY, MAX_ITEMS, MAX_SESSIONS, QUEUE, QUEUE_LENGTH, ROUTE_SIZE, SESSION_SIZE, STAGE,
     TABLE_HEADER, TABLE_ITEMS, TABLE_SESSIONS,
 };
@@ -14,7 +14,7 @@ use model::mailbox::{kind, Body, Direction, Mailbox, Message, Route};
 use model::replay::MAX_STEPS;
 use model::session::Stage;
 use model::table::Table;
-use model::{replay, report, start, Config, Cycle, Refusal, ACCEPTED};
+use model::{replay, report, start, Config, Cycle, Ranks, Refusal, ACCEPTED};
 
 const PRINTED: &str = "\
 1 1 1 1 0 1 0 0 0
@@ -107,6 +107,7 @@ fn start_writes_all_bytes() {
     for session in 1..=3 {
         table[session_at(session)][STAGE] = Stage::Growing as u8;
     }
+    table[ranks_at(3, 2)].copy_from_slice(&[1, 2, 3]);
     assert_eq!(desk.table, table);
     let mut mail = vec![0; mail_length(5)];
     mail[MAIL_CAPACITY][0] = 5;
@@ -115,7 +116,7 @@ fn start_writes_all_bytes() {
     assert_eq!(largest.mail[..MAIL_HEADER], [0, 16, 0, 0]);
 }
 
-/// The figures of 01, to which the names of the layout must come.
+/// The figures of 01 and 02, to which the names of the layout must come.
 #[test]
 fn layout_in_figures() {
     assert_eq!([MAX_SESSIONS, MAX_ITEMS, MAX_CAPACITY], [64, 64, 4096]);
@@ -126,23 +127,27 @@ fn layout_in_figures() {
     assert_eq!(QUEUE, 2..66);
     assert_eq!([MAIL_CAPACITY, MAIL_COUNT], [0..2, 2..4]);
     assert_eq!([MAIL_HEADER, ROUTE_SIZE, BODY_SIZE], [4, 3, 3]);
-    assert_eq!(table_length(3, 5), 2 + 74 * 3 + 66 * 5);
+    assert_eq!(table_length(3, 5), 2 + 75 * 3 + 66 * 5);
     assert_eq!(session_at(3), 2 + 74 * 2..2 + 74 * 3);
-    assert_eq!(item_at(3, 5), 2 + 74 * 3 + 66 * 4..table_length(3, 5));
+    assert_eq!(item_at(3, 5), 2 + 74 * 3 + 66 * 4..2 + 74 * 3 + 66 * 5);
+    assert_eq!(ranks_at(3, 5), item_at(3, 5).end..table_length(3, 5));
     assert_eq!(mail_length(7), 4 + 6 * 7);
     assert_eq!(route_at(2), 4 + 3 * 2..4 + 3 * 3);
     assert_eq!(body_at(7, 6), 4 + 3 * 13..mail_length(7));
 }
 
+/// With plain ranks; what other lists give is in tests/ranks.rs.
 #[test]
-fn start_refuses_with_2_only() {
+fn start_refuses_sizes() {
     let fits = |s: u64, m: u64, c: u64, table: usize, mail: usize| {
         let mut desk = Desk {
             table: vec![0xA5; table],
             mail: vec![0xA5; mail],
         };
         let before = desk.clone();
-        let refusal = start(Config::new(s, m, c), &mut desk.table, &mut desk.mail);
+        let config = Config::new(s, m, c);
+        let ranks = Ranks::plain(s.min(100) as usize);
+        let refusal = start(config, ranks.bytes(), &mut desk.table, &mut desk.mail);
         assert!(refusal == ACCEPTED || refusal == Refusal::BadSize as u8);
         assert_eq!(desk == before, refusal != ACCEPTED);
         refusal == ACCEPTED

@@ -10,7 +10,7 @@ use model::scenario::Random;
 use model::session::{Session, Stage};
 use model::table::Table;
 use model::waits::{cycle_members, standing_cycles, waits_for};
-use model::{report, start, step, Config, Misreading, Refusal, Verb};
+use model::{report, start, step, Config, Misreading, Ranks, Refusal, Verb};
 
 fn item(holder: u8, queue: &[u8]) -> Item {
     Item {
@@ -38,7 +38,8 @@ fn item_does(
     sends: &[(u8, Body)],
     declared: Option<(u8, u8)>,
 ) {
-    let outcome = before.receive(from, body, Misreading::None);
+    let ranks = Ranks::plain(MAX_SESSIONS);
+    let outcome = before.receive(from, body, &ranks, Misreading::None);
     assert_eq!(outcome.item, after);
     assert_eq!(outcome.sends, sends);
     assert_eq!(outcome.declared, declared);
@@ -221,7 +222,8 @@ fn session_does(
 ) {
     let mut expected = before.clone();
     change(&mut expected);
-    let (after, sent) = before.receive(3, from, body, Misreading::None);
+    let ranks = Ranks::plain(MAX_SESSIONS);
+    let (after, sent) = before.receive(3, from, body, &ranks, Misreading::None);
     assert_eq!(after, expected);
     assert_eq!(sent, sends);
 }
@@ -335,7 +337,7 @@ fn session_withdrawn() {
 
 #[test]
 fn waits_are_read_from_queues_and_holders() {
-    let mut table = Table::fresh(5, 4);
+    let mut table = Table::fresh(Ranks::plain(5), 4);
     table.items[0] = item(0, &[1, 5]); // no holder: no wait
     table.items[1] = item(2, &[1]);
     table.items[2] = item(1, &[2, 3]);
@@ -361,7 +363,7 @@ fn waits_are_read_from_queues_and_holders() {
 #[test]
 fn closed_comes_from_joining_a_queue() {
     let build = |queue: &[u8], body: Body| {
-        let mut records = Table::fresh(2, 2);
+        let mut records = Table::fresh(Ranks::plain(2), 2);
         records.items[0] = item(1, queue);
         records.items[1] = item(2, &[1]);
         let mut table = vec![0; table_length(2, 2)];
@@ -402,7 +404,12 @@ fn decoding_keeps_every_byte() {
         let mut table = vec![0; table_length(sessions, items)];
         let mut mail = vec![0; mail_length(capacity)];
         let config = Config::new(sessions as u64, items as u64, capacity as u64);
-        start(config, &mut table, &mut mail);
+        start(
+            config,
+            &random.order(config.sessions),
+            &mut table,
+            &mut mail,
+        );
         // A few bytes behind the sizes and the capacity.
         for _ in 0..random.between(0, 4) {
             let place = random.between(TABLE_HEADER as u64, table.len() as u64 - 1) as usize;

@@ -15,7 +15,7 @@ use model::layout::{
     route_at, AWAITED, HELD, HOLDER, JUNIORS, MAX_TEXT, QUEUE, QUEUE_LENGTH, ROUTE_ITEM, STAGE,
 };
 use model::scenario::Random;
-use model::{Config, Drained, ACCEPTED};
+use model::{Config, Drained, Ranks, ACCEPTED};
 use std::env;
 use std::hint::black_box;
 use std::process::ExitCode;
@@ -66,9 +66,10 @@ enum Table {
     Cycle,
 }
 
-/// S = M = n. Session k holds item k. Session 1 is growing; session n waits
-/// for item 1, its request is still in the mail.
+/// S = M = n, with plain ranks. Session k holds item k. Session 1 is growing;
+/// session n waits for item 1, its request is still in the mail.
 fn fill_table(buffers: &mut Buffers, n: usize, contents: Table) {
+    buffers.set_ranks(Ranks::plain(n).bytes());
     for session in 1..=n {
         let record = buffers.session_mut(session);
         let waits_for = match contents {
@@ -186,13 +187,20 @@ fn long_queue_rows() -> Vec<Row> {
         record[AWAITED] = 1;
     }
     buffers.set_count(1);
-    [
-        Order::MostSeniorInFront,
-        Order::MostSeniorAtTheEnd,
-        Order::Mixed,
+    let row = |order| release(buffers.clone(), LONG_QUEUE, 0, order);
+    vec![
+        row(Order::MostSeniorInFront),
+        row(Order::MostSeniorAtTheEnd),
+        row(Order::Mixed),
+        any_ranks(row(Order::Mixed), "deliver release, any ranks"),
     ]
-    .map(|order| release(buffers.clone(), LONG_QUEUE, 0, order))
-    .into()
+}
+
+/// The same row with ranks drawn at random.
+fn any_ranks(mut row: Row, name: &'static str) -> Row {
+    let sessions = row.buffers.ranks().len() as u64;
+    row.buffers.set_ranks(&Random::new(7).order(sessions));
+    Row { name, ..row }
 }
 
 /// Deliveries from the largest mail, full, of which half goes in one direction.
@@ -250,6 +258,10 @@ fn text_rows(config: Config) -> Vec<Row> {
     vec![
         row("cycle text, cycle of 2", 1, Table::Full),
         row("cycle text, cycle of S", 1, Table::Cycle),
+        any_ranks(
+            row("", 1, Table::Cycle),
+            "cycle text, cycle of S, any ranks",
+        ),
         row("cycle text, no cycle", config.sessions, Table::Full),
     ]
 }
@@ -357,7 +369,7 @@ struct Libraries {
 }
 
 /// Nanoseconds of one call by library, model, floor, fast and an earlier library,
-/// if it has the call.
+/// if it has the call and takes the ranks.
 fn measure_call(row: &Row, libraries: &Libraries) -> Vec<f64> {
     fn by<'a>(subject: &'a dyn Calls, call: Call) -> Subject<'a> {
         Box::new(move |copy| {
@@ -373,11 +385,15 @@ fn measure_call(row: &Row, libraries: &Libraries) -> Vec<f64> {
         }),
         by(&Fast, call),
     ];
-    let has_call = |before: &&Library| match call {
-        Call::CycleText(_) => before.has_cycle_text(),
-        Call::Step(..) | Call::Report(_) => true,
+    let plain = Ranks::decode(row.buffers.ranks()).is_some_and(|ranks| ranks.is_plain());
+    let answers = |before: &&Library| {
+        let has_call = match call {
+            Call::CycleText(_) => before.has_cycle_text(),
+            Call::Step(..) | Call::Report(_) => true,
+        };
+        has_call && (plain || before.takes_ranks())
     };
-    let before = libraries.before.as_ref().filter(has_call);
+    let before = libraries.before.as_ref().filter(answers);
     subjects.extend(before.map(|before| by(before, call)));
     measure(&row.buffers, TURNS, &subjects)
 }
@@ -431,7 +447,9 @@ struct DrainRow {
 fn reached(lists: &[&[(u64, u64)]]) -> Buffers {
     let mut buffers = Buffers::filled(LARGEST, 0);
     let Buffers { table, mail } = &mut buffers;
-    assert_eq!(Model.start(LARGEST, table, mail), ACCEPTED);
+    let ranks = Ranks::plain(LARGEST.sessions as usize);
+    let refusal = Model.start(LARGEST, ranks.bytes(), table, mail);
+    assert_eq!(refusal, ACCEPTED);
     for requests in lists {
         Model.drain(u64::MAX, table, mail);
         for &(session, item) in *requests {
@@ -609,8 +627,10 @@ fn bench(libraries: &Libraries) {
     println!("Other direction: all are of the session and the item, in the other direction.");
     println!("A cycle text is asked for in a full table, or in a cycle of all sessions; on no");
     println!("cycle it is refused with 10.");
+    println!("Session k has rank k, but where any ranks are named: these are drawn at random.");
     if libraries.before.is_some() {
-        println!("before: an earlier library.");
+        println!("before: an earlier library; one that knows no ranks gets the table without");
+        println!("them, and rows with plain ranks alone.");
     }
 
     let mut missed = 0;

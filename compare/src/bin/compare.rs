@@ -2,30 +2,18 @@
 //! calls have met.
 
 use compare::calls::Library;
-use compare::cases::{every_place, every_value, round};
+use compare::cases::all;
 use compare::comparison::Comparison;
 use std::process::ExitCode;
 use std::time::Instant;
 
-/// Seeds 1 to this.
-const ROUNDS: u64 = 600;
-
 /// Calls that there must be.
 const CALLS_AT_LEAST: u64 = 1_000_000;
-
-fn compare(comparison: &mut Comparison) -> Result<(), String> {
-    for seed in 1..=ROUNDS {
-        let repeat = format!("(make fuzz SEED={seed} FUZZ_SECONDS=0 repeats it)");
-        round(comparison, seed).map_err(|reason| format!("round {seed}: {reason}\n{repeat}"))?;
-    }
-    every_value(comparison).map_err(|reason| format!("every value: {reason}"))?;
-    every_place(comparison).map_err(|reason| format!("every place: {reason}"))
-}
 
 fn main() -> ExitCode {
     let begin = Instant::now();
     let mut comparison = Comparison::new(Library::LINKED);
-    let outcome = compare(&mut comparison);
+    let outcome = all(&mut comparison);
     let coverage = &comparison.coverage;
     println!("{coverage}");
     let mut failures: Vec<String> = outcome.err().into_iter().collect();

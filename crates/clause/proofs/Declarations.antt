@@ -23,20 +23,21 @@ use Rattle.clause.proofs.Step.{by-step}
 use Rattle.clause.proofs.Follow.{anything, ran, step-is}
 
 -- what is guaranteed of the machine with the lock manager's seniority and next holder
-pub guaranteed : (conf : Config) → MachineStatement.Guarantees (machineOf conf) anything
-guaranteed conf = MachineTheorem.theorem (machineOf conf) (machine-laws conf) anything
+pub guaranteed : (conf : Config) (table : List ℕ) (l : List Entry) → Good conf table l → MachineStatement.Guarantees (machineOf conf) anything
+guaranteed conf table l g = MachineTheorem.theorem (machineOf conf) (machine-laws conf table l g) anything
 
 -- a declaration that is true in the state is true in the table that says it
 true-in-table : (conf : Config) (table : List ℕ) (l : List Entry) → Good conf table l → (v i : ℕ)
     → MachineStatement.TrueDeclaration (machineOf conf) (stateOf conf table l) v i → TrueDeclaration table v i
 true-in-table conf table l g v i d =
     let at : (n : ℕ) → Machine.reached (machineOf conf) (stateOf conf table l) n i ≡ Waits.reached (waitsFor table) n i = λ n. reached-of conf table l g n i in
+    let by-rank = g .ranks in
     record {
       known = (d .low, rw (g .sessions) (d .high));
       on-cycle = eqb-false (cycleLength table i) 0 (not-true (eqb (cycleLength table i) 0) (sym (on-cycle-of conf table l g i) ∙ d .on-cycle));
-      most-senior = λ n. rw (at n) at (d .most-senior n);
+      most-senior = λ n. rw (by-rank) (rw (at n) at (d .most-senior n));
       member = (d .victim-member .0, sym (at (d .victim-member .0)) ∙ d .victim-member .1);
-      most-junior = λ n. rw (at n) at (d .most-junior n);
+      most-junior = λ n. rw (by-rank) (rw (at n) at (d .most-junior n));
     }
 
 -- one call more at the end of a run
@@ -68,7 +69,7 @@ module _ (conf : Config) where
     pub declares-truly : r .answer .victim ≢ 0 → TrueDeclaration (r .table) (r .answer .victim) (r .answer .initiator)
     declares-truly n =
         let d : Machine.Declaration = record { victim = r .answer .victim; initiator = r .answer .initiator } in
-        let told = guaranteed conf .declarations-true cs (m .call) d (ap (λ (s : Machine.Stepped). s .event .declared) stepped-to ∙ m .declares n) in
+        let told = guaranteed conf (r .table) (m .entries) (m .good) .declarations-true cs (m .call) d (ap (λ (s : Machine.Stepped). s .event .declared) stepped-to ∙ m .declares n) in
         true-in-table conf (r .table) (m .entries) (m .good) (r .answer .victim) (r .answer .initiator) (rw (stepped-to) at told)
 
   pub declarations : (steps : List Step) (table mail : List ℕ) (l : List Entry) → Good conf table l → mail ≡ Mail.mailBytes (conf .capacity) l

@@ -90,10 +90,10 @@ module _ (conf : Config) where
   -- each makes the potential fall
   module _ (table : List ℕ) (l : List Entry) (k : Invariant R (stateOf conf table l)) (verb t : ℕ) (r : Stepped) (m : Moved conf table l verb t r) where
     kept : Invariant R (stateOf conf (r .table) (m .entries))
-    kept = rw (m .moves) (invariant-move R (machine-laws conf) (stateOf conf table l) k (m .call) (m .of-machine))
+    kept = rw (m .moves) (invariant-move R (machine-laws conf (r .table) (m .entries) (m .good)) (stateOf conf table l) k (m .call) (m .of-machine))
 
     falls : between Step.deliverToItem Step.deliverToSession verb ≡ true → potential R (stateOf conf (r .table) (m .entries)) < potential R (stateOf conf table l)
-    falls d = rw (m .moves) (omega (arith, BoundTheorem.theorem R (machine-laws conf) .falls (stateOf conf table l) k (m .call) (m .of-machine) (m .delivers d)))
+    falls d = rw (m .moves) (omega (arith, BoundTheorem.theorem R (machine-laws conf (r .table) (m .entries) (m .good)) .falls (stateOf conf table l) k (m .call) (m .of-machine) (m .delivers d)))
 
   few : (n : ℕ) (table : List ℕ) (l : List Entry) → Good conf table l → Invariant R (stateOf conf table l)
       → length (deliveries n (buffers table (Mail.mailBytes (conf .capacity) l))) ≤ potential R (stateOf conf table l)
@@ -117,7 +117,7 @@ module _ (conf : Config) where
     bound-of : (n : ℕ) → length (deliveries n at) ≤ deliveryBound (conf .sessions) (conf .items) (countOf (Mail.mailBytes (conf .capacity) l))
     bound-of n =
         let c : countOf (Mail.mailBytes (conf .capacity) l) ≡ length (readEntries l) = MailLaws.count-mail (conf .capacity) l (g .low) (g .high) (g .room) ∙ sym (length-readEntries l) in
-        rw (c) (omega (arith, few n table l g k, BoundTheorem.theorem R (machine-laws conf) .bounded (stateOf conf table l)))
+        rw (c) (omega (arith, few n table l g k, BoundTheorem.theorem R (machine-laws conf table l g) .bounded (stateOf conf table l)))
 
     drain-ends : (limit : ℕ) → DrainEnds conf at limit
     unfolding drain drainSteps
@@ -132,10 +132,10 @@ pub drains-end : DrainsEnd
 drains-end c table mail e calls limit =
     let b = after (opened c table mail) calls in
     let h = followed c table mail e calls in
-    let k : Invariant (machineOf c) (stateOf c (b .table) (h .entries)) = rw (← h .state) (invariant (machineOf c) (machine-laws c) anything (h .run)) in
+    let k : Invariant (machineOf c) (stateOf c (b .table) (h .entries)) = rw (← h .state) (invariant (machineOf c) (machine-laws c (b .table) (h .entries) (h .good)) anything (h .run)) in
     subst (λ (m : List ℕ). DrainEnds c (buffers (b .table) m) limit) (sym (h .mail)) (drain-ends c (b .table) (h .entries) (h .good) k limit)
 
 pub bound-small : BoundSmall
 bound-small c table mail e n fits =
-    let s = start-zero c table mail (start-accepted c table mail e) in
+    let s = start-zero c table mail (start-accepted c table mail e) .sizes in
     BoundTheorem.small-bound (c .sessions) (c .items) n (s .max-sessions) (s .max-items) (omega (arith, fits, s .max-room))

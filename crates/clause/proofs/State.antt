@@ -35,16 +35,13 @@ use Rattle.agreement.proofs.RulesLaws.{rules-laws}
 
 -- the seniority of a lock manager, its next holder, and the machine with both
 abbrev pub seniorOf : Config → ℕ → ℕ → Bool
-seniorOf conf = senior
+seniorOf conf = senior (conf .ranks)
 
 abbrev pub nextOf : Config → List ℕ → ℕ
 nextOf conf = nextHolder (seniorOf conf)
 
 abbrev pub machineOf : Config → Machine.Rules
 machineOf conf = rules (conf .sessions) (conf .items) (seniorOf conf) (nextOf conf)
-
-pub machine-laws : (conf : Config) → Machine.Laws (machineOf conf)
-machine-laws conf = rules-laws senior-order (conf .sessions) (conf .items)
 
 -- what a table and the entries of the mail say
 abbrev pub stateOf : Config → List ℕ → List Entry → Machine.State
@@ -55,6 +52,7 @@ pub record Good (conf : Config) (table : List ℕ) (l : List Entry) : Type 0 whe
   pub sized : Table.sized table ≡ true
   pub sessions : Table.sessionsOf table ≡ conf .sessions
   pub items : Table.itemsOf table ≡ conf .items
+  pub ranks : Table.ranks table ≡ conf .ranks
   pub formed : Table.wellFormed table ≡ true
   pub low : 1 ≤ conf .capacity
   pub high : (conf .capacity) ≤ Mail.maxCapacity
@@ -67,6 +65,14 @@ module _ (conf : Config) (table : List ℕ) (l : List Entry) (g : Good conf tabl
 
   pub few-items : (conf .items) ≤ 64
   few-items = omega (arith, TableLaws.sized-facts table (g .sized) .max-items, g .items)
+
+  -- seniority is that of the table's ranks, which are well-formed, so that the machine's theorem holds
+  pub senior-of : Table.senior table ≡ seniorOf conf
+  senior-of = ap senior (g .ranks)
+
+  pub machine-laws : Machine.Laws (machineOf conf)
+  machine-laws =
+      rules-laws (senior-order (conf .ranks) (rw (g .ranks) at (TableLaws.well-formed-ranks table (g .formed)))) (conf .sessions) (conf .items)
 
   -- the table and the bytes of the entries are well-formed
   pub buffers-formed : Formed table (Mail.mailBytes (conf .capacity) l)
@@ -135,6 +141,7 @@ module _ (conf : Config) (table : List ℕ) (l : List Entry) (g : Good conf tabl
           sized = TableLaws.sized-withSession table (g .sized) t (n .0) (n .1) s new-juniors;
           sessions = TableLaws.sessionsOf-withSession table (g .sized) t (n .0) (n .1) s new-juniors ∙ g .sessions;
           items = TableLaws.itemsOf-withSession table (g .sized) t (n .0) (n .1) s new-juniors ∙ g .items;
+          ranks = TableLaws.ranks-withSession table (g .sized) t (n .0) (n .1) s new-juniors ∙ g .ranks;
           formed = TableLaws.wellFormed-withSession table (g .sized) t (n .0) (n .1) s new-juniors (g .formed) (rw (g .sessions, g .items) new-session);
           low = g .low;
           high = g .high;
@@ -195,6 +202,7 @@ module _ (conf : Config) (table : List ℕ) (l : List Entry) (g : Good conf tabl
           sized = TableLaws.sized-withItem table (g .sized) x (n .0) (n .1) (packed i) queue-whole;
           sessions = TableLaws.sessionsOf-withItem table (g .sized) x (n .0) (n .1) (packed i) queue-whole ∙ g .sessions;
           items = TableLaws.itemsOf-withItem table (g .sized) x (n .0) (n .1) (packed i) queue-whole ∙ g .items;
+          ranks = TableLaws.ranks-withItem table (g .sized) x (n .0) (n .1) (packed i) queue-whole ∙ g .ranks;
           formed = TableLaws.wellFormed-withItem table (g .sized) x (n .0) (n .1) (packed i) queue-whole (g .formed) (rw (g .sessions) (packed-lock (conf .sessions) i few-sessions new-lock));
           low = g .low;
           high = g .high;

@@ -10,12 +10,13 @@ use lib.Dec.{eqb}
 use lib.ListN.{length}
 use borrow.Author.Tests.{eqb-true, eqb-false, ltb-false, not-false}
 use Rattle.lists.specs.Lists.{between}
-use Rattle.lists.proofs.Orders.{weak}
 use Rattle.lists.proofs.Tests.{and-intro, between-intro, by-test, or-neither}
 use Rattle.bitset.specs.Bitset.{has}
 use Rattle.session.specs.Stage
-use Rattle.session.proofs.Seniority.{senior-order}
+use Rattle.session.specs.Seniority.{senior}
+use Rattle.session.proofs.Seniority.{senior-weak}
 use Rattle.session.specs.Rules as Session
+use Rattle.item.specs.NextHolder.{nextHolder}
 use Rattle.item.proofs.NextHolder.{next-inside}
 use Rattle.mailbox.specs.Entry.{Entry}
 use Rattle.mailbox.specs.Layout as Mail
@@ -23,7 +24,7 @@ use Rattle.mailbox.proofs.Laws as MailLaws
 use Rattle.table.specs.Layout as Table
 use Rattle.waits.specs.OnTable.{locks}
 use Rattle.step.specs.Step as Step
-use Rattle.step.specs.Step.{Stepped, stepped, refusedAnswer, hindered, delivered, sessionActs, overfull, plan, acted, committed, stageForbids, maskForbids, nothingToDeliver}
+use Rattle.step.specs.Step.{Stepped, stepped, refusedAnswer, hindered, delivered, sessionActs, sessionPlan, itemPlan, overfull, plan, acted, committed, stageForbids, maskForbids, nothingToDeliver}
 use Rattle.lockmgr.specs.Calls.{Config, judged, step}
 use Rattle.refusal.proofs.Causes.{unmet}
 use Rattle.lockmgr.proofs.Judging.{judged-zero}
@@ -138,28 +139,41 @@ module _ (conf : Config) (table : List ℕ) (l : List Entry) (g : Good conf tabl
         refl
         (λ e. absurd (false≢true e)))
 
+    -- the item and the session are given the ranks of the table, which are those of the start
+    item-plan : plan Step.deliverToItem t x table l ≡ itemPlan x table (Agrees.othersOf t x l true) (Agrees.itemStep (seniorOf conf) (nextOf conf) (locks table) t x l)
+    unfolding plan delivered
+    item-plan =
+        ap (λ (r : List ℕ). itemPlan x table (Agrees.othersOf t x l true) (Agrees.itemStep (senior r) (nextHolder (senior r)) (locks table) t x l)) (g .ranks)
+
+    session-plan : plan Step.deliverToSession t x table l ≡ sessionPlan t table (Agrees.othersOf t x l false) (Agrees.sessionStep (seniorOf conf) (Table.session table) t x l)
+    unfolding plan delivered sessionActs
+    session-plan =
+        ap (λ (r : List ℕ). sessionPlan t table (Agrees.othersOf t x l false) (Agrees.sessionStep (senior r) (Table.session table) t x l)) (g .ranks)
+
     item-done : Done Step.deliverToItem
-    unfolding plan delivered Machine.ofMachine Bound.delivers
+    unfolding delivered Machine.ofMachine Bound.delivers
     item-done u =
         let found : eqb (Agrees.placeOf t x l true) (length l) ≡ false = rw (entries-are) at (u .route) in
-        item-moved conf table l g Step.deliverToItem t t-range x x-range (Machine.deliverToItem t x) in-range (Agrees.othersOf t x l true) (Agrees.itemStep (seniorOf conf) (nextOf conf) (locks table) t x l)
-        (rw (capacity-is, entries-are) at (u .room))
-        (λ f h. Agrees.item-move-kept (seniorOf conf) (nextOf conf) (conf .sessions) (conf .items) few-sessions few-items (Table.session table) (locks table) l formed t x t-range x-range found (next-inside (weak senior-order)) f h)
-        (λ f h. Agrees.item-move (seniorOf conf) (nextOf conf) (conf .sessions) (conf .items) few-sessions few-items (Table.session table) (locks table) l formed t x t-range x-range found (next-inside (weak senior-order)) f h)
-        (λ after. Events.item-move-event (seniorOf conf) (nextOf conf) (conf .sessions) (conf .items) few-sessions few-items (Table.session table) (locks table) l formed t x t-range x-range found (next-inside (weak senior-order)) after)
-        (taken true found)
+        rw (item-plan)
+        (item-moved conf table l g Step.deliverToItem t t-range x x-range (Machine.deliverToItem t x) in-range (Agrees.othersOf t x l true) (Agrees.itemStep (seniorOf conf) (nextOf conf) (locks table) t x l)
+        (rw (capacity-is, entries-are, item-plan) at (u .room))
+        (λ f h. Agrees.item-move-kept (seniorOf conf) (nextOf conf) (conf .sessions) (conf .items) few-sessions few-items (Table.session table) (locks table) l formed t x t-range x-range found (next-inside (senior-weak (conf .ranks))) f h)
+        (λ f h. Agrees.item-move (seniorOf conf) (nextOf conf) (conf .sessions) (conf .items) few-sessions few-items (Table.session table) (locks table) l formed t x t-range x-range found (next-inside (senior-weak (conf .ranks))) f h)
+        (λ after. Events.item-move-event (seniorOf conf) (nextOf conf) (conf .sessions) (conf .items) few-sessions few-items (Table.session table) (locks table) l formed t x t-range x-range found (next-inside (senior-weak (conf .ranks))) after)
+        (taken true found))
 
     session-done : Done Step.deliverToSession
-    unfolding plan delivered sessionActs Machine.ofMachine Bound.delivers
+    unfolding delivered Machine.ofMachine Bound.delivers
     session-done u =
         let found : eqb (Agrees.placeOf t x l false) (length l) ≡ false = rw (entries-are) at (u .route) in
-        session-moved conf table l g Step.deliverToSession t t-range (Machine.deliverToSession t x) in-range (Agrees.othersOf t x l false) (Agrees.sessionStep (seniorOf conf) (Table.session table) t x l)
-        (rw (capacity-is, entries-are) at (u .room))
+        rw (session-plan)
+        (session-moved conf table l g Step.deliverToSession t t-range (Machine.deliverToSession t x) in-range (Agrees.othersOf t x l false) (Agrees.sessionStep (seniorOf conf) (Table.session table) t x l)
+        (rw (capacity-is, entries-are, session-plan) at (u .room))
         (λ f h. Agrees.session-move-kept (seniorOf conf) (nextOf conf) (conf .sessions) (conf .items) few-sessions few-items (Table.session table) (locks table) l formed t x t-range x-range found f h)
         (λ f h. Agrees.session-move (seniorOf conf) (nextOf conf) (conf .sessions) (conf .items) few-sessions few-items (Table.session table) (locks table) l formed t x t-range x-range found f h)
         (λ f h v. Events.session-move-event (seniorOf conf) (nextOf conf) (conf .sessions) (conf .items) few-sessions few-items (Table.session table) (locks table) l formed t x t-range x-range f _ v)
         refl
-        (λ _. taken false found)
+        (λ _. taken false found))
 
   -- whatever holds of a refused step, and of one that is a move of the machine, holds of a step
   pub by-step : (verb t x : ℕ) (P : Stepped → Type 0) → ((n : ℕ) → n ≢ 0 → P (stepped (refusedAnswer n) table mail))

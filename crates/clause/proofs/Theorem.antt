@@ -41,32 +41,34 @@ module _ (c : Config) (table mail : List ℕ) (e : Calls.start c table mail .ref
   start-accepted = by-test (λ (r : Calls.Started). r .refusal ≡ 0 → Calls.startRefusal c table mail ≡ 0) (eqb (Calls.startRefusal c table mail) 0) (λ f _. eqb-true (Calls.startRefusal c table mail) 0 f) (λ _ g. g) e
 
   -- what it leaves
-  pub start-leaves : opened c table mail ≡ buffers (Table.started (c .sessions) (c .items)) (Mail.mailBytes (c .capacity) [])
+  pub start-leaves : opened c table mail ≡ buffers (Table.started (c .sessions) (c .items) (c .ranks)) (Mail.mailBytes (c .capacity) [])
   unfolding opened Calls.start
   start-leaves = rw (start-accepted) refl
 
 module _ (conf : Config) where
   abbrev begun : List ℕ
-  begun = Table.started (conf .sessions) (conf .items)
+  begun = Table.started (conf .sessions) (conf .items) (conf .ranks)
 
-  pub begun-good : {table mail : List ℕ} → Startable (conf) table mail → Good conf begun []
-  begun-good f = record {
-    sized = StartLaws.sized-started (conf .sessions) (conf .items) (f .some-sessions) (f .max-sessions) (f .some-items) (f .max-items);
-    sessions = StartLaws.sessionsOf-started (conf .sessions) (conf .items);
-    items = StartLaws.itemsOf-started (conf .sessions) (conf .items);
-    formed = StartLaws.wellFormed-started (conf .sessions) (conf .items);
-    low = f .some-room;
-    high = f .max-room;
-    room = omega arith;
-    entries = all-none (Entry.wellFormed (conf .sessions) (conf .items));
-  }
+  pub begun-good : {table mail : List ℕ} → Startable conf table mail → Good conf begun []
+  begun-good f =
+      let z = f .sizes in record {
+        sized = StartLaws.sized-started (conf .sessions) (conf .items) (conf .ranks) (z .ranks-whole) (z .some-sessions) (z .max-sessions) (z .some-items) (z .max-items);
+        sessions = StartLaws.sessionsOf-started (conf .sessions) (conf .items) (conf .ranks);
+        items = StartLaws.itemsOf-started (conf .sessions) (conf .items) (conf .ranks);
+        ranks = StartLaws.ranks-started (conf .sessions) (conf .items) (conf .ranks) (z .ranks-whole);
+        formed = StartLaws.wellFormed-started (conf .sessions) (conf .items) (conf .ranks) (z .ranks-whole) (f .ranks);
+        low = z .some-room;
+        high = z .max-room;
+        room = omega arith;
+        entries = all-none (Entry.wellFormed (conf .sessions) (conf .items));
+      }
 
-  begun-state : stateOf conf begun [] ≡ Machine.start (machineOf conf)
+  begun-state : length (conf .ranks) ≡ conf .sessions → stateOf conf begun [] ≡ Machine.start (machineOf conf)
   unfolding locks
-  begun-state =
+  begun-state w =
       start-agrees (conf .sessions) (conf .items) (Table.session begun) (locks begun)
-      (λ t r. StartLaws.session-started (conf .sessions) (conf .items) t (within 1 (conf .sessions) t r .0) (within 1 (conf .sessions) t r .1))
-      (λ x r. ap ItemRecord.unpacked (StartLaws.item-started (conf .sessions) (conf .items) x (within 1 (conf .items) x r .0) (within 1 (conf .items) x r .1)))
+      (λ t r. StartLaws.session-started (conf .sessions) (conf .items) (conf .ranks) w t (within 1 (conf .sessions) t r .0) (within 1 (conf .sessions) t r .1))
+      (λ x r. ap ItemRecord.unpacked (StartLaws.item-started (conf .sessions) (conf .items) (conf .ranks) w x (within 1 (conf .items) x r .0) (within 1 (conf .items) x r .1)))
       (seniorOf conf) (nextOf conf)
 
 no-entries : (l : List Entry) → length l ≡ 0 → l ≡ []
@@ -88,6 +90,7 @@ module _ (conf : Config) (b : Buffers) (calls : List Call) (h : Followed conf (M
         formed = rw (h .mail) (State.buffers-formed conf table-left (h .entries) g);
         sessions = g .sessions;
         items = g .items;
+        ranks = g .ranks;
         capacity = rw (h .mail) (MailLaws.capacity-mail (conf .capacity) (h .entries) (g .low) (g .high) (g .room));
       }
 
@@ -102,7 +105,7 @@ module _ (conf : Config) (b : Buffers) (calls : List Call) (h : Followed conf (M
     off-cycle t lo hi =
         sym (on-cycle-of conf table-left (h .entries) (h .good) t)
         ∙ ap (λ (s : Machine.State). Machine.onCycle (machineOf conf) s t) (sym (h .state))
-        ∙ guaranteed conf .settled-free (h .run) no-mail t lo hi
+        ∙ guaranteed conf table-left (h .entries) (h .good) .settled-free (h .run) no-mail t lo hi
 
     no-cycle : (t : ℕ) → 1 ≤ t → t ≤ (conf .sessions) → cycleLength table-left t ≡ 0
     no-cycle t lo hi = eqb-true (cycleLength table-left t) 0 (not-false (eqb (cycleLength table-left t) 0) (off-cycle t lo hi))
@@ -110,8 +113,8 @@ module _ (conf : Config) (b : Buffers) (calls : List Call) (h : Followed conf (M
     settled : Settled (conf .sessions) b calls
     unfolding Calls.report Waits.onCycle
     settled = record {
-      counts = omega (arith, h .closes, h .rolls, guaranteed conf .counts-agree (h .run) no-mail);
-      none-stands = cycles-none (waitsFor table-left) (Table.sessionsOf table-left) (seniorOf conf) (λ t lo hi. off-cycle t lo (rw (h .good .sessions) at hi));
+      counts = omega (arith, h .closes, h .rolls, guaranteed conf table-left (h .entries) (h .good) .counts-agree (h .run) no-mail);
+      none-stands = cycles-none (waitsFor table-left) (Table.sessionsOf table-left) (Table.senior table-left) (λ t lo hi. off-cycle t lo (rw (h .good .sessions) at hi));
       reports = λ t lo hi. let high : t ≤ Table.sessionsOf table-left = rw (h .good .sessions) hi in
           rw (report-none t table-left (h .good .sized) (h .good .formed) lo high, no-cycle t lo hi) refl;
     }
@@ -121,17 +124,23 @@ module _ (c : Config) (table mail : List ℕ) (e : Calls.start c table mail .ref
   abbrev b : Buffers
   b = opened c table mail
 
+  known : Startable c table mail
+  known = start-zero c table mail (start-accepted c table mail e)
+
   good : Good c (begun c) []
-  good = begun-good c (start-zero c table mail (start-accepted c table mail e))
+  good = begun-good c known
+
+  state : stateOf c (begun c) [] ≡ Machine.start (machineOf c)
+  state = begun-state c (known .sizes .ranks-whole)
 
   pub followed : Followed c (Machine.start (machineOf c)) b (singles b calls) 0 0
-  followed = rw (start-leaves c table mail e, ← begun-state c) (follow c _ (begun c) (Mail.mailBytes (c .capacity) []) [] good refl)
+  followed = rw (start-leaves c table mail e, ← state) (follow c _ (begun c) (Mail.mailBytes (c .capacity) []) [] good refl)
 
   holds : Holds c b calls
   unfolding Machine.run
   holds = record {
     settled = settled c b calls followed;
-    declarations = rw (start-leaves c table mail e) (declarations c _ (begun c) (Mail.mailBytes (c .capacity) []) [] good refl [] (sym (begun-state c)));
+    declarations = rw (start-leaves c table mail e) (declarations c _ (begun c) (Mail.mailBytes (c .capacity) []) [] good refl [] (sym state));
     formed = well-formed c b calls followed;
   }
 

@@ -5,7 +5,6 @@ use mathlib.Core.Bool.{Bool, false, _&&_}
 use mathlib.Core.List.{List, [], _∷_}
 use mathlib.Core.Logic.{_≢_}
 use Rattle.lists.specs.Lists.{between}
-use Rattle.session.specs.Seniority.{senior}
 use Rattle.mailbox.specs.Layout as Mail
 use Rattle.table.specs.Layout as Table
 use Rattle.waits.specs.Waits
@@ -38,13 +37,13 @@ rolledBack (d ∷ l) = one (rollback d) + rolledBack l
 abbrev pub reached : List ℕ → ℕ → ℕ → ℕ
 reached table n t = Waits.reached (waitsFor table) n t
 
--- initiator i lies on a cycle of the table, no member of it is senior to i, v is a member, and no member is junior to v
+-- initiator i lies on a cycle of the table, no member of it is senior to i, v is a member, and no member is junior to v, all by rank
 pub record TrueDeclaration (table : List ℕ) (v i : ℕ) : Type 0 where
   pub known : (1 ≤ i) × (i ≤ Table.sessionsOf table)
   pub on-cycle : cycleLength table i ≢ 0
-  pub most-senior : (n : ℕ) → senior (reached table n i) i ≡ false
+  pub most-senior : (n : ℕ) → Table.senior table (reached table n i) i ≡ false
   pub member : (n : ℕ) × (reached table n i ≡ v)
-  pub most-junior : (n : ℕ) → senior v (reached table n i) ≡ false
+  pub most-junior : (n : ℕ) → Table.senior table v (reached table n i) ≡ false
 
 -- if a step answers a victim and an initiator other than 0, the declaration is true in the table which it leaves
 abbrev pub DeclaresTruly : Done → Type 0
@@ -61,12 +60,13 @@ pub record Settled (S : ℕ) (b : Buffers) (calls : List Call) : Type 0 where
   pub none-stands : cycles (after b calls .table) ≡ 0
   pub reports : (t : ℕ) → 1 ≤ t → t ≤ S → Calls.report t (after b calls .table) ≡ record { refusal = 0; length = 0 }
 
--- both buffers are well-formed, so that 3 and 4 are never answered, and of the sizes that start was given
+-- both buffers are well-formed, so that 3 and 4 are never answered, and of the sizes and ranks that start was given
 pub record WellFormed (c : Config) (b : Buffers) : Type 0 where
   pub formed : Formed (b .table) (b .mail)
   pub sessions : Table.sessionsOf (b .table) ≡ c .sessions
   pub items : Table.itemsOf (b .table) ≡ c .items
   pub capacity : Mail.capacityOf (b .mail) ≡ c .capacity
+  pub ranks : Table.ranks (b .table) ≡ c .ranks
 
 pub record Holds (c : Config) (b : Buffers) (calls : List Call) : Type 0 where
   pub settled : Mail.countOf (after b calls .mail) ≡ 0 → Settled (c .sessions) b calls

@@ -12,9 +12,8 @@ use Rattle.lists.proofs.Tests.{by-answer}
 use Rattle.lists.proofs.Searches.{sum-different}
 use Rattle.text.specs.Text.{digits, decimal}
 use Rattle.message.specs.Limits.{maxSessions, maxItems, IsSession, IsItem}
-use Rattle.session.proofs.Seniority.{senior-order}
 use Rattle.table.specs.Layout.{Formed, sessionsOf, itemsOf}
-use Rattle.table.proofs.Laws.{sized-facts}
+use Rattle.table.proofs.Laws.{sized-facts, senior-total}
 use Rattle.waits.specs.Waits
 use Rattle.waits.specs.Waits.{reached, cycleLength, onCycle}
 use Rattle.waits.specs.OnTable.{locks, waitsAt, waitsFor}
@@ -87,7 +86,7 @@ module _ (table : List ℕ) (f : Formed table) (t : ℕ) (low : 1 ≤ t) where
   fits-on on =
       let g = graph table f in
       let b = sized-facts table (f .sized) in
-      let r = leader-member g senior-order t low on in
+      let r = leader-member g (senior-total table (f .formed)) t low on in
       rw (r .2, ← member-length g t low on (r .0))
       (once-round g (reached (waitsFor table) (r .0) t) (member-positive g t low on (r .0)) (member-on-cycle g t low on (r .0)) (b .max-sessions)
       (waitsAt table) (λ x. cond (eqb x 0) 0 (locks table x .holder)) (λ s. omega (arith, b .max-items, waitsAt-le (itemsOf table) (locks table) s)) (λ s. refl) refl)

@@ -9,13 +9,13 @@ use borrow.Author.Tests.{ne-eqb, lt-ltb, le-ltb}
 use lib.ListN.{length, getD}
 use lib.Seq.{take-all}
 use Rattle.lists.specs.Lists.{tabulate}
-use Rattle.lists.proofs.Orders.{weak}
+use Rattle.lists.proofs.Orders.{StrictWeak}
 use Rattle.message.specs.Limits.{maxSessions}
-use Rattle.session.specs.Seniority.{senior}
-use Rattle.session.proofs.Seniority.{senior-order}
+use Rattle.session.proofs.Seniority.{senior-weak}
 use Rattle.item.proofs.MostSenior.{Leads, leads-one, leads-new, leads-still, leads-place}
+use Rattle.table.specs.Layout as Table
 use Rattle.table.specs.Layout.{sessionsOf}
-use Rattle.table.proofs.Laws.{sized-facts}
+use Rattle.table.proofs.Laws.{sized-facts, senior-total}
 use Rattle.waits.specs.declared.Wait.{Wait}
 use Rattle.waits.specs.Waits.{reached, onCycle}
 use Rattle.waits.specs.Cycle as Cycle
@@ -72,9 +72,12 @@ module _ (t : List ℕ) (me : ℕ) where
   pub record Best (i s : ℕ) : Type 0 where
     pub place : ℕ
     pub there : s ≡ getD all place 0
-    pub leads : Leads senior all i place
+    pub leads : Leads (Table.senior t) all i place
 
 module _ {t at : List ℕ} {me n : ℕ} (o : OnCycle t at me n) where
+  weak-order : StrictWeak (Table.senior t)
+  weak-order = senior-weak (Table.ranks t)
+
   lies-on-cycle : onCycle (waitsFor t) (sessionsOf t) me ≡ true
   lies-on-cycle = positive-on-cycle (waitsFor t) (sessionsOf t) me (omega (arith, o .long, o .some))
 
@@ -93,31 +96,31 @@ module _ {t at : List ℕ} {me n : ℕ} (o : OnCycle t at me n) where
   all-ahead k h = around-at (waitsFor t) (sessionsOf t) me k (omega (arith, o .long))
 
   pub best-one : Best t me 1 me
-  best-one = record { place = 0; there = none-ahead t me ∙ sym (all-ahead 0 (o .some)); leads = leads-one (weak senior-order) (all t me) }
+  best-one = record { place = 0; there = none-ahead t me ∙ sym (all-ahead 0 (o .some)); leads = leads-one weak-order (all t me) }
 
   module _ {i s r : ℕ} (b : Best t me i s) (h : i < n) (e : r ≡ ahead t me i) where
     there-too : r ≡ getD (all t me) i 0
     there-too = e ∙ sym (all-ahead i h)
 
-    pub best-new : senior r s ≡ true → Best t me (i + 1) r
+    pub best-new : Table.senior t r s ≡ true → Best t me (i + 1) r
     best-new q =
-        rw (add-one) (record { place = i; there = there-too; leads = leads-new (weak senior-order) (all t me) i (b .place) (b .leads) (rw (there-too, b .there) at q) })
+        rw (add-one) (record { place = i; there = there-too; leads = leads-new weak-order (all t me) i (b .place) (b .leads) (rw (there-too, b .there) at q) })
 
-    pub best-still : senior r s ≡ false → Best t me (i + 1) s
+    pub best-still : Table.senior t r s ≡ false → Best t me (i + 1) s
     best-still q =
-        rw (add-one) (record { place = b .place; there = b .there; leads = leads-still (weak senior-order) (all t me) i (b .place) (b .leads) (rw (there-too, b .there) at q) })
+        rw (add-one) (record { place = b .place; there = b .there; leads = leads-still weak-order (all t me) i (b .place) (b .leads) (rw (there-too, b .there) at q) })
 
   pub best-leader : {s : ℕ} → Best t me n s → s ≡ leader t me
   unfolding Cycle.leader
   best-leader b =
-      let place = leads-place (weak senior-order) (all t me) n (b .place) (omega (arith, all-length)) (b .leads) in
+      let place = leads-place weak-order (all t me) n (b .place) (omega (arith, all-length)) (b .leads) in
       b .there ∙ ap (λ (k : ℕ). getD (all t me) k 0) (sym (rw (take-all n (all t me) (omega (arith, all-length))) at place))
 
   -- the most senior member lies on the same cycle
   pub from-leader : OnCycle t at (leader t me) n
   from-leader =
       let g = graph t (o .places .formed) in
-      let r = leader-member g senior-order me (o .low) lies-on-cycle in
+      let r = leader-member g (senior-total t (o .places .formed .formed)) me (o .low) lies-on-cycle in
       rw (r .2) (record {
         places = o .places;
         low = member-positive g me (o .low) lies-on-cycle (r .0);

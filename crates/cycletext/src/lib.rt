@@ -61,13 +61,14 @@ fn leader(t: &[u8], at: &[u8; MAX_SESSIONS], me: u8, n: u8) -> u8
     requires { ⌜ OnCycle (now t) (now at) me n ⌝ }
     ensures { λ r. ⌜ r ≡ leader (now (t .entry)) me ⌝ }
 {
+    let ranks = table::ranks(t);
     let mut first = me;
     let mut s = me;
     let mut i: u8 = 1;
     while i < n {
         let w = waits::next(t, at, s);
         s = w.holder;
-        if Session::senior(s, first) {
+        if Session::senior(ranks, s, first) {
             first = s;
         }
         i += 1;

@@ -1,4 +1,4 @@
--- Laws of the tests that the check of a record makes: a row of bytes with its limits, and the sessions of a queue.
+-- Laws of the tests that the checks make: a row of bytes with its limits, the sessions of a queue, and ranks.
 use mathlib.Core.Path.{_≡_, refl, sym, ap, _∙_}
 use mathlib.Core.Bool.{Bool, true, false, cond, not, _&&_, _||_, and-true, and-false, and-assoc, and-comm, or-false, or-assoc}
 use mathlib.Core.List.{List, [], _∷_, _++_, append-nil}
@@ -8,17 +8,18 @@ use borrow.Author.Tests.{ltb-true, ltb-false, leb-true, le-leb}
 use lib.Dec.{eqb, leb, ltb, eqb·suc-zero, leb·suc-zero, leb·suc-suc}
 use lib.ListN.{length, getD, take, drop, replicate, length-append, length-replicate, getD-replicate, List·getD-append, drop-of-length-le}
 use lib.Pow.{suc-ones}
-use lib.Seq.{take-take, take-nil, drop-nil, take-all, getD-take, length-take-le, take-append-le, drop-append-le, getD-append-add, append-snoc}
+use lib.Seq.{take-take, take-nil, drop-nil, take-all, getD-take, length-take-le, take-append-le, take-length, drop-append-le, getD-append-add, append-snoc}
 use Rattle.buffer.specs.Bytes.{slice}
 use Rattle.lists.specs.Lists.{between, member, distinct, all}
-use Rattle.lists.proofs.Tests.{and-both, eqb-sym}
-use Rattle.lists.proofs.Laws.{all-append, all-getD, all-both, distinct-last, member-append, member-last}
+use Rattle.lists.proofs.Tests.{and-both, eqb-sym, fails}
+use Rattle.lists.proofs.Laws.{all-append, all-getD, all-intro, all-member, all-both, distinct-last, member-append, member-last}
 use Rattle.bitset.specs.Bitset.{has, single, full, insert}
 use Rattle.bitset.proofs.MemberLaws.{has-single, has-insert}
 use Rattle.buffer.proofs.Laws.{slice-split, slice-more, getD-slice, length-slice}
 use Rattle.message.specs.Limits.{maxSessions}
 use Rattle.session.specs.declared.Session.{Session}
 use Rattle.session.specs.Record as SessionRecord
+use Rattle.session.specs.Seniority
 use Rattle.session.specs.Stage
 use Rattle.item.specs.Record as ItemRecord
 
@@ -129,6 +130,35 @@ line-stop t at n h i fits l e =
     let split : slice t at n ≡ slice t at (i + 1) ++ slice t (at + (i + 1)) (n - (i + 1)) =
     rw (whole) at (slice-split t at (i + 1) (n - (i + 1))) in
     rw (split) (line-front h (slice t at (i + 1)) (slice t (at + (i + 1)) (n - (i + 1))) (rw (slice-more t at i (omega arith)) e))
+
+-- ---- ranks: none is above n, and they pass the test of a queue without a holder
+ranks-step : (a h d m : Bool) → (a ≡ true → m ≡ false) → (a && h) && d ≡ h && (a && d && not m)
+ranks-step false h d m f = sym (and-false h)
+ranks-step true h d m f = rw (f refl, and-true d) refl
+
+pub ranks-form : (l : List ℕ) → Seniority.wellFormed l ≡ all (λ v. leb v (length l)) l && inLine 0 l
+unfolding Seniority.wellFormed
+ranks-form l =
+    rw (all-both (leb 1) (λ v. leb v (length l)) l)
+    (ranks-step (all (leb 1) l) (all (λ v. leb v (length l)) l) (distinct l) (member 0 l) (λ e. all-member (leb 1) 0 l e refl))
+
+-- one above n, or one that stands there again or is zero
+pub ranks-above : (l : List ℕ) (i : ℕ) → i < length l → length l < getD l i 0 → Seniority.wellFormed l ≡ false
+ranks-above l i h g =
+    let some : all (λ v. leb v (length l)) l ≡ false = fails _ (λ e. absurd (omega (arith, leb-true (getD l i 0) (length l) (all-getD (λ v. leb v (length l)) l i 0 e h)))) in
+    ranks-form l ∙ rw (some) refl
+
+pub ranks-again : (l : List ℕ) (i : ℕ) → i < length l → inLine 0 (slice l 0 i ++ (getD l i 0 ∷ [])) ≡ false → Seniority.wellFormed l ≡ false
+ranks-again l i h e =
+    let whole : slice l 0 (length l) ≡ l = take-length l in
+    let at : 0 + i ≡ i = omega arith in
+    ranks-form l ∙ rw (rw (whole) at (line-stop l 0 (length l) 0 i (omega arith) h (rw (at) e))) (and-false (all (λ v. leb v (length l)) l))
+
+-- none is
+pub ranks-all : (l : List ℕ) → ((k : ℕ) → k < length l → getD l k 0 ≤ length l) → inLine 0 (slice l 0 (length l)) ≡ true → Seniority.wellFormed l ≡ true
+ranks-all l f e =
+    let whole : slice l 0 (length l) ≡ l = take-length l in
+    ranks-form l ∙ rw (all-intro (λ v. leb v (length l)) l 0 (λ k h. le-leb (getD l k 0) (length l) (f k h)), rw (whole) at e) refl
 
 choice : (w x y : Bool) → w && x || not w && y ≡ cond w x y
 choice true x y = or-false x

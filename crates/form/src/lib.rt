@@ -1,4 +1,4 @@
-// Whether the bytes of a record are well-formed.
+// Whether the bytes of a record are well-formed, and a list of ranks.
 use item::Item;
 use message::MAX_SESSIONS;
 use session::Session;
@@ -12,6 +12,7 @@ ghost use Rattle.buffer.specs.Bytes.{slice};
 ghost use Rattle.lists.specs.Lists.{all, distinct, member};
 ghost use Rattle.message.specs.Limits.{maxSessions};
 ghost use Rattle.session.specs.Record as SessionRecord;
+ghost use Rattle.session.specs.Seniority;
 ghost use Rattle.item.specs.Record as ItemRecord;
 ghost use Rattle.form.specs.Rows.{limitsOf};
 
@@ -80,6 +81,31 @@ fn queue(t: &[u8], at: usize, n: usize, h: u8) -> bool
             return false;
         }
         seen = bitset::insert(seen, v);
+        i += 1;
+    }
+    true
+}
+
+// Whether a list of ranks is well-formed: one pass, with a mask of those used already.
+pub fn ranks(l: &[u8]) -> bool
+    requires { ⌜ length (now l) ≤ maxSessions ⌝ }
+    ensures { λ r. ⌜ r ≡ Seniority.wellFormed (now (l .entry)) ⌝ }
+{
+    let n = l.len();
+    let mut used: u64 = 0;
+    let mut i: usize = 0;
+    while i < n {
+        let rank = l[i];
+        if rank == 0 {
+            return false;
+        }
+        if n < rank as usize {
+            return false;
+        }
+        if bitset::contains(used, rank) {
+            return false;
+        }
+        used = bitset::insert(used, rank);
         i += 1;
     }
     true

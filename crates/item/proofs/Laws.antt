@@ -24,8 +24,9 @@ use Rattle.message.specs.Outbox.{room, message, plain, outboxOf}
 use Rattle.message.proofs.Laws.{push-cells}
 use Rattle.item.specs.declared.Item.{Item}
 use Rattle.item.specs.declared.Event.{Event}
+use Rattle.item.specs.declared.Event.the-variants.{Nothing}
 use Rattle.item.specs.declared.ItemStep.{ItemStep}
-use Rattle.item.specs.Record.{size, Lock, lock, unpacked, packed, itemAt, itemBytes, putItem, wellFormed, Packed}
+use Rattle.item.specs.Record.{size, Lock, lock, free, unpacked, packed, itemAt, itemBytes, putItem, wellFormed, Packed}
 use Rattle.item.specs.Rules.{After, after, stepOf, dropped, resends, without, probes, granted, queued, onRequest, onRelease, onProbe, onClean, onRebroadcast, onWithdraw, handedOver, vacated, received}
 
 module _ (i : Item) (q : length (i .queue) ≡ 64) where
@@ -232,6 +233,11 @@ pub probes-fit : (senior : ℕ → ℕ → Bool) (n : ℕ) (q : List ℕ) (l : L
     → o ≡ outboxOf (l ++ probes senior n q) → o .n ≤ 65
 probes-fit senior n q l o f g e =
     omega (arith, ap (λ (b : Outbox). b .n) e, length-append l (probes senior n q), probes-length senior n q)
+
+pub vacated-none : (senior : ℕ → ℕ → Bool) (next : List ℕ → ℕ) (q : List ℕ) → length q ≡ 0 → vacated senior next q ≡ after free [] Nothing
+unfolding vacated
+vacated-none senior next [] h = refl
+vacated-none senior next (r ∷ q) h = absurd (omega arith)
 
 pub vacated-more : (senior : ℕ → ℕ → Bool) (next : List ℕ → ℕ) (q : List ℕ) → 0 < length q → vacated senior next q ≡ handedOver senior (getD q (next q) 0) (removeAt (next q) q)
 unfolding vacated

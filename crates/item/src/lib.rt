@@ -13,9 +13,10 @@ ghost use Rattle.message.specs.declared.Message.{Message};
 ghost use Rattle.message.specs.Limits.{maxSessions};
 ghost use Rattle.message.specs.Outbox.{outboxOf};
 ghost use Rattle.session.specs.Seniority.{senior};
-ghost use Rattle.item.specs.Record.{size, Packed, Joinable, unpacked, packed, lock, itemAt, putItem};
+ghost use Rattle.item.specs.Record.{size, Packed, Joinable, unpacked, packed, lock, free, itemAt, putItem};
+ghost use Rattle.item.specs.declared.Event.the-variants.{Nothing};
 ghost use Rattle.item.specs.NextHolder.{nextHolder};
-ghost use Rattle.item.specs.Rules.{stepOf, dropped, resends, probes, onWithdraw, granted, queued, onRequest, onProbe, onClean, onRebroadcast, handedOver, vacated, onRelease, received};
+ghost use Rattle.item.specs.Rules.{after, stepOf, dropped, resends, probes, onWithdraw, granted, queued, onRequest, onProbe, onClean, onRebroadcast, handedOver, onRelease, received};
 
 // An item record by value: the first `waiting` elements of `queue` wait, in order, and zeros follow.
 pub struct Item {
@@ -100,16 +101,16 @@ impl Item {
     }
 
     // The place of the next holder, the most senior session of the queue, found in one pass.
-    fn next_holder(self) -> usize
+    fn next_holder(self, ranks: &[u8]) -> usize
         requires { ⌜ (0 < self .waiting) × (self .waiting ≤ maxSessions) ⌝ }
-        ensures { λ r. ⌜ (r ≡ nextHolder senior (unpacked self .queue)) × (r < self .waiting) ⌝ }
+        ensures { λ r. ⌜ (r ≡ nextHolder (senior (now (ranks .entry))) (unpacked self .queue)) × (r < self .waiting) ⌝ }
     {
         let queue = self.queue;
         let n = self.waiting as usize;
         let mut next: usize = 0;
         let mut i: usize = 1;
         while i < n {
-            if Session::senior(queue[i], queue[next]) {
+            if Session::senior(ranks, queue[i], queue[next]) {
                 next = i;
             }
             i += 1;
@@ -150,9 +151,9 @@ impl Item {
     }
 
     // Behind `out`, probe (R, holder) to the holder for each waiting R senior to it, in queue order.
-    fn probes(self, out: Outbox) -> Outbox
+    fn probes(self, ranks: &[u8], out: Outbox) -> Outbox
         requires { ⌜ (self .waiting ≤ maxSessions) × (out .n ≤ 1) ⌝ }
-        ensures { λ r. ⌜ ((l : List Message) → out ≡ outboxOf l → r ≡ outboxOf (l ++ probes senior (self .holder) (unpacked self .queue))) ⌝ }
+        ensures { λ r. ⌜ ((l : List Message) → out ≡ outboxOf l → r ≡ outboxOf (l ++ probes (senior (now (ranks .entry))) (self .holder) (unpacked self .queue))) ⌝ }
     {
         let holder = self.holder;
         let queue = self.queue;
@@ -163,7 +164,7 @@ impl Item {
         while i < count {
             let r = queue[i];
             i += 1;
-            if Session::senior(r, holder) {
+            if Session::senior(ranks, r, holder) {
                 at[n] = Message {
                     peer: holder,
                     kind: Message::PROBE,
@@ -212,9 +213,9 @@ impl Item {
         }
     }
 
-    fn on_request(self, t: u8) -> ItemStep
+    fn on_request(self, ranks: &[u8], t: u8) -> ItemStep
         requires { ⌜ Packed self ⌝ }
-        ensures { λ r. ⌜ r ≡ stepOf (onRequest senior t (unpacked self)) ⌝ }
+        ensures { λ r. ⌜ r ≡ stepOf (onRequest (senior (now (ranks .entry))) t (unpacked self)) ⌝ }
     {
         let holder = self.holder;
         if (holder == t) | self.waits(t) {
@@ -223,7 +224,7 @@ impl Item {
         if holder == 0 {
             return self.granted(t);
         }
-        self.joined(t)
+        self.joined(ranks, t)
     }
 
     // The free item is granted to session t.
@@ -241,14 +242,14 @@ impl Item {
     }
 
     // Session t joins the end of the queue.
-    fn joined(self, t: u8) -> ItemStep
+    fn joined(self, ranks: &[u8], t: u8) -> ItemStep
         requires { ⌜ Joinable self ⌝ }
-        ensures { λ r. ⌜ r ≡ stepOf (queued senior t (unpacked self)) ⌝ }
+        ensures { λ r. ⌜ r ≡ stepOf (queued (senior (now (ranks .entry))) t (unpacked self)) ⌝ }
     {
         let holder = self.holder;
         let item = self.with(t);
         let mut outbox = Outbox::empty();
-        if Session::senior(t, holder) {
+        if Session::senior(ranks, t, holder) {
             outbox = outbox.push(Message::new(holder, Message::PROBE, t, holder));
         }
         ItemStep {
@@ -258,9 +259,9 @@ impl Item {
         }
     }
 
-    fn on_release(self, t: u8) -> ItemStep
+    fn on_release(self, ranks: &[u8], t: u8) -> ItemStep
         requires { ⌜ Packed self ⌝ }
-        ensures { λ r. ⌜ r ≡ stepOf (onRelease senior (nextHolder senior) t (unpacked self)) ⌝ }
+        ensures { λ r. ⌜ r ≡ stepOf (onRelease (senior (now (ranks .entry))) (nextHolder (senior (now (ranks .entry)))) t (unpacked self)) ⌝ }
     {
         if self.holder != t {
             return self.dropped();
@@ -268,18 +269,18 @@ impl Item {
         if self.waiting == 0 {
             return self.vacant();
         }
-        let k = self.next_holder();
+        let k = self.next_holder(ranks);
         let queue = self.queue;
         let n = queue[k];
         let mut rest = self.without(k);
         rest.holder = n;
-        rest.handed_over()
+        rest.handed_over(ranks)
     }
 
     // No holder and an empty queue.
     fn vacant(mut self) -> ItemStep
         requires { ⌜ Packed self × (self .waiting ≡ 0) ⌝ }
-        ensures { λ r. ⌜ r ≡ stepOf (vacated senior (nextHolder senior) (unpacked self .queue)) ⌝ }
+        ensures { λ r. ⌜ r ≡ stepOf (after free [] Nothing) ⌝ }
     {
         let outbox = Outbox::empty();
         self.holder = 0;
@@ -291,12 +292,12 @@ impl Item {
     }
 
     // The next holder has left the queue: it is granted the item, and the others are heard again.
-    fn handed_over(self) -> ItemStep
+    fn handed_over(self, ranks: &[u8]) -> ItemStep
         requires { ⌜ Packed self ⌝ }
-        ensures { λ r. ⌜ r ≡ stepOf (handedOver senior (self .holder) (unpacked self .queue)) ⌝ }
+        ensures { λ r. ⌜ r ≡ stepOf (handedOver (senior (now (ranks .entry))) (self .holder) (unpacked self .queue)) ⌝ }
     {
         let first = Outbox::single(self.holder, Message::GRANT, 0, 0);
-        let outbox = self.resends(self.probes(first));
+        let outbox = self.resends(self.probes(ranks, first));
         ItemStep {
             item: self,
             outbox,
@@ -304,12 +305,12 @@ impl Item {
         }
     }
 
-    fn on_probe(self, t: u8, i: u8, j: u8) -> ItemStep
+    fn on_probe(self, ranks: &[u8], t: u8, i: u8, j: u8) -> ItemStep
         requires { ⌜ Packed self ⌝ }
-        ensures { λ r. ⌜ r ≡ stepOf (onProbe senior t i j (unpacked self)) ⌝ }
+        ensures { λ r. ⌜ r ≡ stepOf (onProbe (senior (now (ranks .entry))) t i j (unpacked self)) ⌝ }
     {
         let holder = self.holder;
-        if !self.waits(t) | (holder == 0) | Session::senior(holder, i) {
+        if !self.waits(t) | (holder == 0) | Session::senior(ranks, holder, i) {
             return self.dropped();
         }
         if holder == i {
@@ -328,9 +329,9 @@ impl Item {
         }
     }
 
-    fn on_clean(self, t: u8, a: u8, b: u8) -> ItemStep
+    fn on_clean(self, ranks: &[u8], t: u8, a: u8, b: u8) -> ItemStep
         requires { ⌜ Packed self ⌝ }
-        ensures { λ r. ⌜ r ≡ stepOf (onClean senior t a b (unpacked self)) ⌝ }
+        ensures { λ r. ⌜ r ≡ stepOf (onClean (senior (now (ranks .entry))) t a b (unpacked self)) ⌝ }
     {
         let holder = self.holder;
         if holder == 0 {
@@ -338,7 +339,7 @@ impl Item {
         }
         let first = Outbox::single(holder, Message::CLEAN, a, b);
         let others = self.without(self.place(t));
-        let outbox = others.resends(self.probes(first));
+        let outbox = others.resends(self.probes(ranks, first));
         ItemStep {
             item: self,
             outbox,
@@ -346,14 +347,14 @@ impl Item {
         }
     }
 
-    fn on_rebroadcast(self) -> ItemStep
+    fn on_rebroadcast(self, ranks: &[u8]) -> ItemStep
         requires { ⌜ Packed self ⌝ }
-        ensures { λ r. ⌜ r ≡ stepOf (onRebroadcast senior (unpacked self)) ⌝ }
+        ensures { λ r. ⌜ r ≡ stepOf (onRebroadcast (senior (now (ranks .entry))) (unpacked self)) ⌝ }
     {
         if self.holder == 0 {
             return self.dropped();
         }
-        let outbox = self.resends(self.probes(Outbox::empty()));
+        let outbox = self.resends(self.probes(ranks, Outbox::empty()));
         ItemStep {
             item: self,
             outbox,
@@ -375,17 +376,17 @@ impl Item {
     }
 
     // What an item does on a message, by its kind. Any other kind is dropped.
-    pub fn receive(self, m: Message) -> ItemStep
+    pub fn receive(self, ranks: &[u8], m: Message) -> ItemStep
         requires { ⌜ Packed self ⌝ }
-        ensures { λ r. ⌜ r ≡ stepOf (received senior (nextHolder senior) (unpacked self) m) ⌝ }
+        ensures { λ r. ⌜ r ≡ stepOf (received (senior (now (ranks .entry))) (nextHolder (senior (now (ranks .entry)))) (unpacked self) m) ⌝ }
     {
         let kind = m.kind;
         match kind {
-            Message::REQUEST => self.on_request(m.peer),
-            Message::RELEASE => self.on_release(m.peer),
-            Message::PROBE => self.on_probe(m.peer, m.a, m.b),
-            Message::CLEAN => self.on_clean(m.peer, m.a, m.b),
-            Message::REBROADCAST => self.on_rebroadcast(),
+            Message::REQUEST => self.on_request(ranks, m.peer),
+            Message::RELEASE => self.on_release(ranks, m.peer),
+            Message::PROBE => self.on_probe(ranks, m.peer, m.a, m.b),
+            Message::CLEAN => self.on_clean(ranks, m.peer, m.a, m.b),
+            Message::REBROADCAST => self.on_rebroadcast(ranks),
             Message::WITHDRAW => self.on_withdraw(m.peer),
             _ => self.dropped(),
         }

@@ -106,6 +106,12 @@ module _ {A : Type 0} where
   getD-tabulate (suc n) f zero d h = refl
   getD-tabulate (suc n) f (suc k) d h = getD-tabulate n (λ j. f (suc j)) k d (omega arith)
 
+  pub take-tabulate : (n m : ℕ) (f : ℕ → A) → n ≤ m → take n (tabulate m f) ≡ tabulate n f
+  unfolding tabulate
+  take-tabulate zero m f h = refl
+  take-tabulate (suc n) zero f h = absurd (omega arith)
+  take-tabulate (suc n) (suc m) f h = ap (λ (l : List A). f 0 ∷ l) (take-tabulate n m (λ k. f (suc k)) (omega arith))
+
   pub tabulate-last : (n : ℕ) (f : ℕ → A) → tabulate (suc n) f ≡ tabulate n f ++ (f n ∷ [])
   unfolding tabulate
   tabulate-last zero f = refl
@@ -322,6 +328,26 @@ removed-absent (suc k) (a ∷ l) e h =
     let f = and-both (not (member a l)) (distinct l) e in
     let other = absent-differs a (getD l k 0) l (not-true (member a l) (f .0)) (getD-member l k (omega arith)) in
     rw (ne-eqb a (getD l k 0) other) (removed-absent k l (f .1) (omega arith))
+
+-- what stands at one place stands at no other
+pub distinct-apart : (l : List ℕ) → distinct l ≡ true → (i j : ℕ) → i < length l → j < length l → getD l i 0 ≡ getD l j 0 → i ≡ j
+unfolding distinct
+distinct-apart [] d i j h g e = absurd (omega arith)
+distinct-apart (a ∷ l) d zero zero h g e = refl
+distinct-apart (a ∷ l) d zero (suc j) h g e =
+    absurd (absent-differs a (getD l j 0) l (not-true (member a l) (and-both (not (member a l)) (distinct l) d .0)) (getD-member l j (omega arith)) e)
+distinct-apart (a ∷ l) d (suc i) zero h g e =
+    absurd (absent-differs a (getD l i 0) l (not-true (member a l) (and-both (not (member a l)) (distinct l) d .0)) (getD-member l i (omega arith)) (sym e))
+distinct-apart (a ∷ l) d (suc i) (suc j) h g e =
+    ap suc (distinct-apart l (and-both (not (member a l)) (distinct l) d .1) i j (omega arith) (omega arith) e)
+
+-- and back
+pub distinct-intro : (l : List ℕ) → ((i j : ℕ) → i < j → j < length l → getD l i 0 ≡ getD l j 0 → ⊥) → distinct l ≡ true
+unfolding distinct
+distinct-intro [] f = refl
+distinct-intro (a ∷ l) f =
+    let others = all-intro (λ k. not (eqb k a)) l 0 (λ j h. ap not (ne-eqb (getD l j 0) a (λ e. f 0 (suc j) (omega arith) (omega arith) (sym e)))) in
+    rw (all-member (λ k. not (eqb k a)) a l others (ap not (eqb-self a))) (distinct-intro l (λ i j h g e. f (suc i) (suc j) (omega arith) (omega arith) e))
 
 -- ---- a list whose first i elements are v
 abbrev pub filled : ℕ → ℕ → List ℕ → List ℕ

@@ -11,7 +11,7 @@ use lib.Dec.{eqb}
 use lib.ListN.{length}
 use borrow.Author.Tests.{eqb-true, eqb-false, ne-eqb, not-true}
 use Rattle.lists.specs.Lists.{between, every, lowest, count, sumUpTo, member, distinct, all}
-use Rattle.lists.proofs.Tests.{and-both, and-intro, fails, refuted, by-test, within, eqb-self, same?}
+use Rattle.lists.proofs.Tests.{and-both, and-intro, fails, refuted, by-answer, by-test, within, eqb-self, same?}
 
 -- what holds of every number below n, and of n, holds of every number below n + 1
 pub below-and-at : (P : ℕ → Type 0) (n : ℕ) → ((k : ℕ) → k < n → P k) → P n → (k : ℕ) → k < suc n → P k
@@ -213,6 +213,14 @@ length-count n (a ∷ l) d h =
     let ends = within 1 n a (range .0) in
     let more = count-one-more n (λ k. eqb a k || member k l) (λ k. member k l) a (ends .0) (ends .1) (rw (eqb-self a) refl) (not-true (member a l) (new .0)) (λ j _ _ q. rw (ne-eqb a j (λ e. q (sym e))) refl) in
     omega (arith, length-count n l (new .1) (range .1))
+
+-- so n of them are all
+pub distinct-all : (l : List ℕ) → distinct l ≡ true → all (between 1 (length l)) l ≡ true → (k : ℕ) → 1 ≤ k → k ≤ length l → member k l ≡ true
+distinct-all l d h k low high =
+    by-answer (member k l) (λ e. e) (λ e.
+    let n = length l in
+    let more = count-one-more n (λ j. eqb k j || member j l) (λ j. member j l) k low high (rw (eqb-self k) refl) e (λ j _ _ q. rw (ne-eqb k j (λ z. q (sym z))) refl) in
+    absurd (omega (arith, length-count n l d h, count-le n (λ j. eqb k j || member j l))))
 
 pub distinct-length : (n : ℕ) (l : List ℕ) → distinct l ≡ true → all (between 1 n) l ≡ true → length l ≤ n
 distinct-length n l d h = omega (arith, length-count n l d h, count-le n (λ k. member k l))

@@ -10,6 +10,7 @@ use borrow.Author.Tests.{le-leb, eqb-true, eq-eqb, ne-eqb}
 use Rattle.lists.specs.Lists.{between, all}
 use Rattle.lists.proofs.Tests.{and-both, between-intro, fails, within}
 use Rattle.message.specs.Limits.{maxSessions, maxItems}
+use Rattle.session.specs.Seniority
 use Rattle.mailbox.specs.Layout as Mail
 use Rattle.table.specs.Layout as Table
 use Rattle.table.proofs.Laws as TableLaws
@@ -17,9 +18,9 @@ use Rattle.refusal.specs.Refusal
 use Rattle.refusal.specs.Refusal.{Cause, cause, first}
 use Rattle.step.specs.Step.{acted, stepped, refusedAnswer, Formed}
 use Rattle.step.specs.Parts.{Judged}
-use Rattle.refusal.proofs.Causes.{first-stops, first-goes-on, unmet-not, one-cause}
+use Rattle.refusal.proofs.Causes.{first-stops, first-goes-on, unmet-not}
 use Rattle.cycletext.specs.OnTable.{text, textCauses, textAnswer, described, unlessRefused}
-use Rattle.lockmgr.specs.Calls.{Config, bufferCauses, judged, startRefusal, step, reportCauses, reportRefusal, cycleText}
+use Rattle.lockmgr.specs.Calls.{Config, bufferCauses, judged, sizesFit, startRefusal, step, reportCauses, reportRefusal, cycleText}
 
 -- a step by what judging answers
 module _ (verb t x : ℕ) (table mail : List ℕ) where
@@ -107,16 +108,21 @@ pub formed-zero : (table mail : List ℕ) → Formed table mail → first (buffe
 unfolding first
 formed-zero table mail f = rw (f .records .sized, f .mail-sized, f .records .formed, f .mail-formed) refl
 
--- what a start knows that is not refused
-pub record Startable (c : Config) (table mail : List ℕ) : Type 0 where
+-- what a start knows whose sizes fit, and one that is not refused
+pub record Sizes (c : Config) (table mail : List ℕ) : Type 0 where
   pub some-sessions : 1 ≤ c .sessions
   pub max-sessions : c .sessions ≤ maxSessions
   pub some-items : 1 ≤ c .items
   pub max-items : c .items ≤ maxItems
   pub some-room : 1 ≤ c .capacity
   pub max-room : c .capacity ≤ Mail.maxCapacity
+  pub ranks-whole : length (c .ranks) ≡ c .sessions
   pub table-whole : length table ≡ Table.size (c .sessions) (c .items)
   pub mail-whole : length mail ≡ Mail.size (c .capacity)
+
+pub record Startable (c : Config) (table mail : List ℕ) : Type 0 where
+  pub sizes : Sizes c table mail
+  pub ranks : Seniority.wellFormed (c .ranks) ≡ true
 
 module _ (c : Config) (table mail : List ℕ) where
   abbrev S : ℕ
@@ -128,16 +134,17 @@ module _ (c : Config) (table mail : List ℕ) where
   abbrev C : ℕ
   C = c .capacity
 
-  pub start-zero : startRefusal c table mail ≡ 0 → Startable c table mail
-  unfolding startRefusal
-  start-zero e =
+  sizes-known : sizesFit c table mail ≡ true → Sizes c table mail
+  sizes-known e =
       let s = between 1 maxSessions S in
       let m = between 1 maxItems M in
       let r = between 1 Mail.maxCapacity C in
+      let k = eqb (length (c .ranks)) S in
       let t = eqb (length table) (Table.size S M) in
       let q = eqb (length mail) (Mail.size C) in
-      let five = and-both (s && m && r && t) q (unmet-not (s && m && r && t && q) 1 [] e .0) in
-      let four = and-both (s && m && r) t (five .0) in
+      let six = and-both (s && m && r && k && t) q e in
+      let five = and-both (s && m && r && k) t (six .0) in
+      let four = and-both (s && m && r) k (five .0) in
       let three = and-both (s && m) r (four .0) in
       let two = and-both s m (three .0) in
       let a = within 1 maxSessions S (two .0) in
@@ -150,18 +157,32 @@ module _ (c : Config) (table mail : List ℕ) where
         max-items = b .1;
         some-room = d .0;
         max-room = d .1;
-        table-whole = eqb-true (length table) (Table.size S M) (four .1);
-        mail-whole = eqb-true (length mail) (Mail.size C) (five .1);
+        ranks-whole = eqb-true (length (c .ranks)) S (four .1);
+        table-whole = eqb-true (length table) (Table.size S M) (five .1);
+        mail-whole = eqb-true (length mail) (Mail.size C) (six .1);
       }
+
+  sizes-fit : Sizes c table mail → sizesFit c table mail ≡ true
+  sizes-fit f =
+      rw (between-intro 1 maxSessions S (f .some-sessions) (f .max-sessions), between-intro 1 maxItems M (f .some-items) (f .max-items), between-intro 1 Mail.maxCapacity C (f .some-room) (f .max-room), eq-eqb (length (c .ranks)) S (f .ranks-whole), eq-eqb (length table) (Table.size S M) (f .table-whole), eq-eqb (length mail) (Mail.size C) (f .mail-whole)) refl
+
+  pub start-zero : startRefusal c table mail ≡ 0 → Startable c table mail
+  unfolding startRefusal
+  start-zero e =
+      let s = unmet-not (sizesFit c table mail) 1 _ e in
+      record { sizes = sizes-known (s .0); ranks = unmet-not (Seniority.wellFormed (c .ranks)) 13 [] (s .1) .0 }
 
   pub start-none : Startable c table mail → startRefusal c table mail ≡ 0
   unfolding startRefusal first
-  start-none f =
-      rw (between-intro 1 maxSessions S (f .some-sessions) (f .max-sessions), between-intro 1 maxItems M (f .some-items) (f .max-items), between-intro 1 Mail.maxCapacity C (f .some-room) (f .max-room), eq-eqb (length table) (Table.size S M) (f .table-whole), eq-eqb (length mail) (Mail.size C) (f .mail-whole)) refl
+  start-none f = rw (sizes-fit (f .sizes), f .ranks) refl
 
-  pub start-size : (Startable c table mail → ⊥) → startRefusal c table mail ≡ Refusal.badSize
-  unfolding startRefusal
-  start-size h = one-cause (not (between 1 maxSessions S && between 1 maxItems M && between 1 Mail.maxCapacity C && eqb (length table) (Table.size S M) && eqb (length mail) (Mail.size C))) 1 (λ e. h (start-zero e))
+  pub start-size : (Sizes c table mail → ⊥) → startRefusal c table mail ≡ Refusal.badSize
+  unfolding startRefusal first
+  start-size h = rw (fails (sizesFit c table mail) (λ e. h (sizes-known e))) refl
+
+  pub start-ranks : Sizes c table mail → Seniority.wellFormed (c .ranks) ≡ false → startRefusal c table mail ≡ Refusal.badRanks
+  unfolding startRefusal first
+  start-ranks f e = rw (sizes-fit f, e) refl
 
 -- the causes of a report
 module _ (t : ℕ) (table : List ℕ) where

@@ -1,12 +1,13 @@
 -- The calls on bytes (01: desk): from the arguments and the lent buffers, the answer and the buffers after. RULES is docs/RULES.md.
 -- T is the session and X the item that a call names; S, M and C are read from the buffers.
 use Prim.Native.Nat.{ℕ}
-use mathlib.Core.Bool.{cond, not, _&&_}
+use mathlib.Core.Bool.{Bool, cond, not, _&&_}
 use mathlib.Core.List.{List, [], _∷_, _++_}
 use lib.Dec.{eqb}
 use lib.ListN.{length}
 use Rattle.lists.specs.Lists.{between}
 use Rattle.message.specs.Limits.{maxSessions, maxItems}
+use Rattle.session.specs.Seniority
 use Rattle.mailbox.specs.Layout as Mail
 use Rattle.table.specs.Layout as Table
 use Rattle.waits.specs.OnTable.{cycleLength}
@@ -17,14 +18,15 @@ use Rattle.cycletext.specs.OnTable.{Described, text, textCauses, unlessRefused}
 use Rattle.lockmgr.specs.declared.Cycle.{Cycle}
 
 -- ---- start
--- what start is given
+-- what start is given: S, M, C, and a list with the rank of each session
 pub record Config : Type 0 where
   pub sessions : ℕ
   pub items : ℕ
   pub capacity : ℕ
+  pub ranks : List ℕ
 
-abbrev pub config : ℕ → ℕ → ℕ → Config
-config S M C = record { sessions = S; items = M; capacity = C }
+abbrev pub config : ℕ → ℕ → ℕ → List ℕ → Config
+config S M C ranks = record { sessions = S; items = M; capacity = C; ranks = ranks }
 
 -- what start answers, and both buffers after
 pub record Started : Type 0 where
@@ -35,22 +37,25 @@ pub record Started : Type 0 where
 abbrev pub startResult : ℕ → List ℕ → List ℕ → Started
 startResult refusal table mail = record { refusal = refusal; table = table; mail = mail }
 
--- S, M or C beyond its bounds, or a length that does not match them: RULES 8.2
+-- S, M and C are within their bounds, and the lengths are theirs: RULES 8.2
+abbrev pub sizesFit : Config → List ℕ → List ℕ → Bool
+sizesFit c table mail =
+    between 1 maxSessions (c .sessions) && between 1 maxItems (c .items) && between 1 Mail.maxCapacity (c .capacity)
+    && eqb (length (c .ranks)) (c .sessions) && eqb (length table) (Table.size (c .sessions) (c .items)) && eqb (length mail) (Mail.size (c .capacity))
+
+-- the causes of a start, in their order: RULES 4.3
 unfoldable pub startRefusal : Config → List ℕ → List ℕ → ℕ
 startRefusal c table mail =
     first
-    (cause
-    (not
-    (between 1 maxSessions (c .sessions) && between 1 maxItems (c .items) && between 1 Mail.maxCapacity (c .capacity)
-    && eqb (length table) (Table.size (c .sessions) (c .items)) && eqb (length mail) (Mail.size (c .capacity))))
-    Refusal.badSize
+    (cause (not (sizesFit c table mail)) Refusal.badSize
+    ∷ cause (not (Seniority.wellFormed (c .ranks))) Refusal.badRanks
     ∷ [])
 
 -- what start writes: RULES 4.3
 unfoldable pub start : Config → List ℕ → List ℕ → Started
 start c table mail =
     cond (eqb (startRefusal c table mail) 0)
-    (startResult 0 (Table.started (c .sessions) (c .items)) (Mail.mailBytes (c .capacity) []))
+    (startResult 0 (Table.started (c .sessions) (c .items) (c .ranks)) (Mail.mailBytes (c .capacity) []))
     (startResult (startRefusal c table mail) table mail)
 
 -- ---- step

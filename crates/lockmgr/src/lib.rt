@@ -21,8 +21,15 @@ pub struct Cycle {
 }
 
 // Whether start is refused: its number, or 0.
-fn start_refusal(sessions: u64, items: u64, capacity: u64, table: &[u8], mail: &[u8]) -> u8
-    ensures { λ r. ⌜ r ≡ startRefusal (config sessions items capacity) (now (table .entry)) (now (mail .entry)) ⌝ }
+fn start_refusal(
+    sessions: u64,
+    items: u64,
+    capacity: u64,
+    ranks: &[u8],
+    table: &[u8],
+    mail: &[u8],
+) -> u8
+    ensures { λ r. ⌜ r ≡ startRefusal (config sessions items capacity (now (ranks .entry))) (now (table .entry)) (now (mail .entry)) ⌝ }
 {
     if sessions < 1 {
         return refusal::BAD_SIZE;
@@ -42,31 +49,38 @@ fn start_refusal(sessions: u64, items: u64, capacity: u64, table: &[u8], mail: &
     if (mailbox::MAX_CAPACITY as u64) < capacity {
         return refusal::BAD_SIZE;
     }
+    if ranks.len() != sessions as usize {
+        return refusal::BAD_SIZE;
+    }
     if table.len() != table::size(sessions as u8, items as u8) {
         return refusal::BAD_SIZE;
     }
     if mail.len() != mailbox::size(capacity as usize) {
         return refusal::BAD_SIZE;
     }
+    if !form::ranks(ranks) {
+        return refusal::BAD_RANKS;
+    }
     0
 }
 
-// Opens a lock manager in two lent buffers.
+// Opens a lock manager in two lent buffers; byte k of the list, from 1, is the rank of session k.
 #[no_mangle]
 pub extern "C" fn lockmgr_start(
     sessions: u64,
     items: u64,
     capacity: u64,
+    ranks: &[u8],
     table: &mut [u8],
     mail: &mut [u8],
 ) -> u8
-    ensures { λ r. ⌜ startResult r (now (table .exit)) (now (mail .exit)) ≡ start (config sessions items capacity) (now (table .entry)) (now (mail .entry)) ⌝ }
+    ensures { λ r. ⌜ startResult r (now (table .exit)) (now (mail .exit)) ≡ start (config sessions items capacity (now (ranks .entry))) (now (table .entry)) (now (mail .entry)) ⌝ }
 {
-    let cause = start_refusal(sessions, items, capacity, table, mail);
+    let cause = start_refusal(sessions, items, capacity, ranks, table, mail);
     if cause != 0 {
         return cause;
     }
-    table::clear(table, sessions as u8, items as u8);
+    table::clear(table, sessions as u8, items as u8, ranks);
     mailbox::clear(mail, capacity as usize);
     0
 }

@@ -44,9 +44,3 @@ unmet false n l e = (refl, e)
 
 pub unmet-not : (b : Bool) (n : ℕ) (l : List Cause) → first (cause (not b) (suc n) ∷ l) ≡ 0 → (b ≡ true) × (first l ≡ 0)
 unmet-not b n l e = let p = unmet (not b) n l e in (not-false b (p .0), p .1)
-
--- one cause alone
-pub one-cause : (b : Bool) (n : ℕ) → (first (cause b (suc n) ∷ []) ≡ 0 → ⊥) → first (cause b (suc n) ∷ []) ≡ suc n
-unfolding first
-one-cause true n h = refl
-one-cause false n h = absurd (h refl)

@@ -55,6 +55,10 @@ badList = 12
 abbrev pub nobody : ℕ
 nobody = 13
 
+-- RULES 8.14
+abbrev pub badRanks : ℕ
+badRanks = 14
+
 -- a cause that holds or not
 pub record Cause : Type 0 where
   pub holds : Bool

@@ -24,3 +24,5 @@ pub const SHORT_BUFFER: u8 = 11;
 pub const BAD_LIST: u8 = 12;
 
 pub const NOBODY: u8 = 13;
+
+pub const BAD_RANKS: u8 = 14;

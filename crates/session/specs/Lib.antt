@@ -1,4 +1,5 @@
 pub mod Stage
 pub mod Seniority
+pub mod Claims
 pub mod Record
 pub mod Rules

@@ -11,7 +11,7 @@ ghost use Rattle.message.specs.declared.Message.{Message};
 ghost use Rattle.message.specs.Kind;
 ghost use Rattle.message.specs.Limits.{IsItem};
 ghost use Rattle.message.specs.Outbox.{plain, outboxOf};
-ghost use Rattle.session.specs.Seniority.{senior};
+ghost use Rattle.session.specs.Seniority.{rank, senior};
 ghost use Rattle.session.specs.Record.{size, sessionAt, putSession};
 ghost use Rattle.session.specs.Rules.{stepOf, dropped, storedProbes, toHeld, requested, released, granted, resent, aborted, cleaned, cleanedWaiting, cleanedVictim, rolledBack, junior, Storable, keptProbe, received, Deliverable, probed};
 
@@ -54,18 +54,32 @@ impl Session {
 
     pub const SIZE: usize = Session::JUNIORS_PLACE + MAX_SESSIONS;
 
-    // Whether session a is senior to session b.
-    pub fn senior(a: u8, b: u8) -> bool
-        ensures { λ r. ⌜ r ≡ senior a b ⌝ }
+    // The rank of session t; a number that is no session's is its own rank.
+    fn rank(ranks: &[u8], t: u8) -> u8
+        ensures { λ r. ⌜ r ≡ rank (now (ranks .entry)) t ⌝ }
     {
-        a < b
+        let k = t as usize;
+        if k < 1 {
+            return t;
+        }
+        if ranks.len() < k {
+            return t;
+        }
+        ranks[k - 1]
+    }
+
+    // Whether session a is senior to session b.
+    pub fn senior(ranks: &[u8], a: u8, b: u8) -> bool
+        ensures { λ r. ⌜ r ≡ senior (now (ranks .entry)) a b ⌝ }
+    {
+        Session::rank(ranks, a) < Session::rank(ranks, b)
     }
 
     // The more junior of two sessions.
-    pub fn junior(j: u8, t: u8) -> u8
-        ensures { λ r. ⌜ r ≡ junior senior j t ⌝ }
+    fn junior(ranks: &[u8], j: u8, t: u8) -> u8
+        ensures { λ r. ⌜ r ≡ junior (senior (now (ranks .entry))) j t ⌝ }
     {
-        if Session::senior(j, t) { t } else { j }
+        if Session::senior(ranks, j, t) { t } else { j }
     }
 
     // The record whose bytes stand at `at`.
@@ -297,13 +311,13 @@ impl Session {
     }
 
     // The junior j stored for initiator i, if it is news; in stage 2 the probe goes to the awaited item.
-    fn kept_probe(mut self, i: u8, j: u8) -> SessionStep
+    fn kept_probe(mut self, ranks: &[u8], i: u8, j: u8) -> SessionStep
         requires { ⌜ Storable i self ⌝ }
-        ensures { λ r. ⌜ r ≡ stepOf (keptProbe senior i j self) ⌝ }
+        ensures { λ r. ⌜ r ≡ stepOf (keptProbe (senior (now (ranks .entry))) i j self) ⌝ }
     {
         let at = i as usize - 1;
         let stored = self.juniors[at];
-        if (stored == 0) | Session::senior(stored, j) {
+        if (stored == 0) | Session::senior(ranks, stored, j) {
             self.juniors[at] = j;
             let mut outbox = Outbox::empty();
             if self.stage != Session::GROWING {
@@ -318,17 +332,17 @@ impl Session {
     }
 
     // Probe (i, j), stages 1, 2.
-    fn probed(self, t: u8, i: u8, j: u8) -> SessionStep
+    fn probed(self, ranks: &[u8], t: u8, i: u8, j: u8) -> SessionStep
         requires { ⌜ Storable i self ⌝ }
-        ensures { λ r. ⌜ r ≡ stepOf (probed senior t i j self) ⌝ }
+        ensures { λ r. ⌜ r ≡ stepOf (probed (senior (now (ranks .entry))) t i j self) ⌝ }
     {
-        self.kept_probe(i, Session::junior(j, t))
+        self.kept_probe(ranks, i, Session::junior(ranks, j, t))
     }
 
     // What session t does on a message, by the kind and then by its stage. Any pair not named is dropped.
-    pub fn receive(self, t: u8, m: Message) -> SessionStep
+    pub fn receive(self, ranks: &[u8], t: u8, m: Message) -> SessionStep
         requires { ⌜ Deliverable m ⌝ }
-        ensures { λ r. ⌜ r ≡ stepOf (received senior t self m) ⌝ }
+        ensures { λ r. ⌜ r ≡ stepOf (received (senior (now (ranks .entry))) t self m) ⌝ }
     {
         let kind = m.kind;
         let stage = self.stage;
@@ -338,7 +352,7 @@ impl Session {
                 _ => self.dropped(),
             },
             Message::PROBE => match stage {
-                Session::GROWING | Session::WAITING => self.probed(t, m.a, m.b),
+                Session::GROWING | Session::WAITING => self.probed(ranks, t, m.a, m.b),
                 _ => self.dropped(),
             },
             Message::RESEND => match stage {

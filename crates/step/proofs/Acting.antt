@@ -14,7 +14,6 @@ use Rattle.buffer.proofs.Laws.{AreBytes}
 use Rattle.message.specs.declared.Message.{Message}
 use Rattle.message.specs.declared.Outbox.{Outbox}
 use Rattle.message.specs.Outbox as Outbox
-use Rattle.session.specs.Seniority.{senior}
 use Rattle.session.proofs.Laws.{requested-length, received-length}
 use Rattle.session.specs.Rules as Session
 use Rattle.item.specs.NextHolder.{nextHolder}
@@ -166,11 +165,11 @@ module _ (mail : List ℕ) (k n : ℕ) {fits : Bool} {after : List ℕ} (made : 
 pub item-sends-few : (x : ℕ) (table : List ℕ) (e : Entry) → Packed (Table.item table x) → length (itemReceives x table e .sends) ≤ Outbox.room
 unfolding locks
 item-sends-few x table e p =
-    omega (arith, received-fits senior (nextHolder senior) (locks table x) (seenByItem e) (omega (arith, p .fits, queue-length (Table.item table x) p)))
+    omega (arith, received-fits (Table.senior table) (nextHolder (Table.senior table)) (locks table x) (seenByItem e) (omega (arith, p .fits, queue-length (Table.item table x) p)))
 
 -- a session sends at most a request and 64 probes
 pub session-sends-few : (t : ℕ) (table : List ℕ) (e : Entry) → length (Table.session table t .juniors) ≡ 64 → length (sessionReceives t table e .sends) ≤ 65
-session-sends-few t table e h = received-length (Table.session table t) h senior t (seenBySession e)
+session-sends-few t table e h = received-length (Table.session table t) h (Table.senior table) t (seenBySession e)
 
 pub acts-few : (verb t x : ℕ) (table : List ℕ) → length (Table.session table t .juniors) ≡ 64 → (e : Entry) → length (sessionActs verb t x table e .sends) ≤ 65
 unfolding sessionActs Session.released

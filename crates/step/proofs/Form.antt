@@ -10,11 +10,9 @@ use borrow.Author.Tests.{eqb-true, eqb-false, ltb-false, not-false}
 use Rattle.lists.specs.Lists.{between, all, removeAt}
 use Rattle.lists.proofs.Laws.{all-getD, all-join, all-map, all-removeAt, findIndex-found}
 use Rattle.lists.proofs.Searches.{distinct-length}
-use Rattle.lists.proofs.Orders.{weak}
 use Rattle.lists.proofs.Tests.{and-both, between-intro, by-test, by-answer}
 use Rattle.session.specs.Stage
-use Rattle.session.specs.Seniority.{senior}
-use Rattle.session.proofs.Seniority.{senior-order}
+use Rattle.session.proofs.Seniority.{senior-weak}
 use Rattle.session.specs.Record as SessionRecord
 use Rattle.session.specs.Rules as Session
 use Rattle.item.specs.NextHolder.{nextHolder}
@@ -125,14 +123,14 @@ module _ (t x : ℕ) (table mail : List ℕ) (j : Judged t x table mail) where
       let S = Table.sessionsOf table in
       let M = Table.itemsOf table in
       let lock = unpacked-lock S (Table.item table x) (TableLaws.well-formed-item table (j .formed .records .formed) x (j .item-low) (j .item-high)) in
-      rw (head-item toItem t x entries found) at (item-kept senior (nextHolder senior) S M (head toItem t x entries found) (head-formed toItem found) (locks table x) lock (next-inside (weak senior-order) (locks table x .queue)))
+      rw (head-item toItem t x entries found) at (item-kept (Table.senior table) (nextHolder (Table.senior table)) S M (head toItem t x entries found) (head-formed toItem found) (locks table x) lock (next-inside (senior-weak (Table.ranks table)) (locks table x .queue)))
 
   session-keeps : (found : Entry.earliest toSession t x entries < length entries)
       → SessionKept (Table.sessionsOf table) (Table.itemsOf table) t (sessionReceives t table (getD entries (Entry.earliest toSession t x entries) unused))
   session-keeps found =
       let S = Table.sessionsOf table in
       let M = Table.itemsOf table in
-      rw (head-session toSession t x entries found) at (session-kept senior S M (head toSession t x entries found) (head-formed toSession found) (Table.session table t) session-formed session-juniors)
+      rw (head-session toSession t x entries found) at (session-kept (Table.senior table) S M (head toSession t x entries found) (head-formed toSession found) (Table.session table t) session-formed session-juniors)
 
   -- what each verb plans, where no cause hinders it
   abbrev Plans : ℕ → Type 0

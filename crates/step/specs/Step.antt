@@ -9,7 +9,6 @@ use lib.ListN.{length, getD}
 use Rattle.lists.specs.Lists.{between, removeAt}
 use Rattle.bitset.specs.Bitset.{has}
 use Rattle.session.specs.Stage
-use Rattle.session.specs.Seniority.{senior}
 use Rattle.session.specs.Rules as Session
 use Rattle.item.specs.declared.Event.{Event}
 use Rattle.item.specs.declared.Event.the-variants.{Nothing}
@@ -58,10 +57,10 @@ delivered verb t x entries =
 
 -- what item X does on the entry that is delivered to it, and what session T does
 abbrev pub itemReceives : ℕ → List ℕ → Entry → Item.After
-itemReceives x table e = Item.received senior (nextHolder senior) (locks table x) (seenByItem e)
+itemReceives x table e = Item.received (Table.senior table) (nextHolder (Table.senior table)) (locks table x) (seenByItem e)
 
 abbrev pub sessionReceives : ℕ → List ℕ → Entry → Session.After
-sessionReceives t table e = Session.received senior t (Table.session table t) (seenBySession e)
+sessionReceives t table e = Session.received (Table.senior table) t (Table.session table t) (seenBySession e)
 
 -- what session T does: on a request, on a release, or on the entry that is delivered to it
 unfoldable pub sessionActs : ℕ → ℕ → ℕ → List ℕ → Entry → Session.After

@@ -124,7 +124,7 @@ pub fn item_receives(x: u8, k: usize, table: &[u8], mail: &[u8]) -> ItemStep
     requires { ⌜ ForItem x k (now table) (now mail) ⌝ }
     ensures { λ r. ⌜ (r ≡ ItemRules.stepOf (itemReceives x (now (table .entry)) (entryAt (now (mail .entry)) k))) × (r .outbox .n ≤ room) ⌝ }
 {
-    table::item(table, x).receive(mailbox::message_to_item(mail, k))
+    table::item(table, x).receive(table::ranks(table), mailbox::message_to_item(mail, k))
 }
 
 // What session t does on entry k.
@@ -132,7 +132,7 @@ pub fn session_receives(t: u8, k: usize, table: &[u8], mail: &[u8]) -> SessionSt
     requires { ⌜ ForSession t k (now table) (now mail) ⌝ }
     ensures { λ r. ⌜ (r ≡ SessionRules.stepOf (sessionReceives t (now (table .entry)) (entryAt (now (mail .entry)) k))) × (r .outbox .n ≤ room) ⌝ }
 {
-    table::session(table, t).receive(t, mailbox::message_to_session(mail, k))
+    table::session(table, t).receive(table::ranks(table), t, mailbox::message_to_session(mail, k))
 }
 
 // What session t does in a step.

@@ -12,17 +12,20 @@ use lib.Seq.{getD-take}
 use Rattle.buffer.specs.Bytes.{splice}
 use Rattle.lists.specs.Lists.{between, every, all}
 use Rattle.lists.proofs.Tests.{and-both, within}
+use Rattle.lists.proofs.Orders.{StrictTotal}
 use Rattle.lists.proofs.Searches.{every-at, every-false, every-intro}
-use Rattle.buffer.proofs.Laws.{length-splice, slice-splice-before, length-slice}
+use Rattle.buffer.proofs.Laws.{length-splice, slice-splice-before, slice-splice-after, length-slice}
 use Rattle.message.specs.Limits.{maxSessions, maxItems}
 use Rattle.session.specs.declared.Session.{Session}
 use Rattle.session.specs.Record as SessionRecord
+use Rattle.session.specs.Seniority
 use Rattle.session.specs.Stage
 use Rattle.session.proofs.Laws as SessionLaws
+use Rattle.session.proofs.Seniority.{senior-order}
 use Rattle.item.specs.declared.Item.{Item}
 use Rattle.item.specs.Record as ItemRecord
 use Rattle.item.proofs.Laws as ItemLaws
-use Rattle.table.specs.Layout.{header, sessionPlace, itemsStart, itemPlace, size, sessionsOf, itemsOf, sized, session, withSession, item, withItem, wellFormed}
+use Rattle.table.specs.Layout.{header, sessionPlace, itemsStart, itemPlace, ranksPlace, size, sessionsOf, itemsOf, sized, session, withSession, item, withItem, ranks, senior, wellFormed}
 
 -- what `sized` says: S and M are within their bounds, and the length is that of S and M
 pub record Sized (t : List ℕ) : Type 0 where
@@ -56,6 +59,13 @@ module _ (t : List ℕ) (e : sized t ≡ true) where
   pub item-fits : (x : ℕ) → 1 ≤ x → x ≤ itemsOf t → itemPlace (sessionsOf t) x + ItemRecord.size ≤ length t
   item-fits x l h = let f = sized-facts t e in omega arith
 
+  pub ranks-fit : ranksPlace (sessionsOf t) (itemsOf t) + sessionsOf t ≤ length t
+  ranks-fit = let f = sized-facts t e in omega arith
+
+  pub ranks-length : length (ranks t) ≡ sessionsOf t
+  unfolding ranks
+  ranks-length = length-slice t (ranksPlace (sessionsOf t) (itemsOf t)) (sessionsOf t) ranks-fit
+
   pub header-fits : header ≤ length t
   header-fits = let f = sized-facts t e in omega arith
 
@@ -66,8 +76,8 @@ sessionOk t k = SessionRecord.wellFormed (sessionsOf t) (itemsOf t) (session t k
 unfoldable pub itemOk : List ℕ → ℕ → Bool
 itemOk t x = ItemRecord.wellFormed (sessionsOf t) (item t x)
 
--- the table is in form when every record is
-pub in-form : (t : List ℕ) → wellFormed t ≡ every (sessionsOf t) (sessionOk t) && every (itemsOf t) (itemOk t)
+-- the table is in form when every record is and the ranks are
+pub in-form : (t : List ℕ) → wellFormed t ≡ every (sessionsOf t) (sessionOk t) && every (itemsOf t) (itemOk t) && Seniority.wellFormed (ranks t)
 unfolding wellFormed sessionOk itemOk
 in-form t = refl
 
@@ -78,7 +88,7 @@ module _ (t : List ℕ) (k : ℕ) (l : 1 ≤ k) where
 
   pub items-false : k ≤ itemsOf t → itemOk t k ≡ false → wellFormed t ≡ false
   items-false h e =
-      in-form t ∙ rw (every-false (itemsOf t) (itemOk t) k l h e) (and-false (every (sessionsOf t) (sessionOk t)))
+      in-form t ∙ rw (every-false (itemsOf t) (itemOk t) k l h e, and-false (every (sessionsOf t) (sessionOk t))) refl
 
 -- the record that the check looks at, places counted from 0
 pub session-here : (t : List ℕ) (k : ℕ) {S M : ℕ} → S ≡ sessionsOf t → M ≡ itemsOf t → SessionRecord.wellFormed S M (SessionRecord.sessionAt t (header + SessionRecord.size * k)) ≡ sessionOk t (suc k)
@@ -89,26 +99,44 @@ pub item-here : (t : List ℕ) (x : ℕ) {S from : ℕ} → S ≡ sessionsOf t �
 unfolding itemOk item
 item-here t x p q = let e : suc x - 1 ≡ x = omega arith in rw (q, p, e) refl
 
--- from a well-formed table, each of its records; and back
+-- from a well-formed table, each of its records and the ranks; and back
 module _ (t : List ℕ) where
+  record Parts : Type 0 where
+    sessions : every (sessionsOf t) (sessionOk t) ≡ true
+    items : every (itemsOf t) (itemOk t) ≡ true
+    ranks : Seniority.wellFormed (ranks t) ≡ true
+
+  parts : wellFormed t ≡ true → Parts
+  parts e =
+      let records = every (sessionsOf t) (sessionOk t) && every (itemsOf t) (itemOk t) in
+      let all = and-both records (Seniority.wellFormed (ranks t)) (sym (in-form t) ∙ e) in
+      let both = and-both (every (sessionsOf t) (sessionOk t)) (every (itemsOf t) (itemOk t)) (all .0) in
+      record { sessions = both .0; items = both .1; ranks = all .1 }
+
+  pub well-formed-ranks : wellFormed t ≡ true → Seniority.wellFormed (ranks t) ≡ true
+  well-formed-ranks e = parts e .ranks
+
+  -- so no two sessions are level
+  pub senior-total : wellFormed t ≡ true → StrictTotal (senior t)
+  senior-total e = senior-order (ranks t) (well-formed-ranks e)
+
   pub well-formed-session : wellFormed t ≡ true
       → (k : ℕ) → 1 ≤ k → k ≤ sessionsOf t → SessionRecord.wellFormed (sessionsOf t) (itemsOf t) (session t k) ≡ true
   unfolding sessionOk
-  well-formed-session e =
-      every-at (sessionsOf t) (sessionOk t) (and-both (every (sessionsOf t) (sessionOk t)) (every (itemsOf t) (itemOk t)) (sym (in-form t) ∙ e) .0)
+  well-formed-session e = every-at (sessionsOf t) (sessionOk t) (parts e .sessions)
 
   pub well-formed-item : wellFormed t ≡ true → (x : ℕ) → 1 ≤ x → x ≤ itemsOf t → ItemRecord.wellFormed (sessionsOf t) (item t x) ≡ true
   unfolding itemOk
-  well-formed-item e =
-      every-at (itemsOf t) (itemOk t) (and-both (every (sessionsOf t) (sessionOk t)) (every (itemsOf t) (itemOk t)) (sym (in-form t) ∙ e) .1)
+  well-formed-item e = every-at (itemsOf t) (itemOk t) (parts e .items)
 
   pub well-formed-intro :
       ((k : ℕ) → 1 ≤ k → k ≤ sessionsOf t → SessionRecord.wellFormed (sessionsOf t) (itemsOf t) (session t k) ≡ true)
       → ((x : ℕ) → 1 ≤ x → x ≤ itemsOf t → ItemRecord.wellFormed (sessionsOf t) (item t x) ≡ true)
+      → Seniority.wellFormed (ranks t) ≡ true
       → wellFormed t ≡ true
   unfolding sessionOk itemOk
-  well-formed-intro f g =
-      in-form t ∙ rw (every-intro (sessionsOf t) (sessionOk t) f, every-intro (itemsOf t) (itemOk t) g) refl
+  well-formed-intro f g r =
+      in-form t ∙ rw (every-intro (sessionsOf t) (sessionOk t) f, every-intro (itemsOf t) (itemOk t) g, r) refl
 
 held-in-form : (S M : ℕ) (s : Session) → SessionRecord.wellFormed S M s ≡ true → ltb (s .held) (2 ^ M) ≡ true
 unfolding SessionRecord.wellFormed
@@ -133,6 +161,12 @@ module _ (t : List ℕ) (at : ℕ) (l : List ℕ) (h : at + length l ≤ length 
 
   itemsOf-splice : itemsOf (splice t at l) ≡ itemsOf t
   itemsOf-splice = header-byte 1 (omega arith)
+
+  -- and before the ranks leaves the ranks
+  ranks-splice : at + length l ≤ ranksPlace (sessionsOf t) (itemsOf t) → ranks (splice t at l) ≡ ranks t
+  unfolding ranks
+  ranks-splice b =
+      rw (sessionsOf-splice, itemsOf-splice) (slice-splice-after t at l h (ranksPlace (sessionsOf t) (itemsOf t)) (sessionsOf t) b)
 
   sized-splice : sized (splice t at l) ≡ sized t
   unfolding sized
@@ -169,6 +203,13 @@ module _ (t : List ℕ) (e : sized t ≡ true) where
     unfolding withSession
     sized-withSession = sized-splice t (sessionPlace k) (SessionRecord.sessionBytes s) session-written (omega arith) ∙ e
 
+    pub ranks-withSession : ranks (withSession t k s) ≡ ranks t
+    unfolding withSession
+    ranks-withSession =
+        let f = sized-facts t e in
+        let len = SessionLaws.length-bytes s j in
+        ranks-splice t (sessionPlace k) (SessionRecord.sessionBytes s) session-written (omega arith) (omega arith)
+
     pub session-withSession : s .held < 2 ^ 64 → session (withSession t k s) k ≡ s
     unfolding withSession session
     session-withSession f = SessionLaws.load-store t (sessionPlace k) s (session-fits t e k l h) j f
@@ -203,6 +244,7 @@ module _ (t : List ℕ) (e : sized t ≡ true) where
         well-formed-intro (withSession t k s)
         (λ i g m. rw (sessionsOf-withSession, itemsOf-withSession) (session-kept w f i g (rw (sessionsOf-withSession) at m) (eqb i k) refl))
         (λ x g m. rw (sessionsOf-withSession, item-withSession x) (well-formed-item t w x g (rw (itemsOf-withSession) at m)))
+        (rw (ranks-withSession) (well-formed-ranks t w))
 
   -- the table with the record of item x replaced
   module _ (x : ℕ) (l : 1 ≤ x) (h : x ≤ itemsOf t) (i : Item) (q : length (i .queue) ≡ maxSessions) where
@@ -224,6 +266,12 @@ module _ (t : List ℕ) (e : sized t ≡ true) where
     pub sized-withItem : sized (withItem t x i) ≡ true
     unfolding withItem
     sized-withItem = sized-splice t (itemPlace (sessionsOf t) x) (ItemRecord.itemBytes i) item-written (omega arith) ∙ e
+
+    pub ranks-withItem : ranks (withItem t x i) ≡ ranks t
+    unfolding withItem
+    ranks-withItem =
+        let len = ItemLaws.length-bytes i q in
+        ranks-splice t (itemPlace (sessionsOf t) x) (ItemRecord.itemBytes i) item-written (omega arith) (omega arith)
 
     -- an item of the new table is read at its place in the old one
     item-at : (y : ℕ) → item (withItem t x i) y ≡ ItemRecord.itemAt (withItem t x i) (itemPlace (sessionsOf t) y)
@@ -262,3 +310,4 @@ module _ (t : List ℕ) (e : sized t ≡ true) where
         well-formed-intro (withItem t x i)
         (λ k g m. let n = rw (sessionsOf-withItem) at m in rw (sessionsOf-withItem, itemsOf-withItem, session-withItem k g n) (well-formed-session t w k g n))
         (λ y g m. rw (sessionsOf-withItem) (item-kept w f y g (rw (itemsOf-withItem) at m) (eqb y x) refl))
+        (rw (ranks-withItem) (well-formed-ranks t w))

@@ -1,14 +1,16 @@
--- The bytes of the table: S, M, then the session records, then the item records. RULES is docs/RULES.md.
+-- The bytes of the table: S, M, then the session records, then the item records, then a rank for each session. RULES is docs/RULES.md.
 use Prim.Native.Nat.{ℕ, zero, suc, _+_, _-_, _*_, _≤_}
 use mathlib.Core.Path.{_≡_}
 use mathlib.Core.Bool.{Bool, true, _&&_}
 use mathlib.Core.List.{List, [], _∷_, _++_}
 use lib.Dec.{eqb}
 use lib.ListN.{length, getD}
+use Rattle.buffer.specs.Bytes.{slice}
 use Rattle.lists.specs.Lists.{between, every}
 use Rattle.message.specs.Limits.{maxSessions, maxItems}
 use Rattle.session.specs.declared.Session.{Session}
 use Rattle.session.specs.Record as Session
+use Rattle.session.specs.Seniority
 use Rattle.item.specs.declared.Item.{Item}
 use Rattle.item.specs.Record as Item
 
@@ -19,18 +21,22 @@ header = 2
 abbrev pub sessionPlace : ℕ → ℕ
 sessionPlace t = header + Session.size * (t - 1)
 
--- where the item records begin; that of item x, x from 1; and where they end
+-- where the item records begin, and that of item x, x from 1
 abbrev pub itemsStart : ℕ → ℕ
 itemsStart S = header + Session.size * S
 
 abbrev pub itemPlace : ℕ → ℕ → ℕ
 itemPlace S x = itemsStart S + Item.size * (x - 1)
 
-abbrev pub itemsEnd : ℕ → ℕ → ℕ
-itemsEnd S M = itemsStart S + Item.size * M
+-- what stands behind the items: the ranks, one byte each, and their end
+abbrev pub ranksPlace : ℕ → ℕ → ℕ
+ranksPlace S M = itemsStart S + Item.size * M
+
+abbrev pub ranksEnd : ℕ → ℕ → ℕ
+ranksEnd S M = ranksPlace S M + S
 
 abbrev pub size : ℕ → ℕ → ℕ
-size S M = itemsEnd S M
+size S M = ranksEnd S M
 
 -- S and M
 abbrev pub sessionsOf : List ℕ → ℕ
@@ -57,11 +63,19 @@ item t x = Item.itemAt t (itemPlace (sessionsOf t) x)
 unfoldable pub withItem : List ℕ → ℕ → Item → List ℕ
 withItem t x i = Item.putItem t (itemPlace (sessionsOf t) x) i
 
--- the table is well-formed when every record is: RULES 2.7
+-- the ranks of the sessions, from session 1 on, and who is senior by them
+unfoldable pub ranks : List ℕ → List ℕ
+ranks t = slice t (ranksPlace (sessionsOf t) (itemsOf t)) (sessionsOf t)
+
+abbrev pub senior : List ℕ → ℕ → ℕ → Bool
+senior t = Seniority.senior (ranks t)
+
+-- the table is well-formed when every record is and the ranks are: RULES 2.7
 unfoldable pub wellFormed : List ℕ → Bool
 wellFormed t =
     every (sessionsOf t) (λ k. Session.wellFormed (sessionsOf t) (itemsOf t) (session t k))
     && every (itemsOf t) (λ x. Item.wellFormed (sessionsOf t) (item t x))
+    && Seniority.wellFormed (ranks t)
 
 -- what the code that reads and replaces records asks of a table: session k is one of its sessions
 pub record HasSession (t : List ℕ) (k : ℕ) : Type 0 where
@@ -86,5 +100,6 @@ repeated zero l = []
 repeated (suc n) l = l ++ repeated n l
 
 -- what start writes: RULES 4.3
-unfoldable pub started : ℕ → ℕ → List ℕ
-started S M = S ∷ M ∷ (repeated S (Session.sessionBytes Session.fresh) ++ repeated M (Item.itemBytes (Item.packed Item.free)))
+unfoldable pub started : ℕ → ℕ → List ℕ → List ℕ
+started S M ranks =
+    S ∷ M ∷ (repeated S (Session.sessionBytes Session.fresh) ++ (repeated M (Item.itemBytes (Item.packed Item.free)) ++ ranks))

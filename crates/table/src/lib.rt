@@ -1,4 +1,4 @@
-// The table in a lent buffer: well-formedness, load and store of every record.
+// The table in a lent buffer: well-formedness, load and store of every record, and the ranks.
 use item::Item;
 use message::MAX_ITEMS;
 use message::MAX_SESSIONS;
@@ -8,7 +8,7 @@ ghost use mathlib.Core.Bool.{true};
 ghost use Prim.Native.Nat.{_≤_};
 ghost use lib.ListN.{length};
 ghost use Rattle.message.specs.Limits.{maxSessions, maxItems};
-ghost use Rattle.table.specs.Layout.{header, sessionPlace, itemsStart, itemPlace, itemsEnd, size, sessionsOf, itemsOf, sized, session, withSession, item, withItem, wellFormed, started, HasSession, HasItem};
+ghost use Rattle.table.specs.Layout.{header, sessionPlace, itemsStart, itemPlace, ranksPlace, ranksEnd, size, sessionsOf, itemsOf, sized, session, withSession, item, withItem, ranks, wellFormed, started, HasSession, HasItem};
 
 // S and M stand in the header.
 const HEADER: usize = 2;
@@ -18,7 +18,10 @@ const SESSIONS_PLACE: usize = 0;
 const ITEMS_PLACE: usize = 1;
 
 // The bytes of the largest table.
-pub const MAX_SIZE: usize = HEADER + Session::SIZE * MAX_SESSIONS + Item::SIZE * MAX_ITEMS;
+pub const MAX_SIZE: usize = HEADER
+    + Session::SIZE * MAX_SESSIONS
+    + Item::SIZE * MAX_ITEMS
+    + MAX_SESSIONS;
 
 // S and M.
 pub fn sessions(t: &[u8]) -> u8
@@ -42,18 +45,24 @@ fn items_start(s: u8) -> usize
     HEADER + Session::SIZE * s as usize
 }
 
-// Where the records of m items end.
-pub fn items_end(s: u8, m: u8) -> usize
-    ensures { λ r. ⌜ r ≡ itemsEnd s m ⌝ }
+// Where the ranks begin, behind the records of m items, and where they end.
+fn ranks_place(s: u8, m: u8) -> usize
+    ensures { λ r. ⌜ r ≡ ranksPlace s m ⌝ }
 {
     items_start(s) + Item::SIZE * m as usize
+}
+
+fn ranks_end(s: u8, m: u8) -> usize
+    ensures { λ r. ⌜ r ≡ ranksEnd s m ⌝ }
+{
+    ranks_place(s, m) + s as usize
 }
 
 // The bytes of a table with s sessions and m items.
 pub fn size(s: u8, m: u8) -> usize
     ensures { λ r. ⌜ r ≡ size s m ⌝ }
 {
-    items_end(s, m)
+    ranks_end(s, m)
 }
 
 // Where the record of session k stands.
@@ -87,7 +96,19 @@ pub fn sized(t: &[u8]) -> bool
         & (t.len() == size(s, m))
 }
 
-// Whether every record is well-formed.
+// The ranks, from session 1 on.
+pub fn ranks(t: &[u8]) -> &[u8]
+    requires { ⌜ sized (now t) ≡ true ⌝ }
+    ensures { λ r. ⌜ now r ≡ ranks (now (t .entry)) ⌝ }
+{
+    let s = sessions(t);
+    let m = items(t);
+    let from = ranks_place(s, m);
+    let end = ranks_end(s, m);
+    &t[from..end]
+}
+
+// Whether every record is well-formed, and the ranks.
 pub fn well_formed(t: &[u8]) -> bool
     requires { ⌜ sized (now t) ≡ true ⌝ }
     ensures { λ r. ⌜ r ≡ wellFormed (now (t .entry)) ⌝ }
@@ -115,7 +136,7 @@ pub fn well_formed(t: &[u8]) -> bool
             return false;
         }
     }
-    true
+    form::ranks(ranks(t))
 }
 
 // The record of session k.
@@ -159,10 +180,10 @@ pub fn put_item(t: &mut [u8], x: u8, i: Item)
     i.store(t, at);
 }
 
-// Writes the table of a lock manager that starts, with so many sessions and items.
-pub fn clear(t: &mut [u8], sessions: u8, items: u8)
-    requires { ⌜ (1 ≤ sessions) × (sessions ≤ maxSessions) × (1 ≤ items) × (items ≤ maxItems) × (length (now t) ≡ size sessions items) ⌝ }
-    ensures { λ _. ⌜ now (t .exit) ≡ started sessions items ⌝ }
+// Writes the table of a lock manager that starts, with so many sessions and items, and these ranks.
+pub fn clear(t: &mut [u8], sessions: u8, items: u8, ranks: &[u8])
+    requires { ⌜ (1 ≤ sessions) × (sessions ≤ maxSessions) × (1 ≤ items) × (items ≤ maxItems) × (length (now t) ≡ size sessions items) × (length (now ranks) ≡ sessions) ⌝ }
+    ensures { λ _. ⌜ now (t .exit) ≡ started sessions items (now (ranks .entry)) ⌝ }
 {
     buffer::clear(t);
     t[SESSIONS_PLACE] = sessions;
@@ -173,4 +194,5 @@ pub fn clear(t: &mut [u8], sessions: u8, items: u8)
         t[HEADER + Session::SIZE * k] = Session::GROWING;
         k += 1;
     }
+    buffer::put_bytes(t, ranks_place(sessions, items), ranks);
 }

@@ -17,6 +17,8 @@ use Rattle.message.specs.Limits.{maxSessions, maxItems}
 use Rattle.mailbox.specs.Layout as Mail
 use Rattle.mailbox.proofs.Laws.{sized-mail, wellFormed-mail, sized-facts, formed-facts}
 use Rattle.table.specs.Layout as Table
+use Rattle.session.specs.Seniority.{plain}
+use Rattle.session.proofs.Seniority.{plain-length, plain-formed}
 use Rattle.table.proofs.StartLaws.{sessionsOf-started, itemsOf-started, sized-started, wellFormed-started}
 use Rattle.step.specs.declared.Answer.{Answer}
 use Rattle.step.specs.Step.{Stepped, stepped, Formed}
@@ -91,35 +93,42 @@ pub record Played (input out₀ table mail out : List ℕ) (t : Tally) (at k : �
 -- none is done
 module _ (input : List ℕ) (w : wellFormed input ≡ true) where
   abbrev given : Config
-  given = config (sessionsIn input) (itemsIn input) capacity
+  given = config (sessionsIn input) (itemsIn input) capacity (plain (sessionsIn input))
 
   startable : (table mail : List ℕ) → length table ≡ Table.size (sessionsIn input) (itemsIn input) → length mail ≡ Mail.size capacity → Startable given table mail
   startable table mail ht hm =
       let k = known input w in
       record {
-        some-sessions = k .some-sessions;
-        max-sessions = k .max-sessions;
-        some-items = k .some-items;
-        max-items = k .max-items;
-        some-room = omega arith;
-        max-room = omega arith;
-        table-whole = ht;
-        mail-whole = hm;
+        sizes = record {
+          some-sessions = k .some-sessions;
+          max-sessions = k .max-sessions;
+          some-items = k .some-items;
+          max-items = k .max-items;
+          some-room = omega arith;
+          max-room = omega arith;
+          ranks-whole = plain-length (sessionsIn input);
+          table-whole = ht;
+          mail-whole = hm;
+        };
+        ranks = plain-formed (sessionsIn input);
       }
 
   -- its lock manager starts, in any buffers of the right sizes
+  abbrev begun : List ℕ
+  begun = Table.started (sessionsIn input) (itemsIn input) (plain (sessionsIn input))
+
   starts : (table mail : List ℕ) → length table ≡ Table.size (sessionsIn input) (itemsIn input) → length mail ≡ Mail.size capacity
-      → start given table mail ≡ startResult 0 (Table.started (sessionsIn input) (itemsIn input)) (Mail.mailBytes capacity [])
+      → start given table mail ≡ startResult 0 begun (Mail.mailBytes capacity [])
   unfolding start
   starts table mail ht hm = rw (start-none given table mail (startable table mail ht hm)) refl
 
-  opens : replayStart (sessionsIn input) (itemsIn input) ≡ startResult 0 (Table.started (sessionsIn input) (itemsIn input)) (Mail.mailBytes capacity [])
+  opens : replayStart (sessionsIn input) (itemsIn input) ≡ startResult 0 begun (Mail.mailBytes capacity [])
   unfolding replayStart
   opens =
       starts (replicate (Table.size (sessionsIn input) (itemsIn input)) 0) (replicate (Mail.size capacity) 0)
       (length-replicate {A = ℕ} (Table.size (sessionsIn input) (itemsIn input)) 0) (length-replicate {A = ℕ} (Mail.size capacity) 0)
 
-  formed-start : Formed (Table.started (sessionsIn input) (itemsIn input)) (Mail.mailBytes capacity [])
+  formed-start : Formed begun (Mail.mailBytes capacity [])
   unfolding all
   formed-start =
       let k = known input w in
@@ -127,11 +136,11 @@ module _ (input : List ℕ) (w : wellFormed input ≡ true) where
       let M = itemsIn input in
       record {
         records = record {
-          sized = sized-started S M (k .some-sessions) (k .max-sessions) (k .some-items) (k .max-items);
-          formed = wellFormed-started S M;
+          sized = sized-started S M (plain S) (plain-length S) (k .some-sessions) (k .max-sessions) (k .some-items) (k .max-items);
+          formed = wellFormed-started S M (plain S) (plain-length S) (plain-formed S);
         };
         mail-sized = sized-mail capacity [] (omega arith) (omega arith) zero-le;
-        mail-formed = rw (sessionsOf-started S M, itemsOf-started S M) (wellFormed-mail capacity [] (omega arith) (omega arith) zero-le S M refl);
+        mail-formed = rw (sessionsOf-started S M (plain S), itemsOf-started S M (plain S)) (wellFormed-mail capacity [] (omega arith) (omega arith) zero-le S M refl);
       }
 
   pub none-done : (out table mail : List ℕ) {table′ mail′ : List ℕ} {r : ℕ} → length table ≡ Table.size (sessionsIn input) (itemsIn input) → length mail ≡ Mail.size capacity

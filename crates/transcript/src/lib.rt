@@ -9,8 +9,11 @@ ghost use mathlib.Core.Bool.{true};
 ghost use Prim.Native.Nat.{_+_, _≤_, _<_};
 ghost use lib.ListN.{length};
 ghost use Rattle.buffer.specs.Bytes.{splice};
+ghost use Rattle.message.specs.Limits.{maxSessions};
+ghost use Rattle.session.specs.Seniority.{plain};
 ghost use Rattle.mailbox.specs.Layout as Mail;
 ghost use Rattle.table.specs.Layout as Table;
+ghost use Rattle.lockmgr.specs.Calls.{config, startResult, start};
 ghost use Rattle.tally.specs.Steps.{stepOf, tallyOf};
 ghost use Rattle.io.specs.Counts.{Counts};
 ghost use Rattle.program.specs.Program.{output, atStart};
@@ -102,18 +105,42 @@ fn put_end(out: &mut [u8], at: usize, left: u64, t: Tally) -> usize
     text::end_line(out, next, &numbers)
 }
 
+// Rank k for session k.
+fn plain_ranks() -> [u8; MAX_SESSIONS]
+    ensures { λ r. ⌜ r ≡ plain maxSessions ⌝ }
+{
+    let mut ranks = [0u8; MAX_SESSIONS];
+    let mut k: usize = 0;
+    while k < MAX_SESSIONS {
+        ranks[k] = (k + 1) as u8;
+        k += 1;
+    }
+    ranks
+}
+
+// Starts a lock manager of s sessions and m items.
+fn begin(s: u8, m: u8, table: &mut [u8], mail: &mut [u8]) -> u8
+    requires { ⌜ s ≤ maxSessions ⌝ }
+    ensures { λ r. ⌜ startResult r (now (table .exit)) (now (mail .exit)) ≡ start (config s m capacity (plain s)) (now (table .entry)) (now (mail .entry)) ⌝ }
+{
+    let ranks = plain_ranks();
+    let n = s as usize;
+    lockmgr::lockmgr_start(
+        s as u64,
+        m as u64,
+        CAPACITY as u64,
+        &ranks[..n],
+        table,
+        mail,
+    )
+}
+
 // The steps of a well-formed input, in buffers for its lock manager.
 fn play(input: &[u8], table: &mut [u8], mail: &mut [u8], out: &mut [u8]) -> usize
     requires { ⌜ (Input.wellFormed (now input) ≡ true) × (length (now table) ≡ Table.size (Input.sessionsIn (now input)) (Input.itemsIn (now input))) × (length (now mail) ≡ Mail.size capacity) × (longest ≤ length (now out)) ⌝ }
     ensures { λ r. ⌜ (now (out .exit) ≡ splice (now (out .entry)) 0 (transcript (now (input .entry)))) × (r ≡ length (transcript (now (input .entry)))) × (r ≤ longest) ⌝ }
 {
-    lockmgr::lockmgr_start(
-        input[0] as u64,
-        input[1] as u64,
-        CAPACITY as u64,
-        table,
-        mail,
-    );
+    begin(input[0], input[1], table, mail);
     let n = buffer::get16(input, 2) as usize;
     let mut tally = Tally {
         closed: 0,

@@ -1,7 +1,6 @@
 -- Waits and cycles of a table.
 use Prim.Native.Nat.{ℕ}
 use mathlib.Core.List.{List}
-use Rattle.session.specs.Seniority.{senior}
 use Rattle.item.specs.Record.{Lock, unpacked}
 use Rattle.table.specs.Layout as Table
 use Rattle.waits.specs.declared.Wait.{Wait}
@@ -26,7 +25,7 @@ cycleLength table t = Waits.cycleLength (waitsFor table) (Table.sessionsOf table
 
 -- the number of standing cycles
 abbrev pub cycles : List ℕ → ℕ
-cycles table = Waits.cycles (waitsFor table) (Table.sessionsOf table) senior
+cycles table = Waits.cycles (waitsFor table) (Table.sessionsOf table) (Table.senior table)
 
 -- session t, the item at which it waits, and the session for which it waits
 abbrev pub wait : List ℕ → ℕ → Wait
@@ -34,8 +33,8 @@ wait table t = Cycle.wait (waitsAt table) (waitsFor table) t
 
 -- the most senior member of the cycle on which t lies
 abbrev pub leader : List ℕ → ℕ → ℕ
-leader table t = Cycle.leader (waitsFor table) (Table.sessionsOf table) senior t
+leader table t = Cycle.leader (waitsFor table) (Table.sessionsOf table) (Table.senior table) t
 
 -- the cycle on which t lies, from there and once round
 abbrev pub cycle : List ℕ → ℕ → List Wait
-cycle table t = Cycle.cycle (waitsAt table) (waitsFor table) (Table.sessionsOf table) senior t
+cycle table t = Cycle.cycle (waitsAt table) (waitsFor table) (Table.sessionsOf table) (Table.senior table) t

@@ -11,18 +11,18 @@ use Rattle.lockmgr.proofs.lockmgr_start.Tie as tie
 
 -- what start_refusal judged
 abbrev refusal : tie.Start → ℕ
-refusal s = startRefusal (config (s .args .sessions) (s .args .items) (s .args .capacity)) (s .args .table .now) (s .args .mail .now)
+refusal s = startRefusal (config (s .args .sessions) (s .args .items) (s .args .capacity) (s .args .ranks .now)) (s .args .table .now) (s .args .mail .now)
 
-refused : (c : tie.Then1) → refusal (c .before .before .before .before .before .before) ≡ 0 → ⊥
+refused : (c : tie.Then1) → refusal (c .before .before .before .before .before .before .before) ≡ 0 → ⊥
 refused c z = c .if1 .taken (c .before .start-refusal .ensures ∙ z)
 
-admitted : (c : tie.Else1) → refusal (c .before .before .before .before .before .before) ≡ 0
+admitted : (c : tie.Else1) → refusal (c .before .before .before .before .before .before .before) ≡ 0
 admitted c = sym (c .before .start-refusal .ensures) ∙ c .if1 .left
 
 abbrev Known : tie.Start → Type 0
-Known s = Startable (config (s .args .sessions) (s .args .items) (s .args .capacity)) (s .args .table .now) (s .args .mail .now)
+Known s = Startable (config (s .args .sessions) (s .args .items) (s .args .capacity) (s .args .ranks .now)) (s .args .table .now) (s .args .mail .now)
 
-known : (c : tie.Else1) → Known (c .before .before .before .before .before .before)
+known : (c : tie.Else1) → Known (c .before .before .before .before .before .before .before)
 known c = start-zero _ _ _ (admitted c)
 
 start-refusal-requires : tie.Need-start-refusal-requires
@@ -37,21 +37,21 @@ same-length-2 c = search needs
 returns : tie.Need-returns
 unfolding start
 returns c =
-    let s = c .before .before .before .before .before .before in
+    let s = c .before .before .before .before .before .before .before in
     rw (ne-eqb (refusal s) 0 (refused c), c .before .start-refusal .ensures) refl
 
 cast-clear : tie.Need-cast-clear
-cast-clear c = omega (arith, known (c .before))
+cast-clear c = omega (arith, known (c .before) .sizes)
 
 cast-clear-2 : tie.Need-cast-clear-2
-cast-clear-2 c = omega (arith, known (c .before))
+cast-clear-2 c = omega (arith, known (c .before) .sizes)
 
 clear-requires : tie.Need-clear-requires
 clear-requires c κs =
-    let f = known (c .before) in (f .some-sessions, f .max-sessions, f .some-items, f .max-items, f .table-whole)
+    let f = known (c .before) .sizes in (f .some-sessions, f .max-sessions, f .some-items, f .max-items, f .table-whole, f .ranks-whole)
 
 clear-requires-2 : tie.Need-clear-requires-2
-clear-requires-2 c κs = let f = known (c .before .before .before .before .before) in (f .some-room, f .max-room, f .mail-whole)
+clear-requires-2 c κs = let f = known (c .before .before .before .before .before) .sizes in (f .some-room, f .max-room, f .mail-whole)
 
 same-length-3 : tie.Need-same-length-3
 same-length-3 c = search needs

@@ -14,19 +14,22 @@ use Rattle.step.proofs.item_receives.Tie as tie
 item-requires : tie.Need-item-requires
 item-requires c κs = search needs
 
+ranks-requires : tie.Need-ranks-requires
+ranks-requires c κs = c .before .before .before .pre .item .sized
+
 message-to-item-requires : tie.Need-message-to-item-requires
 message-to-item-requires c κs = search needs
 
 receive-requires : tie.Need-receive-requires
-receive-requires c κs = rw (c .before .item .ensures) (c .before .before .before .before .pre .packed)
+receive-requires c κs = rw (c .before .before .item .ensures) (c .before .before .before .before .before .pre .packed)
 
 returns : tie.Need-returns
 unfolding locks
 returns c =
-    let s = c .before .before .before .before .before in
+    let s = c .before .before .before .before .before .before in
     let e = entryAt (s .args .mail .now) (s .args .k) in
-    let does : c .receive .result ≡ Item.stepOf (itemReceives (s .args .x) (s .args .table .now) e) = c .receive .ensures ∙ rw (c .before .before .item .ensures, c .before .message-to-item .ensures) refl in
+    let does : c .receive .result ≡ Item.stepOf (itemReceives (s .args .x) (s .args .table .now) e) = c .receive .ensures ∙ rw (c .before .before .before .item .ensures, c .before .before .ranks .ensures, c .before .message-to-item .ensures) refl in
     (does, omega (arith, ap (λ (r : ItemStep). r .outbox .n) does, item-sends-few (s .args .x) (s .args .table .now) e (s .pre .packed)))
 
 pub item-receives-spec : {M : Type 1} → statement M
-item-receives-spec = tie.close (tie.spec item-requires message-to-item-requires receive-requires returns)
+item-receives-spec = tie.close (tie.spec item-requires ranks-requires message-to-item-requires receive-requires returns)

@@ -14,20 +14,23 @@ use Rattle.step.proofs.session_receives.Tie as tie
 session-requires : tie.Need-session-requires
 session-requires c κs = search needs
 
+ranks-requires : tie.Need-ranks-requires
+ranks-requires c κs = c .before .before .before .pre .session .sized
+
 message-to-session-requires : tie.Need-message-to-session-requires
 message-to-session-requires c κs = search needs
 
 receive-requires : tie.Need-receive-requires
-receive-requires c κs = rw (c .message-to-session .ensures) (c .before .before .before .before .pre .deliverable)
+receive-requires c κs = rw (c .message-to-session .ensures) (c .before .before .before .before .before .pre .deliverable)
 
 returns : tie.Need-returns
 returns c =
-    let s = c .before .before .before .before .before in
+    let s = c .before .before .before .before .before .before in
     let h = s .pre .session in
     let e = entryAt (s .args .mail .now) (s .args .k) in
-    let does : c .receive .result ≡ Session.stepOf (sessionReceives (s .args .t) (s .args .table .now) e) = c .receive .ensures ∙ rw (c .before .before .session .ensures, c .before .message-to-session .ensures) refl in
+    let does : c .receive .result ≡ Session.stepOf (sessionReceives (s .args .t) (s .args .table .now) e) = c .receive .ensures ∙ rw (c .before .before .before .session .ensures, c .before .before .ranks .ensures, c .before .message-to-session .ensures) refl in
     let few = session-sends-few (s .args .t) (s .args .table .now) e (juniors-length (s .args .table .now) (h .sized) (s .args .t) (h .low) (h .high)) in
     (does, omega (arith, ap (λ (r : SessionStep). r .outbox .n) does, few))
 
 pub session-receives-spec : {M : Type 1} → statement M
-session-receives-spec = tie.close (tie.spec session-requires message-to-session-requires receive-requires returns)
+session-receives-spec = tie.close (tie.spec session-requires ranks-requires message-to-session-requires receive-requires returns)

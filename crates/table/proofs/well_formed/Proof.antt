@@ -7,7 +7,7 @@ use borrow.Author.Needs.{needs}
 use Rattle.lists.specs.Lists.{every}
 use Rattle.lists.proofs.Searches.{every-more}
 use Rattle.table.specs.Layout.{itemsStart, sessionsOf, itemsOf}
-use Rattle.table.proofs.Laws.{Sized, sized-facts, header-fits, sessionOk, itemOk, in-form, sessions-false, items-false, session-here, item-here}
+use Rattle.table.proofs.Laws.{Sized, sized-facts, header-fits, ranks-length, sessionOk, itemOk, in-form, sessions-false, items-false, session-here, item-here}
 use Rattle.table.proofs.well_formed.Statement.{statement}
 use Rattle.table.proofs.well_formed.Tie as tie
 
@@ -132,12 +132,20 @@ returns-2 c =
     let x = l .loop2 .x in
     sym (items-false t (suc x) (omega arith) (omega arith) (sym (item-here t x (v .1) (v .3)) ∙ sym (c .before .item .ensures) ∙ c .if2 .left))
 
+ranks-requires : tie.Need-ranks-requires Inv-loop μ-loop Inv-loop2 μ-loop2
+ranks-requires c κs = c .before .before .before .before .before .before .before .before .before .before .pre
+
+ranks-requires-2 : tie.Need-ranks-requires-2 Inv-loop μ-loop Inv-loop2 μ-loop2
+ranks-requires-2 c κs =
+    let s = c .before .before .before .before .before .before .before .before .before .before .before in
+    rw (c .ranks .ensures) (omega (arith, ranks-length (s .args .t .now) (s .pre), sized-facts (s .args .t .now) (s .pre) .max-sessions))
+
 returns-3 : tie.Need-returns-3 Inv-loop μ-loop Inv-loop2 μ-loop2
 returns-3 c =
-    let l = c .before .loop2 in
-    let t = c .before .before .before .before .before .before .before .before .before .before .args .t .now in
+    let l = c .before .before .before .loop2 in
+    let t = c .before .before .before .before .before .before .before .before .before .before .before .before .args .t .now in
     let all : l .x ≡ itemsOf t = omega arith in
-    sym (in-form t ∙ rw (l .inv .5, rw (all) at (l .inv .6)) refl)
+    c .ranks2 .ensures ∙ rw (c .before .ranks .ensures) (sym (in-form t ∙ rw (l .inv .5, rw (all) at (l .inv .6)) refl))
 
 pub well-formed-spec : {M : Type 1} → statement M
 well-formed-spec =
@@ -170,4 +178,6 @@ well-formed-spec =
     loop2-less
     loop2-again
     returns-2
+    ranks-requires
+    ranks-requires-2
     returns-3)

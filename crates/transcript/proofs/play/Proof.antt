@@ -31,20 +31,14 @@ steps c = c .get16 .ensures
 room : (c : tie.At-loop Inv-loop μ-loop) → c .loop .at + longestLine ≤ length (c .loop .out)
 room c = let p = c .loop .inv .2 in let i = input (begin (c .before)) in omega (arith, begin (c .before) .pre .3)
 
-shared-slice-read-lockmgr-start : tie.Need-shared-slice-read-lockmgr-start Inv-loop μ-loop
-shared-slice-read-lockmgr-start c = let i = input (c .before .before .before .before .before) in omega arith
+shared-slice-read-begin : tie.Need-shared-slice-read-begin Inv-loop μ-loop
+shared-slice-read-begin c = let i = input (c .before .before .before .before .before) in omega arith
 
-cast-lockmgr-start : tie.Need-cast-lockmgr-start Inv-loop μ-loop
-cast-lockmgr-start c = omega (arith, c .shared-slice-known2 .given 0)
+shared-slice-read-begin-2 : tie.Need-shared-slice-read-begin-2 Inv-loop μ-loop
+shared-slice-read-begin-2 c = let i = input (c .before .before .before .before .before .before) in omega arith
 
-shared-slice-read-lockmgr-start-2 : tie.Need-shared-slice-read-lockmgr-start-2 Inv-loop μ-loop
-shared-slice-read-lockmgr-start-2 c = let i = input (c .before .before .before .before .before .before) in omega arith
-
-cast-lockmgr-start-2 : tie.Need-cast-lockmgr-start-2 Inv-loop μ-loop
-cast-lockmgr-start-2 c = omega (arith, c .shared-slice-known3 .given 1)
-
-lockmgr-start-requires : tie.Need-lockmgr-start-requires Inv-loop μ-loop
-lockmgr-start-requires c κs = tt
+begin-requires : tie.Need-begin-requires Inv-loop μ-loop
+begin-requires c κs = input (c .before .before .before .before .before .before .before .before) .max-sessions
 
 get16-requires : tie.Need-get16-requires Inv-loop μ-loop
 get16-requires c κs = let i = input (c .before .before .before .before .before .before .before .before .before .before .before .before .before) in omega arith
@@ -53,7 +47,7 @@ loop-holds : tie.Need-loop-holds Inv-loop μ-loop
 loop-holds c =
     let s = begin c in
     let a = s .args in
-    let o = c .before .before .before .before .before .lockmgr-start in
+    let o = c .before .before .before .before .before .begin in
     (refl, refl, none-done (a .input .now) (s .pre .0) (a .out .now) (a .table .now) (a .mail .now) (s .pre .1) (s .pre .2) (o .ensures))
 
 read-step-requires : tie.Need-read-step-requires Inv-loop μ-loop
@@ -103,10 +97,10 @@ put-end-requires c κs =
     (omega (arith, c .count .ensures, left-few (p .formed) .1), omega arith, omega arith, omega arith, room l)
 
 same-length : tie.Need-same-length Inv-loop μ-loop
-same-length c = let l = c .before .before .before .before .before .before .before in l .loop .inv .0 ∙ l .before .before .before .before .before .before .lockmgr-start .kept .1 .1 .1 .0
+same-length c = let l = c .before .before .before .before .before .before .before in l .loop .inv .0 ∙ l .before .before .before .before .before .before .begin .kept .1 .1 .0
 
 same-length-2 : tie.Need-same-length-2 Inv-loop μ-loop
-same-length-2 c = let l = c .before .before .before .before .before .before .before in l .loop .inv .1 ∙ l .before .before .before .before .before .before .lockmgr-start .kept .1 .1 .1 .1 .0
+same-length-2 c = let l = c .before .before .before .before .before .before .before in l .loop .inv .1 ∙ l .before .before .before .before .before .before .begin .kept .1 .1 .1 .0
 
 same-length-3 : tie.Need-same-length-3 Inv-loop μ-loop
 same-length-3 c = c .before .before .put-end .kept .0 ∙ c .before .before .before .before .before .before .before .loop .inv .2 .same
@@ -127,11 +121,9 @@ play-spec =
     (tie.spec
     Inv-loop
     μ-loop
-    shared-slice-read-lockmgr-start
-    cast-lockmgr-start
-    shared-slice-read-lockmgr-start-2
-    cast-lockmgr-start-2
-    lockmgr-start-requires
+    shared-slice-read-begin
+    shared-slice-read-begin-2
+    begin-requires
     get16-requires
     loop-holds
     read-step-requires

@@ -15,22 +15,22 @@ single-requires : tie.Need-single-requires
 single-requires c κs = search needs
 
 probes-requires : tie.Need-probes-requires
-probes-requires c κs = (c .before .pre .fits, rw (c .single .ensures) (omega arith))
+probes-requires c κs = (c .before .before .pre .fits, rw (c .single .ensures) (omega arith))
 
 resends-requires : tie.Need-resends-requires
 resends-requires c κs =
-    let s = c .before .before in
+    let s = c .before .before .before in
     let i = s .args .self in (
       s .pre .fits,
-      probes-fit senior (i .holder) (unpacked i .queue) (plain (i .holder) Kind.grant ∷ []) (c .probes .result) (omega arith) (omega (arith, queue-length i (s .pre))) (c .probes .ensures _ (c .before .single .ensures)),
+      probes-fit (senior (s .args .ranks .now)) (i .holder) (unpacked i .queue) (plain (i .holder) Kind.grant ∷ []) (c .probes .result) (omega arith) (omega (arith, queue-length i (s .pre))) (c .probes .ensures _ (c .before .single .ensures)),
     )
 
 returns : tie.Need-returns
 unfolding handedOver
 returns c =
-    let s = c .before .before .before in
+    let s = c .before .before .before .before in
     let i = s .args .self in
-    step-eq _ _ _ (unpacked i) (plain (i .holder) Kind.grant ∷ (probes senior (i .holder) (unpacked i .queue) ++ resends (unpacked i .queue))) (s .pre .zeros)
+    step-eq _ _ _ (unpacked i) (plain (i .holder) Kind.grant ∷ (probes (senior (s .args .ranks .now)) (i .holder) (unpacked i .queue) ++ resends (unpacked i .queue))) (s .pre .zeros)
     (c .resends .ensures _ (c .before .probes .ensures _ (c .before .before .single .ensures)))
 
 pub handed-over-spec : {M : Type 1} → statement M

@@ -5,9 +5,8 @@ use Prim.Native.Nat.{_-_, _≤_}
 use native.Mathlib.Numerals.{add-one}
 use native.Mathlib.Omega.{arith}
 use lib.ListN.{length}
-use Rattle.lists.proofs.Orders.{weak}
 use Rattle.session.specs.Seniority.{senior}
-use Rattle.session.proofs.Seniority.{senior-order}
+use Rattle.session.proofs.Seniority.{senior-weak}
 use Rattle.session.proofs.Laws.{array-length}
 use Rattle.item.specs.NextHolder.{nextHolder}
 use Rattle.item.proofs.MostSenior.{Leads, leads-one, leads-new, leads-still, leads-place}
@@ -15,16 +14,16 @@ use Rattle.item.proofs.Item.next_holder.Statement.{statement}
 use Rattle.item.proofs.Item.next_holder.Tie as tie
 
 abbrev Inv-loop : tie.InvT-loop
-Inv-loop queue n next₀ i₀ next i = (i ≤ n) × Leads senior queue i next
+Inv-loop ranks queue n next₀ i₀ next i = (i ≤ n) × Leads (senior ranks) queue i next
 
 abbrev μ-loop : tie.MeasureT-loop
-μ-loop queue n next₀ i₀ next i = n - i
+μ-loop ranks queue n next₀ i₀ next i = n - i
 
 cast-n : tie.Need-cast-n Inv-loop μ-loop
 cast-n c = omega arith
 
 loop-holds : tie.Need-loop-holds Inv-loop μ-loop
-loop-holds c = (omega arith, leads-one (weak senior-order) _)
+loop-holds c = (omega arith, leads-one (senior-weak _) _)
 
 array-read-senior : tie.Need-array-read-senior Inv-loop μ-loop
 array-read-senior c = omega arith
@@ -43,26 +42,29 @@ loop-less c = omega arith
 
 loop-again : tie.Need-loop-again Inv-loop μ-loop
 loop-again c =
-    let q = c .before .before .before .before .before .before .args .self .queue in
+    let s = c .before .before .before .before .before .before .before in
+    let r = s .args .ranks .now in
+    let q = s .args .self .queue in
     let l = c .before .before .before .loop in
     let e = c .before .senior .ensures in (
       omega arith,
       rw (add-one)
           (⊎-elim
-          (λ w. rw (w .1) (leads-new (weak senior-order) q (l .i) (l .next) (l .inv .1) (sym e ∙ w .0 .taken)))
-          (λ w. rw (w .1) (leads-still (weak senior-order) q (l .i) (l .next) (l .inv .1) (sym e ∙ w .0 .left)))
+          (λ w. rw (w .1) (leads-new (senior-weak r) q (l .i) (l .next) (l .inv .1) (sym e ∙ w .0 .taken)))
+          (λ w. rw (w .1) (leads-still (senior-weak r) q (l .i) (l .next) (l .inv .1) (sym e ∙ w .0 .left)))
           (c .if1 .came)),
     )
 
 returns : tie.Need-returns Inv-loop μ-loop
 unfolding nextHolder
 returns c =
-    let s = c .before .before .before .before in
+    let s = c .before .before .before .before .before in
+    let r = s .args .ranks .now in
     let l = c .before .loop in
     let q = s .args .self .queue in
     let len : length q ≡ 64 = array-length q (s .good .0 .1 .1 .1 .1 .0 .1 .0 .1) in
     let all : l .i ≡ s .args .self .waiting = omega arith in
-    let place = leads-place (weak senior-order) q (s .args .self .waiting) (l .next) (omega arith) (rw (← all) (l .inv .1)) in
+    let place = leads-place (senior-weak r) q (s .args .self .waiting) (l .next) (omega arith) (rw (← all) (l .inv .1)) in
     (sym place, omega (arith, l .inv .1 .inside))
 
 pub next-holder-spec : {M : Type 1} → statement M

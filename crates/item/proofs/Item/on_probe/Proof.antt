@@ -28,7 +28,7 @@ returns-2 : tie.Need-returns-2
 unfolding onProbe
 returns-2 c =
     let b = c .before .before .before in
-    let s = b .before .before in
+    let s = b .before .before .before in
     rw (← b .before .waits .ensures, ← b .senior .ensures, c .before .before .if1 .left, eq-eqb _ _ (c .before .if2 .taken))
     (step-eq _ _ _ (unpacked (s .args .self)) _ (s .pre .zeros) (c .single .ensures))
 
@@ -39,7 +39,7 @@ returns-3 : tie.Need-returns-3
 unfolding onProbe
 returns-3 c =
     let b = c .before .before .before in
-    let s = b .before .before in
+    let s = b .before .before .before in
     rw (← b .before .waits .ensures, ← b .senior .ensures, c .before .before .if1 .left, ne-eqb _ _ (c .before .if2 .left))
     (step-eq _ _ _ (unpacked (s .args .self)) _ (s .pre .zeros) (c .single2 .ensures))
 

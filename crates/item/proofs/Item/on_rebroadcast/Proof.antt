@@ -21,21 +21,21 @@ empty-requires : tie.Need-empty-requires
 empty-requires c κs = search needs
 
 probes-requires : tie.Need-probes-requires
-probes-requires c κs = (c .before .before .before .pre .fits, rw (c .empty .ensures) (omega arith))
+probes-requires c κs = (c .before .before .before .before .pre .fits, rw (c .empty .ensures) (omega arith))
 
 resends-requires : tie.Need-resends-requires
 resends-requires c κs =
-    let s = c .before .before .before .before in
+    let s = c .before .before .before .before .before in
     let i = s .args .self in
-    (s .pre .fits, probes-fit senior (i .holder) (unpacked i .queue) [] (c .probes .result) (omega arith) (omega (arith, queue-length i (s .pre))) (c .probes .ensures _ (c .before .empty .ensures)))
+    (s .pre .fits, probes-fit (senior (s .args .ranks .now)) (i .holder) (unpacked i .queue) [] (c .probes .result) (omega arith) (omega (arith, queue-length i (s .pre))) (c .probes .ensures _ (c .before .empty .ensures)))
 
 returns-2 : tie.Need-returns-2
 unfolding onRebroadcast
 returns-2 c =
-    let s = c .before .before .before .before .before in
+    let s = c .before .before .before .before .before .before in
     let i = s .args .self in
     rw (ne-eqb _ _ (c .before .before .before .if1 .left))
-    (step-eq _ _ _ (unpacked i) (probes senior (i .holder) (unpacked i .queue) ++ resends (unpacked i .queue)) (s .pre .zeros) (c .resends .ensures _ (c .before .probes .ensures _ (c .before .before .empty .ensures))))
+    (step-eq _ _ _ (unpacked i) (probes (senior (s .args .ranks .now)) (i .holder) (unpacked i .queue) ++ resends (unpacked i .queue)) (s .pre .zeros) (c .resends .ensures _ (c .before .probes .ensures _ (c .before .before .empty .ensures))))
 
 pub on-rebroadcast-spec : {M : Type 1} → statement M
 on-rebroadcast-spec =

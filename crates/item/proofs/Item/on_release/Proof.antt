@@ -1,5 +1,5 @@
 -- `Item::on_release` meets its contract: the next holder is taken out of the queue at its place.
-use mathlib.Core.Path.{_≡_}
+use mathlib.Core.Path.{_≡_, _∙_}
 use Prim.Native.Nat.{_<_}
 use native.Mathlib.Omega.{arith}
 use borrow.Author.Tests.{eq-eqb, ne-eqb}
@@ -11,7 +11,7 @@ use Rattle.session.specs.Seniority.{senior}
 use Rattle.item.specs.NextHolder.{nextHolder}
 use Rattle.item.specs.Record.{unpacked}
 use Rattle.item.specs.Rules.{onRelease}
-use Rattle.item.proofs.Laws.{queue-length, holds-queue, holds-other, holds-packed, vacated-more}
+use Rattle.item.proofs.Laws.{queue-length, holds-queue, holds-other, holds-packed, vacated-none, vacated-more}
 use borrow.Author.Needs.{needs}
 use Rattle.item.proofs.Item.on_release.Statement.{statement}
 use Rattle.item.proofs.Item.on_release.Tie as tie
@@ -28,7 +28,10 @@ vacant-requires c κs = search needs
 
 returns-2 : tie.Need-returns-2
 unfolding onRelease
-returns-2 c = rw (eq-eqb _ _ (c .before .before .before .if1 .left)) (c .vacant .ensures)
+returns-2 c =
+    let s = c .before .before .before .before .before .before in
+    let i = s .args .self in
+    rw (eq-eqb _ _ (c .before .before .before .if1 .left), vacated-none (senior (s .args .ranks .now)) (nextHolder (senior (s .args .ranks .now))) (unpacked i .queue) (queue-length i (s .pre) ∙ c .before .if2 .taken)) (c .vacant .ensures)
 
 next-holder-requires : tie.Need-next-holder-requires
 next-holder-requires c κs = search needs
@@ -41,7 +44,7 @@ without-requires c κs = search needs
 
 handed-over-requires : tie.Need-handed-over-requires
 handed-over-requires c κs =
-    let s = c .before .before .before .before .before .before .before in
+    let s = c .before .before .before .before .before .before .before .before in
     let i = s .args .self in
     let q = unpacked i .queue in
     let next = c .before .before .next-holder in
@@ -53,7 +56,7 @@ handed-over-requires c κs =
 returns-3 : tie.Need-returns-3
 unfolding onRelease
 returns-3 c =
-    let s = c .before .before .before .before .before .before .before .before in
+    let s = c .before .before .before .before .before .before .before .before .before in
     let i = s .args .self in
     let q = unpacked i .queue in
     let next = c .before .before .before .next-holder in
@@ -62,7 +65,7 @@ returns-3 c =
     let some : 0 < length q = omega (arith, next .ensures .1) in
     let first : getD q (next .result) 0 ≡ getD (i .queue) (next .result) 0 = getD-take (i .waiting) (i .queue) (next .result) 0 (next .ensures .1) in
     let left = holds-queue (rest .result) (i .holder) (removeAt (next .result) q) (rest .ensures) in
-    rw (eq-eqb _ _ (c .before .before .before .before .before .before .if1 .left), vacated-more senior (nextHolder senior) q some, ← next .ensures .0, first, ← left) (c .handed-over .ensures)
+    rw (eq-eqb _ _ (c .before .before .before .before .before .before .if1 .left), vacated-more (senior (s .args .ranks .now)) (nextHolder (senior (s .args .ranks .now))) q some, ← next .ensures .0, first, ← left) (c .handed-over .ensures)
 
 pub on-release-spec : {M : Type 1} → statement M
 on-release-spec =

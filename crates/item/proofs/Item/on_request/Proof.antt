@@ -24,7 +24,7 @@ returns-2 c =
     rw (← c .before .before .before .waits .ensures, c .before .before .if1 .left, eq-eqb _ _ (c .before .if2 .taken)) (c .granted .ensures)
 
 joined-requires : tie.Need-joined-requires
-joined-requires c κs = let f = c .before .before .before .pre in record { packed = f; room = f .room (c .if2 .left) }
+joined-requires c κs = let f = c .before .before .before .before .pre in record { packed = f; room = f .room (c .if2 .left) }
 
 returns-3 : tie.Need-returns-3
 unfolding onRequest

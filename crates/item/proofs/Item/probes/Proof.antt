@@ -17,12 +17,12 @@ use Rattle.item.proofs.Item.probes.Statement.{statement}
 use Rattle.item.proofs.Item.probes.Tie as tie
 
 abbrev Inv-loop : tie.InvT-loop
-Inv-loop holder queue count at₀ n₀ i₀ at n i =
+Inv-loop ranks holder queue count at₀ n₀ i₀ at n i =
     (i ≤ count) × (n ≤ n₀ + i)
-    × ((l : List Message) → _≡_ {A = Outbox} (record { n = n₀; at = at₀ }) (outboxOf l) → _≡_ {A = Outbox} (record { n = n; at = at }) (outboxOf (l ++ probes senior holder (take i queue))))
+    × ((l : List Message) → _≡_ {A = Outbox} (record { n = n₀; at = at₀ }) (outboxOf l) → _≡_ {A = Outbox} (record { n = n; at = at }) (outboxOf (l ++ probes (senior ranks) holder (take i queue))))
 
 abbrev μ-loop : tie.MeasureT-loop
-μ-loop holder queue count at₀ n₀ i₀ at n i = count - i
+μ-loop ranks holder queue count at₀ n₀ i₀ at n i = count - i
 
 cast-count : tie.Need-cast-count Inv-loop μ-loop
 cast-count c = omega arith
@@ -54,17 +54,17 @@ loop-less c = omega arith
 
 loop-again : tie.Need-loop-again Inv-loop μ-loop
 loop-again c =
-    let s = c .before .before .before .before .before .before .before in
+    let s = c .before .before .before .before .before .before .before .before in
     let q = s .args .self .queue in
     let h = s .args .self .holder in
     let b = c .before .before .before .loop in
     let len : length q ≡ 64 = array-length q (s .good .0 .1 .1 .1 .1 .0 .1 .0 .1) in
     let m = message h Kind.probe (getD q (b .i) 0) h in
-    let t = probes-more q (b .i) (omega arith) senior h (sym (c .before .senior .ensures) ∙ c .if1 .taken) in (
+    let t = probes-more q (b .i) (omega arith) (senior (s .args .ranks .now)) h (sym (c .before .senior .ensures) ∙ c .if1 .taken) in (
       omega arith,
       omega arith,
       λ l e.
-          push-outbox (record { n = b .n; at = b .at }) l (probes senior h (take (b .i) q)) _ m (omega arith) (b .inv .2 l e) t,
+          push-outbox (record { n = b .n; at = b .at }) l (probes (senior (s .args .ranks .now)) h (take (b .i) q)) _ m (omega arith) (b .inv .2 l e) t,
     )
 
 loop-less-2 : tie.Need-loop-less-2 Inv-loop μ-loop
@@ -72,16 +72,16 @@ loop-less-2 c = omega arith
 
 loop-again-2 : tie.Need-loop-again-2 Inv-loop μ-loop
 loop-again-2 c =
-    let s = c .before .before .before .before .before .before .before in
+    let s = c .before .before .before .before .before .before .before .before in
     let q = s .args .self .queue in
     let b = c .before .before .before .loop in
     let len : length q ≡ 64 = array-length q (s .good .0 .1 .1 .1 .1 .0 .1 .0 .1) in
-    let t = probes-same q (b .i) (omega arith) senior (s .args .self .holder) (sym (c .before .senior .ensures) ∙ c .if1 .left) in
+    let t = probes-same q (b .i) (omega arith) (senior (s .args .ranks .now)) (s .args .self .holder) (sym (c .before .senior .ensures) ∙ c .if1 .left) in
     (omega arith, omega arith, λ l e. b .inv .2 l e ∙ ap (λ (r : List Message). outboxOf (l ++ r)) (sym t))
 
 returns : tie.Need-returns Inv-loop μ-loop
 returns c =
-    let a = c .before .before .before .before .before .args in
+    let a = c .before .before .before .before .before .before .args in
     let all : c .before .loop .i ≡ a .self .waiting = omega arith in
     λ l e. rw (all) at (c .before .loop .inv .2 l e)
 

@@ -27,13 +27,12 @@ single-requires c κs = search needs
 returns : tie.Need-returns
 unfolding keptProbe
 returns c =
-    let s = c .before .before .before .before .before .before in
+    let s = c .before .before .before .before .before .before .before in
     rw (← c .before .before .before .before .senior .ensures, c .before .before .before .if1 .taken, c .single .ensures, waits-else _ (s .pre .stage) (c .before .if2 .taken)) refl
 
 returns-2 : tie.Need-returns-2
 unfolding keptProbe
 returns-2 c =
-    let s = c .before .before .before .before in
     rw (← c .before .before .before .senior .ensures, c .before .before .if1 .taken, c .before .empty .ensures, c .if2 .left) refl
 
 dropped-requires : tie.Need-dropped-requires

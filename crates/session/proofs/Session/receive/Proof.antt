@@ -30,7 +30,7 @@ dropped-requires c κs = search needs
 
 probed-requires : tie.Need-probed-requires
 probed-requires c κs =
-    let s = c .before .before .before in
+    let s = c .before .before .before .before in
     record { initiator = s .pre .initiator (c .before .before .match .keys2); stage = early (s .args .self .stage) (c .before .if1 .left) (c .if2 .taken) }
 
 dropped-requires-2 : tie.Need-dropped-requires-2
@@ -80,13 +80,13 @@ returns-2 c = c .dropped .ensures ∙ rw (c .before .before .match .keys1, ne-eq
 returns-3 : tie.Need-returns-3
 unfolding received
 returns-3 c =
-    let stage = c .before .before .before .before .args .self .stage in
+    let stage = c .before .before .before .before .before .args .self .stage in
     c .probed .ensures ∙ rw (c .before .before .before .match .keys2, early stage (c .before .before .if1 .left) (c .before .if2 .taken)) refl
 
 returns-4 : tie.Need-returns-4
 unfolding received
 returns-4 c =
-    let stage = c .before .before .before .args .self .stage in
+    let stage = c .before .before .before .before .args .self .stage in
     let other : eqb stage Stage.growing || eqb stage Stage.waiting ≡ false =
     ⊎-elim (λ w. late stage (λ e. omega arith) (λ e. omega arith)) (λ w. late stage (λ e. omega arith) (λ e. omega arith))
     (c .before .if1 .came) in

@@ -1,0 +1,87 @@
+//! Seniority: the ranks of the sessions, and who is senior by them.
+
+use crate::layout::distinct;
+use crate::misreading::Misreading;
+
+/// The rank of each session. F-6: "the numbers 1 to S, with none missing and
+/// none twice; rank 1 is the most senior".
+#[derive(Clone, PartialEq, Eq, Debug)]
+pub struct Ranks(Vec<u8>);
+
+impl Ranks {
+    /// F-6: "rank k for session k".
+    pub fn plain(sessions: usize) -> Ranks {
+        Ranks((1..=sessions as u8).collect())
+    }
+
+    pub fn is_plain(&self) -> bool {
+        *self == Ranks::plain(self.0.len())
+    }
+
+    /// The ranks of a list, if they are such numbers. S is the length of the
+    /// list, which has been judged before.
+    pub fn decode(list: &[u8]) -> Option<Ranks> {
+        Ranks::decode_as(Misreading::None, list)
+    }
+
+    /// The same by the rules, or by one misreading of them.
+    pub fn decode_as(misreading: Misreading, list: &[u8]) -> Option<Ranks> {
+        let first = usize::from(misreading != Misreading::AcceptsRank0);
+        let last = list.len() + usize::from(misreading == Misreading::AcceptsRankAbove);
+        let known = list.iter().all(|&r| (first..=last).contains(&r.into()));
+        let fits = known && (distinct(list) || misreading == Misreading::AcceptsRankTwice);
+        fits.then(|| Ranks(list.to_vec()))
+    }
+
+    /// The ranks as they stand in a list, that of session 1 first.
+    pub fn bytes(&self) -> &[u8] {
+        &self.0
+    }
+
+    pub fn of(&self, session: u8) -> u8 {
+        self.0[usize::from(session) - 1]
+    }
+
+    /// Whether `session` is senior to `other`. F-6: "Senior and junior in every
+    /// rule, and in the clause on victims, are read by rank."
+    pub fn senior(&self, session: u8, other: u8) -> bool {
+        self.of(session) < self.of(other)
+    }
+
+    pub fn more_junior(&self, one: u8, other: u8) -> u8 {
+        if self.senior(one, other) {
+            other
+        } else {
+            one
+        }
+    }
+
+    /// The place of the most senior of these sessions.
+    pub fn most_senior(&self, sessions: &[u8]) -> Option<usize> {
+        let most = |&session: &u8| !sessions.iter().any(|&other| self.senior(other, session));
+        sessions.iter().position(most)
+    }
+
+    /// As the rules of a step read them, or one misreading of them.
+    pub fn as_read(&self, misreading: Misreading) -> Ranks {
+        let mut ranks = self.unless(misreading == Misreading::SeniorByNumber);
+        match misreading {
+            Misreading::RanksReversed => {
+                let sum = ranks.0.len() as u8 + 1;
+                ranks.0.iter_mut().for_each(|rank| *rank = sum - *rank);
+            }
+            Misreading::RankOfNext => ranks.0.rotate_left(1),
+            _ => {}
+        }
+        ranks
+    }
+
+    /// These ranks, or the plain ones where a rule is misread.
+    pub fn unless(&self, misread: bool) -> Ranks {
+        if misread {
+            Ranks::plain(self.0.len())
+        } else {
+            self.clone()
+        }
+    }
+}
