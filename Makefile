@@ -18,9 +18,9 @@
 #                      lists of days, good and bad
 #   make fuzz          the comparison with new seeds: FUZZ_SECONDS=60, SEED=n to repeat one
 #   make bench         times of a call beside model, floor and hand-written Rust;
-#                      BEFORE=path/to/liblockmgr.so beside an earlier library too
+#                      BEFORE=path/to/liblockmgr.a beside an earlier library too
 #   make earlier       the library and an earlier one, which knows no ranks, on the same calls,
-#                      byte for byte: BEFORE=path/to/liblockmgr.so
+#                      byte for byte: BEFORE=path/to/liblockmgr.a
 #   make picture       draws docs/cycle.svg anew (needs Graphviz)
 #   make format        lays out all sources anew; make format-check only looks
 #   make clean         removes what was built
@@ -200,16 +200,17 @@ fuzz: $(LIB)
 	cargo run $(CARGO_COMPARE) --bin fuzz -- $(FUZZ_SECONDS) $(SEED)
 
 # An earlier library has to be a copy: the one that is built is written anew.
-bench: $(LIB) $(if $(BEFORE),$(SHARED)) $(PROGRAMS:%=build/bin/%)
-	@[ -z "$(BEFORE)" ] || ! [ "$(BEFORE)" -ef $(SHARED) ] \
-		|| { echo "BEFORE is the library that is built now: keep a copy of the earlier one elsewhere."; exit 1; }
-	cargo run $(CARGO_COMPARE) --bin bench -- $(if $(BEFORE),"$(abspath $(BEFORE))" "$(abspath $(SHARED))")
+bench: $(LIB) $(PROGRAMS:%=build/bin/%)
+	@[ -z "$(BEFORE)" ] || { scripts/bench-library "$(BEFORE)" build/bench/before.so \
+		&& scripts/bench-library $(LIB) build/bench/library.so; }
+	cargo run $(CARGO_COMPARE) --bin bench -- $(if $(BEFORE),$(abspath build/bench/before.so build/bench/library.so))
 	cargo run $(CARGO_COMPARE) --bin replays -- $(abspath build/bin/replay) bench
 	cargo run $(CARGO_COMPARE) --bin statements -- $(abspath build/bin/statement) bench
 
 earlier: $(LIB)
-	@[ -n "$(BEFORE)" ] || { echo "Beside which library? BEFORE=path/to/liblockmgr.so"; exit 1; }
-	cargo run $(CARGO_COMPARE) --bin earlier -- "$(abspath $(BEFORE))"
+	@[ -n "$(BEFORE)" ] || { echo "Beside which library? BEFORE=path/to/liblockmgr.a"; exit 1; }
+	@scripts/bench-library "$(BEFORE)" build/bench/before.so
+	cargo run $(CARGO_COMPARE) --bin earlier -- $(abspath build/bench/before.so)
 
 # The example's cycle, after the step that closes it.
 picture:

@@ -22,7 +22,7 @@
  *      mailbox; LOCKMGR_CAPACITY tells one that is enough. Choose ranks as well
  *      if seniority is not to go by session numbers (see SENIORITY). Provide two
  *      buffers of the sizes LOCKMGR_TABLE_SIZE and LOCKMGR_MAIL_SIZE: the table,
- *      which holds all sessions and items, and the mail, which is the mailbox.
+ *      which holds sessions, items and ranks, and the mail, which is the mailbox.
  *   2. lockmgr_start fills both.
  *   3. lockmgr_step does one thing at a time: a session sends a request or a
  *      release, or one message is delivered. Every step names one session and
@@ -56,11 +56,11 @@
  *
  * SENIORITY
  *
- * Seniority decides two things: who is rolled back, and who of those in its
- * wait queue holds an item next when its release arrives. Who came first does
- * not matter for that: a session in the queue can be passed over by senior ones
- * that come later, at most once by each, since a session asks for nothing after
- * its first release.
+ * Seniority decides who is rolled back, and who of those in its wait queue holds
+ * an item next when its release arrives; and the text of a cycle begins with the
+ * most senior member. Who came first does not matter: a session in the queue can
+ * be passed over by senior ones that come later, at most once by each, since a
+ * session asks for nothing after its first release.
  *
  * Every session has a rank, and rank 1 is the most senior. By default session k
  * has rank k (lockmgr_default_options): session 1 is the most senior, the

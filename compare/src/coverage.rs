@@ -445,7 +445,7 @@ impl Coverage {
     pub fn started(&mut self, ranks: &Ranks) {
         let list = ranks.bytes();
         let reversed = list.iter().rev().eq(Ranks::plain(list.len()).bytes());
-        let order = match (ranks.is_plain(), reversed) {
+        let order = match (Ranks::is_plain(ranks.bytes()), reversed) {
             (true, _) => 0,
             (false, true) => 1,
             (false, false) => 2,
@@ -463,7 +463,7 @@ impl Coverage {
     /// Demand 3 was checked after so many accepted steps, with so many declarations
     /// of another victim than by number.
     pub fn checked(&mut self, ranks: &Ranks, steps: u64, victims: u64) {
-        if !ranks.is_plain() {
+        if !Ranks::is_plain(ranks.bytes()) {
             self.checked.add(CHECKED_STEPS, steps);
             self.checked.add(CHECKED_VICTIMS, victims);
         }

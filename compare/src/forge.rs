@@ -354,7 +354,8 @@ pub fn circling(random: &mut Random, config: Config, messages: u64, beside: Besi
 }
 
 /// A way to break the form of well-formed buffers: what must then be answered
-/// to a step whose verb and lengths are right, and to a drain.
+/// to a step whose verb and lengths are right, to a drain and, where it is the
+/// table, to a report and a text.
 pub struct Break {
     pub name: &'static str,
     pub refusal: Refusal,

@@ -14,8 +14,9 @@ impl Ranks {
         Ranks((1..=sessions as u8).collect())
     }
 
-    pub fn is_plain(&self) -> bool {
-        *self == Ranks::plain(self.0.len())
+    /// Whether a list has these.
+    pub fn is_plain(list: &[u8]) -> bool {
+        list == Ranks::plain(list.len()).bytes()
     }
 
     /// The ranks of a list, if they are such numbers. S is the length of the

@@ -220,7 +220,7 @@ pub fn run(seed: u64, misreading: Misreading) -> Result<Counts, String> {
         },
     };
     desk.play()?;
-    if !ranks.is_plain() {
+    if !Ranks::is_plain(ranks.bytes()) {
         desk.counts.by_rank = desk.counts.steps - desk.counts.refused;
     }
     Ok(desk.counts)

@@ -272,6 +272,8 @@ fn bad_ranks_in_a_table() {
         let numbered = refusal(Refusal::BadNumber) as u8;
         assert_eq!(report(0, &desk.table).refusal, numbered);
         assert_eq!(cycle_text(0, &desk.table, &mut []).refusal, numbered);
+        let drained = desk.clone().drain(1).refusal;
+        assert_eq!(drained, if good { ACCEPTED } else { numbered });
         desk.mail[MAIL_COUNT][0] = 9;
         desk.refuses(TO_SESSION, 0, 1, refusal(Refusal::BadMail));
         desk.mail.push(0);

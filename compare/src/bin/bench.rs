@@ -385,7 +385,7 @@ fn measure_call(row: &Row, libraries: &Libraries) -> Vec<f64> {
         }),
         by(&Fast, call),
     ];
-    let plain = Ranks::decode(row.buffers.ranks()).is_some_and(|ranks| ranks.is_plain());
+    let plain = Ranks::is_plain(row.buffers.ranks());
     let answers = |before: &&Library| {
         let has_call = match call {
             Call::CycleText(_) => before.has_cycle_text(),

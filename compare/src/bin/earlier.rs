@@ -52,19 +52,17 @@ impl Beside {
     }
 }
 
-fn is_plain(list: &[u8]) -> bool {
-    list == Ranks::plain(list.len()).bytes()
-}
-
 /// Whether the ranks of a table are plain, or its length is wrong in any layout.
 fn plain(table: &[u8]) -> bool {
-    Table::size(table).is_none_or(|(sessions, items)| is_plain(&table[ranks_at(sessions, items)]))
+    Table::size(table)
+        .is_none_or(|(sessions, items)| Ranks::is_plain(&table[ranks_at(sessions, items)]))
 }
 
 impl Calls for Beside {
     fn start(&self, config: Config, ranks: &[u8], table: &mut [u8], mail: &mut [u8]) -> u8 {
         let sessions = within(config.sessions, MAX_SESSIONS);
-        let plain = is_plain(ranks) && sessions.is_none_or(|sessions| sessions == ranks.len());
+        let plain =
+            Ranks::is_plain(ranks) && sessions.is_none_or(|sessions| sessions == ranks.len());
         self.ask("start", plain, table, mail, |lib, table, mail| {
             let refusal = lib.start(config, ranks, table, mail);
             if refusal == ACCEPTED && !lib.takes_ranks() {

@@ -1,15 +1,17 @@
 -- Laws of masks: the members, the lowest of them, and a place for one that is absent.
-use mathlib.Core.Path.{_≡_, refl, _∙_}
-use mathlib.Core.Bool.{true, false}
+use mathlib.Core.Path.{_≡_, refl, sym, _∙_}
+use mathlib.Core.Bool.{Bool, true, false, cond}
 use mathlib.Core.List.{List, [], _∷_}
-use Prim.Native.Nat.{ℕ, zero, suc, _+_, _-_, _*_, _/_, _%_, _^_, _≤_, _<_, zero-le}
-use native.Mathlib.Nat.{add-mul, mod-lt, pow-suc, one-mul, le-div-iff-mul-le}
+use Prim.Native.Nat.{ℕ, zero, suc, _+_, _-_, _*_, _/_, _%_, _^_, _≤_, _<_, zero-le, max}
+use native.Mathlib.Nat.{add-mul, mod-lt, pow-suc, one-mul, max-zero, le-div-iff-mul-le}
 use native.Mathlib.Omega.{arith}
 use borrow.Author.Tests.{eqb-true, eqb-false}
 use lib.Arith.{digits-lt}
+use lib.Bits.{bitOr, or-step, or-zero-r}
+use lib.Dec.{eqb}
 use lib.Count.{trailingZeros, under}
 use lib.ListN.{length}
-use lib.Pow.{shl-exact, shr-lt, pow-add, pow-pos, split}
+use lib.Pow.{shl-exact, shr-lt, shr-shr, pow-add, pow-pos, split}
 use Rattle.bitset.specs.Bitset.{has, withBit, bitsFrom}
 
 -- what is known of the place t of the lowest set bit of mask, which is below 2 ^ d
@@ -61,6 +63,28 @@ room m t d h e =
     let more : m / 2 ^ t + 1 < 2 ^ (d + 1) = rw (pow-add 2 d 1) (omega (arith, rw (pow-add 2 d 1) at q)) in
     let sum : (m / 2 ^ t + 1) * 2 ^ t + m % 2 ^ t ≡ m + 2 ^ t = omega (arith, add-mul (m / 2 ^ t) 1 (2 ^ t), split m t) in
     rw (← sum, pow-add 2 (d + 1) t) (digits-lt more (mod-lt m (pow-pos t)))
+
+-- a digit that is set by `or`: the number, if it had the digit, or more by a power of 2
+lowest-or : (q d : ℕ) → d < 2 → q * 2 + max d 1 ≡ cond (eqb d 1) (q * 2 + d) (q * 2 + d + 1)
+lowest-or q zero h = omega arith
+lowest-or q (suc zero) h = omega arith
+lowest-or q (suc (suc d)) h = absurd (omega arith)
+
+higher-or : (b : Bool) (m t : ℕ) → cond b (m / 2) (m / 2 + 2 ^ t) * 2 + m % 2 ≡ cond b m (m + 2 ^ suc t)
+higher-or true m t = omega arith
+higher-or false m t = omega (arith, pow-suc 2 t)
+
+pub or-bit : (t mask : ℕ) → bitOr mask (2 ^ t) ≡ cond (eqb (mask / 2 ^ t % 2) 1) mask (mask + 2 ^ t)
+or-bit zero mask =
+    let whole : mask / 1 ≡ mask = omega arith in
+    let digits : mask / 2 * 2 + mask % 2 ≡ mask = omega arith in
+    or-step mask 1 ∙ rw (or-zero-r (mask / 2), whole) (lowest-or (mask / 2) (mask % 2) (mod-lt mask (omega arith)) ∙ rw (digits) refl)
+or-bit (suc t) mask =
+    let half : 2 ^ suc t / 2 ≡ 2 ^ t = omega (arith, pow-suc 2 t) in
+    let even : 2 ^ suc t % 2 ≡ 0 = omega (arith, pow-suc 2 t) in
+    let one : 1 + t ≡ suc t = omega arith in
+    let up : mask / 2 ^ suc t ≡ mask / 2 / 2 ^ t = sym (rw (one) at (shr-shr mask 1 t)) in
+    or-step mask (2 ^ suc t) ∙ rw (half, even, max-zero (mask % 2), or-bit t (mask / 2), up) (higher-or (eqb (mask / 2 / 2 ^ t % 2) 1) mask t)
 
 module _ (k mask : ℕ) where
   -- a mask has room for a number that is absent

@@ -3,14 +3,14 @@ use mathlib.Core.Path.{_≡_, refl, sym, ap, _∙_}
 use mathlib.Core.Bool.{Bool, true, false, cond, _||_, or-false, or-true}
 use mathlib.Core.List.{List, [], _∷_}
 use Prim.Native.Nat.{ℕ, zero, suc, _+_, _-_, _*_, _/_, _%_, _^_, _≤_, _<_}
-use native.Mathlib.Nat.{add-mul, mod-lt, div-eq-of-lt}
+use native.Mathlib.Nat.{add-mul, mod-lt, div-eq-of-lt, pow-suc}
 use native.Mathlib.Numerals.{add-one}
 use native.Mathlib.Omega.{arith}
 use lib.Dec.{eqb, ltb}
-use lib.Pow.{pow-pos, pow-mono, split, high, low, shr-shr, field, mod-mod-pow}
+use lib.Pow.{pow-pos, pow-mono, split, high, low, shr-shr, field, mod-mod-pow, ones-lt, ones-split}
 use borrow.Author.Tests.{ltb-true, ltb-false, eqb-true, eqb-false, eq-eqb, ne-eqb}
 use Rattle.lists.proofs.Tests.{by-answer, eqb-self}
-use Rattle.bitset.specs.Bitset.{has, single, insert, remove, withBit, bitsFrom, members}
+use Rattle.bitset.specs.Bitset.{has, single, full, insert, remove, withBit, bitsFrom, members}
 use Rattle.bitset.proofs.Laws.{room, present-fits}
 
 -- the digits of a number below place t are those of its remainder, the digits above it those of half its quotient
@@ -156,6 +156,39 @@ module _ (M x mask : ℕ) (h : mask < 2 ^ M) where
       go : (b : Bool) → cond b (mask - 2 ^ (x - 1)) mask < 2 ^ M
       go true = omega arith
       go false = h
+
+-- the mask of 1 to m has these
+pub has-full : (m k : ℕ) → 1 ≤ k → k ≤ m → has k (full m) ≡ true
+unfolding has
+has-full m k l h =
+    let t = k - 1 in
+    let j = m - k in
+    let w : suc j + t ≡ m = omega arith in
+    let up : (2 ^ (suc j + t) - 1) / 2 ^ t ≡ 2 ^ suc j - 1 = rw (ones-split (suc j) t) (high (2 ^ suc j - 1) t (ones-lt t)) in
+    let odd : (2 ^ suc j - 1) % 2 ≡ 1 = omega (arith, pow-suc 2 j, pow-pos j) in
+    rw (← w, up, odd) refl
+
+-- two masks with the same members are equal
+lowest-digit : (a b : ℕ) → has 1 a ≡ has 1 b → a % 2 ≡ b % 2
+unfolding has
+lowest-digit a b e = by-answer (eqb (a % 2) 1)
+    (λ q. omega (arith, eqb-true (a % 2) 1 q, eqb-true (b % 2) 1 (sym (digits e) ∙ q)))
+    (λ q. omega (arith, eqb-false (a % 2) 1 q, eqb-false (b % 2) 1 (sym (digits e) ∙ q)))
+  where
+    digits : eqb (a / 1 % 2) 1 ≡ eqb (b / 1 % 2) 1 → eqb (a % 2) 1 ≡ eqb (b % 2) 1
+    digits q = let x : a / 1 ≡ a = omega arith in let y : b / 1 ≡ b = omega arith in rw (x, y) at q
+
+has-half : (k a : ℕ) → 1 ≤ k → has k (a / 2) ≡ has (suc k) a
+unfolding has
+has-half k a l =
+    let w : 1 + (k - 1) ≡ suc k - 1 = omega arith in
+    ap (λ (n : ℕ). eqb (n % 2) 1) (rw (w) at (shr-shr a 1 (k - 1)))
+
+pub same-members : (d a b : ℕ) → a < 2 ^ d → b < 2 ^ d → ((k : ℕ) → 1 ≤ k → k ≤ d → has k a ≡ has k b) → a ≡ b
+same-members zero a b h g f = omega arith
+same-members (suc d) a b h g f =
+    let half = same-members d (a / 2) (b / 2) (omega (arith, pow-suc 2 d)) (omega (arith, pow-suc 2 d)) (λ k l m. has-half k a l ∙ f (suc k) (omega arith) (omega arith) ∙ sym (has-half k b l)) in
+    omega (arith, half, lowest-digit a b (f 1 (omega arith) (omega arith)))
 
 -- k, k + 1 and so on, n numbers
 unfoldable pub rising : ℕ → ℕ → List ℕ

@@ -55,11 +55,7 @@ pub fn insert(mask: u64, k: u8) -> u64
     requires { ⌜ (1 ≤ k) × (k ≤ 64) ⌝ }
     ensures { λ r. ⌜ r ≡ insert k mask ⌝ }
 {
-    if contains(mask, k) {
-        mask
-    } else {
-        mask + (1u64 << (k - 1))
-    }
+    mask | (1u64 << (k - 1))
 }
 
 // The mask without k.

@@ -73,7 +73,7 @@ module _ (conf : Config) (table : List ℕ) (l : List Entry) (g : Good conf tabl
     abbrev Put : (ℕ → Session) → Type 0
     Put f = Replaced (conf .sessions) (Table.session table) f t (r .session)
 
-    module _ (fits : length sent ≤ (conf .capacity)) (kept : (f : ℕ → Session) → Put f → StateWellFormed (conf .sessions) (conf .items) f (locks table) sent)
+    module _ (fits : length sent ≤ conf .capacity) (kept : (f : ℕ → Session) → Put f → StateWellFormed (conf .sessions) (conf .items) f (locks table) sent)
         (moves : (f : ℕ → Session) → Put f → readState (conf .sessions) (conf .items) f (locks table) sent ≡ Machine.move (machineOf conf) before call)
         (happens : (f : ℕ → Session) → Put f → StateWellFormed (conf .sessions) (conf .items) f (locks table) sent
         → Machine.eventOf (machineOf conf) before call (readState (conf .sessions) (conf .items) f (locks table) sent)
@@ -116,7 +116,7 @@ module _ (conf : Config) (table : List ℕ) (l : List Entry) (g : Good conf tabl
     abbrev PutLock : (ℕ → Lock) → Type 0
     PutLock f = Replaced (conf .items) (locks table) f x (r .lock)
 
-    module _ (fits : length answered ≤ (conf .capacity)) (kept : (f : ℕ → Lock) → PutLock f → StateWellFormed (conf .sessions) (conf .items) (Table.session table) f answered)
+    module _ (fits : length answered ≤ conf .capacity) (kept : (f : ℕ → Lock) → PutLock f → StateWellFormed (conf .sessions) (conf .items) (Table.session table) f answered)
         (moves : (f : ℕ → Lock) → PutLock f → readState (conf .sessions) (conf .items) (Table.session table) f answered ≡ Machine.move (machineOf conf) before call)
         (happens : (after : Machine.State) → Machine.eventOf (machineOf conf) before call after ≡ Machine.itemEvent (r .event) (Machine.onCycle (machineOf conf) after t))
         (delivers : Bound.delivers before call ≡ true) where

@@ -55,21 +55,18 @@ pub record Good (conf : Config) (table : List ℕ) (l : List Entry) : Type 0 whe
   pub ranks : Table.ranks table ≡ conf .ranks
   pub formed : Table.wellFormed table ≡ true
   pub low : 1 ≤ conf .capacity
-  pub high : (conf .capacity) ≤ Mail.maxCapacity
+  pub high : conf .capacity ≤ Mail.maxCapacity
   pub room : length l ≤ conf .capacity
   pub entries : all (Entry.wellFormed (conf .sessions) (conf .items)) l ≡ true
 
 module _ (conf : Config) (table : List ℕ) (l : List Entry) (g : Good conf table l) where
-  pub few-sessions : (conf .sessions) ≤ 64
+  pub few-sessions : conf .sessions ≤ 64
   few-sessions = omega (arith, TableLaws.sized-facts table (g .sized) .max-sessions, g .sessions)
 
-  pub few-items : (conf .items) ≤ 64
+  pub few-items : conf .items ≤ 64
   few-items = omega (arith, TableLaws.sized-facts table (g .sized) .max-items, g .items)
 
-  -- seniority is that of the table's ranks, which are well-formed, so that the machine's theorem holds
-  pub senior-of : Table.senior table ≡ seniorOf conf
-  senior-of = ap senior (g .ranks)
-
+  -- the ranks are well-formed, so that the machine's theorem holds
   pub machine-laws : Machine.Laws (machineOf conf)
   machine-laws =
       rules-laws (senior-order (conf .ranks) (rw (g .ranks) at (TableLaws.well-formed-ranks table (g .formed)))) (conf .sessions) (conf .items)
@@ -101,7 +98,7 @@ module _ (conf : Config) (table : List ℕ) (l : List Entry) (g : Good conf tabl
   }
 
   -- the record of session t replaced by one that keeps the state well-formed
-  module _ (t : ℕ) (r : between 1 (conf .sessions) t ≡ true) (s : Session) (k : List Entry) (fits : length k ≤ (conf .capacity))
+  module _ (t : ℕ) (r : between 1 (conf .sessions) t ≡ true) (s : Session) (k : List Entry) (fits : length k ≤ conf .capacity)
       (kept : (f : ℕ → Session) → Replaced (conf .sessions) (Table.session table) f t s → StateWellFormed (conf .sessions) (conf .items) f (locks table) k) where
     unfoldable put : ℕ → Session
     put j = cond (eqb t j) s (Table.session table j)
@@ -150,7 +147,7 @@ module _ (conf : Config) (table : List ℕ) (l : List Entry) (g : Good conf tabl
         }
 
   -- the record of item x replaced
-  module _ (x : ℕ) (r : between 1 (conf .items) x ≡ true) (i : Lock) (k : List Entry) (fits : length k ≤ (conf .capacity))
+  module _ (x : ℕ) (r : between 1 (conf .items) x ≡ true) (i : Lock) (k : List Entry) (fits : length k ≤ conf .capacity)
       (kept : (f : ℕ → Lock) → Replaced (conf .items) (locks table) f x i → StateWellFormed (conf .sessions) (conf .items) (Table.session table) f k) where
     unfoldable put-lock : ℕ → Lock
     put-lock j = cond (eqb x j) i (locks table j)

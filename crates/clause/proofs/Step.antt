@@ -95,10 +95,10 @@ module _ (conf : Config) (table : List ℕ) (l : List Entry) (g : Good conf tabl
     abbrev Done : ℕ → Type 0
     Done verb = Unhindered verb t x table mail → Moved conf table l verb t (committed t (conf .capacity) (plan verb t x table l))
 
-    few-sessions : (conf .sessions) ≤ 64
+    few-sessions : conf .sessions ≤ 64
     few-sessions = State.few-sessions conf table l g
 
-    few-items : (conf .items) ≤ 64
+    few-items : conf .items ≤ 64
     few-items = State.few-items conf table l g
 
     formed : Agrees.StateWellFormed (conf .sessions) (conf .items) (Table.session table) (locks table) l

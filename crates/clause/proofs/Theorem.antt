@@ -84,7 +84,7 @@ module _ (conf : Config) (b : Buffers) (calls : List Call) (h : Followed conf (M
   abbrev table-left : List ℕ
   table-left = after b calls .table
 
-  well-formed : WellFormed (conf) (after b calls)
+  well-formed : WellFormed conf (after b calls)
   well-formed =
       let g = h .good in record {
         formed = rw (h .mail) (State.buffers-formed conf table-left (h .entries) g);
@@ -101,13 +101,13 @@ module _ (conf : Config) (b : Buffers) (calls : List Call) (h : Followed conf (M
         let n : length (h .entries) ≡ 0 = sym (MailLaws.count-mail (conf .capacity) (h .entries) (g .low) (g .high) (g .room)) ∙ ap Mail.countOf (sym (h .mail)) ∙ empty in
         ap (λ (s : Machine.State). s .mailbox) (h .state) ∙ none-read (h .entries) (no-entries (h .entries) n)
 
-    off-cycle : (t : ℕ) → 1 ≤ t → t ≤ (conf .sessions) → not (eqb (cycleLength table-left t) 0) ≡ false
+    off-cycle : (t : ℕ) → 1 ≤ t → t ≤ conf .sessions → not (eqb (cycleLength table-left t) 0) ≡ false
     off-cycle t lo hi =
         sym (on-cycle-of conf table-left (h .entries) (h .good) t)
         ∙ ap (λ (s : Machine.State). Machine.onCycle (machineOf conf) s t) (sym (h .state))
         ∙ guaranteed conf table-left (h .entries) (h .good) .settled-free (h .run) no-mail t lo hi
 
-    no-cycle : (t : ℕ) → 1 ≤ t → t ≤ (conf .sessions) → cycleLength table-left t ≡ 0
+    no-cycle : (t : ℕ) → 1 ≤ t → t ≤ conf .sessions → cycleLength table-left t ≡ 0
     no-cycle t lo hi = eqb-true (cycleLength table-left t) 0 (not-false (eqb (cycleLength table-left t) 0) (off-cycle t lo hi))
 
     settled : Settled (conf .sessions) b calls

@@ -9,10 +9,11 @@ use borrow.Author.Tests.{ne-eqb, lt-ltb, le-ltb}
 use lib.ListN.{length, getD}
 use lib.Seq.{take-all}
 use Rattle.lists.specs.Lists.{tabulate}
-use Rattle.lists.proofs.Orders.{StrictWeak}
 use Rattle.message.specs.Limits.{maxSessions}
 use Rattle.session.proofs.Seniority.{senior-weak}
-use Rattle.item.proofs.MostSenior.{Leads, leads-one, leads-new, leads-still, leads-place}
+use Rattle.session.specs.Seniority.{Leads}
+use Rattle.session.proofs.Leads.{leads-one, leads-new, leads-still}
+use Rattle.item.proofs.MostSenior.{leads-place}
 use Rattle.table.specs.Layout as Table
 use Rattle.table.specs.Layout.{sessionsOf}
 use Rattle.table.proofs.Laws.{sized-facts, senior-total}
@@ -75,9 +76,6 @@ module _ (t : List ℕ) (me : ℕ) where
     pub leads : Leads (Table.senior t) all i place
 
 module _ {t at : List ℕ} {me n : ℕ} (o : OnCycle t at me n) where
-  weak-order : StrictWeak (Table.senior t)
-  weak-order = senior-weak (Table.ranks t)
-
   lies-on-cycle : onCycle (waitsFor t) (sessionsOf t) me ≡ true
   lies-on-cycle = positive-on-cycle (waitsFor t) (sessionsOf t) me (omega (arith, o .long, o .some))
 
@@ -96,7 +94,7 @@ module _ {t at : List ℕ} {me n : ℕ} (o : OnCycle t at me n) where
   all-ahead k h = around-at (waitsFor t) (sessionsOf t) me k (omega (arith, o .long))
 
   pub best-one : Best t me 1 me
-  best-one = record { place = 0; there = none-ahead t me ∙ sym (all-ahead 0 (o .some)); leads = leads-one weak-order (all t me) }
+  best-one = record { place = 0; there = none-ahead t me ∙ sym (all-ahead 0 (o .some)); leads = leads-one (senior-weak (Table.ranks t)) (all t me) }
 
   module _ {i s r : ℕ} (b : Best t me i s) (h : i < n) (e : r ≡ ahead t me i) where
     there-too : r ≡ getD (all t me) i 0
@@ -104,16 +102,16 @@ module _ {t at : List ℕ} {me n : ℕ} (o : OnCycle t at me n) where
 
     pub best-new : Table.senior t r s ≡ true → Best t me (i + 1) r
     best-new q =
-        rw (add-one) (record { place = i; there = there-too; leads = leads-new weak-order (all t me) i (b .place) (b .leads) (rw (there-too, b .there) at q) })
+        rw (add-one) (record { place = i; there = there-too; leads = leads-new (senior-weak (Table.ranks t)) (all t me) i (b .place) (b .leads) (rw (there-too, b .there) at q) })
 
     pub best-still : Table.senior t r s ≡ false → Best t me (i + 1) s
     best-still q =
-        rw (add-one) (record { place = b .place; there = b .there; leads = leads-still weak-order (all t me) i (b .place) (b .leads) (rw (there-too, b .there) at q) })
+        rw (add-one) (record { place = b .place; there = b .there; leads = leads-still (senior-weak (Table.ranks t)) (all t me) i (b .place) (b .leads) (rw (there-too, b .there) at q) })
 
   pub best-leader : {s : ℕ} → Best t me n s → s ≡ leader t me
   unfolding Cycle.leader
   best-leader b =
-      let place = leads-place weak-order (all t me) n (b .place) (omega (arith, all-length)) (b .leads) in
+      let place = leads-place (senior-weak (Table.ranks t)) (all t me) n (b .place) (omega (arith, all-length)) (b .leads) in
       b .there ∙ ap (λ (k : ℕ). getD (all t me) k 0) (sym (rw (take-all n (all t me) (omega (arith, all-length))) at place))
 
   -- the most senior member lies on the same cycle

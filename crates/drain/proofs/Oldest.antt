@@ -23,6 +23,7 @@ use Rattle.refusal.specs.Refusal.{first}
 use Rattle.step.specs.Step as Step
 use Rattle.step.specs.Step.{Plan, Formed, delivered, itemReceives, sessionReceives, sessionActs, sessionPlan, itemPlan, plan, stepCauses, overfull, stepped, refusedAnswer}
 use Rattle.step.specs.Parts.{Judged, ForItem, ForSession, concluded}
+use Rattle.step.proofs.Acting as Acting
 use Rattle.step.proofs.Acting.{acted-concluded, length-sent, deliverable, item-packed}
 use Rattle.drain.specs.Oldest.{verbOf, oldestActed}
 use Rattle.drain.specs.declared.Delivery.{Delivery}
@@ -117,9 +118,6 @@ module _ (k : ℕ) (table mail : List ℕ) (due : Due k table mail) where
   same-entry : entryAt (pending k mail) 0 ≡ due-entry
   same-entry = oldest-left k mail (due .kept) (due .inside)
 
-  due-facts : EntryFacts (Table.sessionsOf table) (Table.itemsOf table) due-entry
-  due-facts = rw (sym same-entry) (oldest-facts table (pending k mail) (due .formed) some-left)
-
   due-judged : Judged (due-entry .session) (due-entry .item) table (pending k mail)
   due-judged = rw (sym same-entry) (oldest-judged table (pending k mail) (due .formed) some-left)
 
@@ -130,10 +128,10 @@ module _ (k : ℕ) (table mail : List ℕ) (due : Due k table mail) where
   due-spent = record { kept = due .kept; few = omega (arith, due .inside) }
 
   pub has-session : Table.HasSession table (due-entry .session)
-  has-session = record { sized = due .formed .records .sized; low = due-facts .session-low; high = due-facts .session-high }
+  has-session = Acting.has-session (due-entry .session) (due-entry .item) table (pending k mail) due-judged
 
   pub has-item : Table.HasItem table (due-entry .item)
-  has-item = record { sized = due .formed .records .sized; low = due-facts .item-low; high = due-facts .item-high }
+  has-item = Acting.has-item (due-entry .session) (due-entry .item) table (pending k mail) due-judged
 
   -- what the item or the session is handed the entry with
   pub due-for-item : ForItem (due-entry .item) k table mail

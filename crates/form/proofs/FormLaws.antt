@@ -4,17 +4,18 @@ use mathlib.Core.Bool.{Bool, true, false, cond, not, _&&_, _||_, and-true, and-f
 use mathlib.Core.List.{List, [], _∷_, _++_, append-nil}
 use Prim.Native.Nat.{ℕ, zero, suc, _+_, _-_, _^_, _≤_, _<_}
 use native.Mathlib.Omega.{arith}
-use borrow.Author.Tests.{ltb-true, ltb-false, leb-true, le-leb}
+use borrow.Author.Tests.{eqb-true, eq-eqb, ne-eqb, ltb-true, ltb-false, leb-true, leb-false, le-leb}
 use lib.Dec.{eqb, leb, ltb, eqb·suc-zero, leb·suc-zero, leb·suc-suc}
 use lib.ListN.{length, getD, take, drop, replicate, length-append, length-replicate, getD-replicate, List·getD-append, drop-of-length-le}
-use lib.Pow.{suc-ones}
-use lib.Seq.{take-take, take-nil, drop-nil, take-all, getD-take, length-take-le, take-append-le, take-length, drop-append-le, getD-append-add, append-snoc}
+use lib.Pow.{suc-ones, ones-lt, pow-mono}
+use lib.Seq.{take-take, take-nil, drop-nil, take-all, getD-take, length-take-le, take-append-le, drop-append-le, getD-append-add, append-snoc}
 use Rattle.buffer.specs.Bytes.{slice}
 use Rattle.lists.specs.Lists.{between, member, distinct, all}
-use Rattle.lists.proofs.Tests.{and-both, eqb-sym, fails}
+use Rattle.lists.proofs.Tests.{and-both, and-intro, eqb-sym, refuted, tests-agree, by-answer}
+use Rattle.lists.proofs.Searches.{distinct-all, all-distinct}
 use Rattle.lists.proofs.Laws.{all-append, all-getD, all-intro, all-member, all-both, distinct-last, member-append, member-last}
 use Rattle.bitset.specs.Bitset.{has, single, full, insert}
-use Rattle.bitset.proofs.MemberLaws.{has-single, has-insert}
+use Rattle.bitset.proofs.MemberLaws.{has-single, has-insert, has-above, has-full, same-members}
 use Rattle.buffer.proofs.Laws.{slice-split, slice-more, getD-slice, length-slice}
 use Rattle.message.specs.Limits.{maxSessions}
 use Rattle.session.specs.declared.Session.{Session}
@@ -131,34 +132,43 @@ line-stop t at n h i fits l e =
     rw (whole) at (slice-split t at (i + 1) (n - (i + 1))) in
     rw (split) (line-front h (slice t at (i + 1)) (slice t (at + (i + 1)) (n - (i + 1))) (rw (slice-more t at i (omega arith)) e))
 
--- ---- ranks: none is above n, and they pass the test of a queue without a holder
-ranks-step : (a h d m : Bool) → (a ≡ true → m ≡ false) → (a && h) && d ≡ h && (a && d && not m)
-ranks-step false h d m f = sym (and-false h)
-ranks-step true h d m f = rw (f refl, and-true d) refl
+-- ---- ranks: a list of n numbers from 1 to n, with the mask that has them
+module _ (l : List ℕ) where
+  abbrev n : ℕ
+  n = length l
 
-pub ranks-form : (l : List ℕ) → Seniority.wellFormed l ≡ all (λ v. leb v (length l)) l && inLine 0 l
-unfolding Seniority.wellFormed
-ranks-form l =
-    rw (all-both (leb 1) (λ v. leb v (length l)) l)
-    (ranks-step (all (leb 1) l) (all (λ v. leb v (length l)) l) (distinct l) (member 0 l) (λ e. all-member (leb 1) 0 l e refl))
+  -- one that is out of bounds
+  pub ranks-beyond : (i : ℕ) → i < n → between 1 n (getD l i 0) ≡ false → Seniority.wellFormed l ≡ false
+  unfolding Seniority.wellFormed
+  ranks-beyond i h e = rw (refuted (all (between 1 n) l) (between 1 n (getD l i 0)) (λ a. all-getD (between 1 n) l i 0 a h) e) refl
 
--- one above n, or one that stands there again or is zero
-pub ranks-above : (l : List ℕ) (i : ℕ) → i < length l → length l < getD l i 0 → Seniority.wellFormed l ≡ false
-ranks-above l i h g =
-    let some : all (λ v. leb v (length l)) l ≡ false = fails _ (λ e. absurd (omega (arith, leb-true (getD l i 0) (length l) (all-getD (λ v. leb v (length l)) l i 0 e h)))) in
-    ranks-form l ∙ rw (some) refl
+  module _ (few : n ≤ 64) (known : (k : ℕ) → k < n → between 1 n (getD l k 0) ≡ true) (mask : ℕ) (seen : Seen 0 l mask) (fits : mask < 2 ^ 64) where
+    in-bounds : all (between 1 n) l ≡ true
+    in-bounds = all-intro (between 1 n) l 0 known
 
-pub ranks-again : (l : List ℕ) (i : ℕ) → i < length l → inLine 0 (slice l 0 i ++ (getD l i 0 ∷ [])) ≡ false → Seniority.wellFormed l ≡ false
-ranks-again l i h e =
-    let whole : slice l 0 (length l) ≡ l = take-length l in
-    let at : 0 + i ≡ i = omega arith in
-    ranks-form l ∙ rw (rw (whole) at (line-stop l 0 (length l) 0 i (omega arith) h (rw (at) e))) (and-false (all (λ v. leb v (length l)) l))
+    has-member : (k : ℕ) → 1 ≤ k → has k mask ≡ member k l
+    unfolding Seen
+    has-member k low = seen k low ∙ rw (ne-eqb 0 k (λ e. omega arith)) refl
 
--- none is
-pub ranks-all : (l : List ℕ) → ((k : ℕ) → k < length l → getD l k 0 ≤ length l) → inLine 0 (slice l 0 (length l)) ≡ true → Seniority.wellFormed l ≡ true
-ranks-all l f e =
-    let whole : slice l 0 (length l) ≡ l = take-length l in
-    ranks-form l ∙ rw (all-intro (λ v. leb v (length l)) l 0 (λ k h. le-leb (getD l k 0) (length l) (f k h)), rw (whole) at e) refl
+    -- the mask is full where none stands there twice
+    full-mask : distinct l ≡ true → mask ≡ full n
+    full-mask d =
+        same-members 64 mask (full n) fits (omega (arith, ones-lt n, pow-mono {i = n} {j = 64} few))
+        (λ k low high. by-answer (leb k n)
+        (λ e. let le = leb-true k n e in has-member k low ∙ distinct-all l d in-bounds k low le ∙ sym (has-full n k low le))
+        (λ e. let gt : n < k = omega (arith, leb-false k n e) in
+        has-member k low ∙ all-member (between 1 n) k l in-bounds (rw (e) (and-false (leb 1 k))) ∙ sym (has-above n k (full n) (ones-lt n) gt)))
+
+    -- and only there
+    mask-full : mask ≡ full n → distinct l ≡ true
+    mask-full e = all-distinct l (λ k low high. sym (has-member k low) ∙ ap (has k) e ∙ has-full n k low high)
+
+    pub ranks-form : eqb mask (full n) ≡ Seniority.wellFormed l
+    unfolding Seniority.wellFormed
+    ranks-form =
+        tests-agree (eqb mask (full n)) (all (between 1 n) l && distinct l)
+        (λ e. and-intro in-bounds (mask-full (eqb-true mask (full n) e)))
+        (λ e. eq-eqb mask (full n) (full-mask (and-both (all (between 1 n) l) (distinct l) e .1)))
 
 choice : (w x y : Bool) → w && x || not w && y ≡ cond w x y
 choice true x y = or-false x

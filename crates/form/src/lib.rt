@@ -86,7 +86,7 @@ fn queue(t: &[u8], at: usize, n: usize, h: u8) -> bool
     true
 }
 
-// Whether a list of ranks is well-formed: one pass, with a mask of those used already.
+// Whether a list of ranks is well-formed: one pass, with a mask of those that stand there. So many can be all only if none stands twice.
 pub fn ranks(l: &[u8]) -> bool
     requires { ⌜ length (now l) ≤ maxSessions ⌝ }
     ensures { λ r. ⌜ r ≡ Seniority.wellFormed (now (l .entry)) ⌝ }
@@ -102,13 +102,10 @@ pub fn ranks(l: &[u8]) -> bool
         if n < rank as usize {
             return false;
         }
-        if bitset::contains(used, rank) {
-            return false;
-        }
         used = bitset::insert(used, rank);
         i += 1;
     }
-    true
+    used == bitset::full(n as u8)
 }
 
 // Whether the item record at `at` is well-formed, with s sessions.

@@ -1,4 +1,4 @@
--- The most senior session: by any strict weak order its place is found in one pass, and by a total one a queue that is not empty has exactly one.
+-- The most senior session of a queue: by any strict weak order it has a place there, the one found in one pass, and by a total one it is the only one.
 use mathlib.Core.Path.{_≡_, refl, sym, _∙_}
 use mathlib.Core.Bool.{Bool, true, false, not, true≢false}
 use mathlib.Core.List.{List, []}
@@ -9,8 +9,9 @@ use lib.Seq.{getD-take, length-take-le, take-length}
 use Rattle.lists.specs.Lists.{member, removeAt}
 use Rattle.lists.proofs.Tests.{refuted, by-answer}
 use Rattle.lists.proofs.Laws.{findIndex-first, findIndex-found, filter-none, all-intro, all-getD, all-member, all-removeAt, getD-member}
-use Rattle.lists.proofs.Searches.{below-and-at}
 use Rattle.lists.proofs.Orders.{StrictWeak, StrictTotal, weak}
+use Rattle.session.specs.Seniority.{Leads}
+use Rattle.session.proofs.Leads.{leads-one, leads-new, leads-still}
 use Rattle.item.specs.NextHolder.{isMostSenior, mostSenior}
 use Rattle.item.specs.Rules.{probes}
 
@@ -26,47 +27,16 @@ module _ (senior : ℕ → ℕ → Bool) where
   unfolding isMostSenior probes
   no-probes q n k e = rw (filter-none (λ r. senior r n) (removeAt k q) (all-removeAt (λ s. not (senior s n)) k q e)) refl
 
--- the session at place k is the most senior of the first i: none of them is senior to it, and it is senior to those before it
-pub record Leads (senior : ℕ → ℕ → Bool) (q : List ℕ) (i k : ℕ) : Type 0 where
-  pub inside : k < i
-  pub unsurpassed : (j : ℕ) → j < i → senior (getD q j 0) (getD q k 0) ≡ false
-  pub first : (j : ℕ) → j < k → senior (getD q k 0) (getD q j 0) ≡ true
-
 module _ {senior : ℕ → ℕ → Bool} (order : StrictWeak senior) where
   module _ (q : List ℕ) where
-    pub leads-one : Leads senior q 1 0
-    leads-one = record {
-      inside = omega arith;
-      unsurpassed = λ j h. let z : j ≡ 0 = omega arith in rw (z) (order .irreflexive (getD q 0 0));
-      first = λ j h. absurd (omega arith);
-    }
-
-    -- one session more, which is senior to the one that led, or is not
-    module _ (i k : ℕ) (l : Leads senior q i k) where
-      pub leads-new : senior (getD q i 0) (getD q k 0) ≡ true → Leads senior q (suc i) i
-      leads-new e = record {
-        inside = omega arith;
-        unsurpassed =
-            below-and-at (λ j. senior (getD q j 0) (getD q i 0) ≡ false) i
-            (λ j h. refuted _ _ (λ f. order .transitive (getD q j 0) (getD q i 0) (getD q k 0) f e) (l .unsurpassed j h)) (order .irreflexive (getD q i 0));
-        first = λ j h. order .above (getD q i 0) (getD q k 0) (getD q j 0) e (l .unsurpassed j h);
-      }
-
-      pub leads-still : senior (getD q i 0) (getD q k 0) ≡ false → Leads senior q (suc i) k
-      leads-still e = record {
-        inside = omega (arith, l .inside);
-        unsurpassed = below-and-at (λ j. senior (getD q j 0) (getD q k 0) ≡ false) i (l .unsurpassed) e;
-        first = l .first;
-      }
-
     -- some place has the most senior
     leads-some : (i : ℕ) → 0 < i → (k : ℕ) × Leads senior q i k
     leads-some zero h = absurd (omega arith)
-    leads-some (suc zero) h = (0, leads-one)
+    leads-some (suc zero) h = (0, leads-one order q)
     leads-some (suc (suc i)) h =
         let p = leads-some (suc i) (omega arith) in
         by-answer (senior (getD q (suc i) 0) (getD q (p .0) 0))
-        (λ e. (suc i, leads-new (suc i) (p .0) (p .1) e)) (λ e. (p .0, leads-still (suc i) (p .0) (p .1) e))
+        (λ e. (suc i, leads-new order q (suc i) (p .0) (p .1) e)) (λ e. (p .0, leads-still order q (suc i) (p .0) (p .1) e))
 
     -- and it is the place defined
     pub leads-place : (i k : ℕ) → i ≤ length q → Leads senior q i k → mostSenior senior (take i q) ≡ k

@@ -14,6 +14,6 @@ module _ (senior : ℕ → ℕ → Bool) where
   unfoldable pub mostSenior : List ℕ → ℕ
   mostSenior q = findIndex (isMostSenior q) q
 
-  -- the place of the next holder in a queue that is not empty: RULES 5.2
+  -- the place of the next holder in a queue that is not empty, the rule by which N is chosen: RULES 5.2
   unfoldable pub nextHolder : List ℕ → ℕ
   nextHolder = mostSenior

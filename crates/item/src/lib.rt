@@ -11,12 +11,13 @@ ghost use lib.ListN.{length};
 ghost use Rattle.lists.specs.Lists.{member, findIndex, removeAt};
 ghost use Rattle.message.specs.declared.Message.{Message};
 ghost use Rattle.message.specs.Limits.{maxSessions};
-ghost use Rattle.message.specs.Outbox.{outboxOf};
+ghost use Rattle.message.specs.Kind;
+ghost use Rattle.message.specs.Outbox.{plain, outboxOf};
 ghost use Rattle.session.specs.Seniority.{senior};
 ghost use Rattle.item.specs.Record.{size, Packed, Joinable, unpacked, packed, lock, free, itemAt, putItem};
 ghost use Rattle.item.specs.declared.Event.the-variants.{Nothing};
 ghost use Rattle.item.specs.NextHolder.{nextHolder};
-ghost use Rattle.item.specs.Rules.{after, stepOf, dropped, resends, probes, onWithdraw, granted, queued, onRequest, onProbe, onClean, onRebroadcast, handedOver, onRelease, received};
+ghost use Rattle.item.specs.Rules.{after, stepOf, dropped, resends, probes, onWithdraw, granted, queued, onRequest, onProbe, onClean, onRebroadcast, onRelease, received};
 
 // An item record by value: the first `waiting` elements of `queue` wait, in order, and zeros follow.
 pub struct Item {
@@ -100,22 +101,13 @@ impl Item {
         self.place(t) < self.waiting as usize
     }
 
-    // The place of the next holder, the most senior session of the queue, found in one pass.
+    // The place of the next holder, the most senior session of the queue.
     fn next_holder(self, ranks: &[u8]) -> usize
         requires { ⌜ (0 < self .waiting) × (self .waiting ≤ maxSessions) ⌝ }
         ensures { λ r. ⌜ (r ≡ nextHolder (senior (now (ranks .entry))) (unpacked self .queue)) × (r < self .waiting) ⌝ }
     {
         let queue = self.queue;
-        let n = self.waiting as usize;
-        let mut next: usize = 0;
-        let mut i: usize = 1;
-        while i < n {
-            if Session::senior(ranks, queue[i], queue[next]) {
-                next = i;
-            }
-            i += 1;
-        }
-        next
+        Session::most_senior(ranks, queue, self.waiting as usize)
     }
 
     // The record without the session at place k of its queue.
@@ -274,7 +266,7 @@ impl Item {
         let n = queue[k];
         let mut rest = self.without(k);
         rest.holder = n;
-        rest.handed_over(ranks)
+        rest.handed_over()
     }
 
     // No holder and an empty queue.
@@ -291,13 +283,13 @@ impl Item {
         }
     }
 
-    // The next holder has left the queue: it is granted the item, and the others are heard again.
-    fn handed_over(self, ranks: &[u8]) -> ItemStep
+    // The next holder has left the queue: it is granted the item, and the others are heard again. None of them is senior to it, so no probe goes out.
+    fn handed_over(self) -> ItemStep
         requires { ⌜ Packed self ⌝ }
-        ensures { λ r. ⌜ r ≡ stepOf (handedOver (senior (now (ranks .entry))) (self .holder) (unpacked self .queue)) ⌝ }
+        ensures { λ r. ⌜ r ≡ stepOf (after (unpacked self) (plain (self .holder) Kind.grant ∷ resends (unpacked self .queue)) Nothing) ⌝ }
     {
         let first = Outbox::single(self.holder, Message::GRANT, 0, 0);
-        let outbox = self.resends(self.probes(ranks, first));
+        let outbox = self.resends(first);
         ItemStep {
             item: self,
             outbox,

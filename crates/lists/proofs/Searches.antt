@@ -11,7 +11,7 @@ use lib.Dec.{eqb}
 use lib.ListN.{length}
 use borrow.Author.Tests.{eqb-true, eqb-false, ne-eqb, not-true}
 use Rattle.lists.specs.Lists.{between, every, lowest, count, sumUpTo, member, distinct, all}
-use Rattle.lists.proofs.Tests.{and-both, and-intro, fails, refuted, by-answer, by-test, within, eqb-self, same?}
+use Rattle.lists.proofs.Tests.{and-both, and-intro, fails, refuted, by-answer, by-test, within, between-intro, eqb-self, same?}
 
 -- what holds of every number below n, and of n, holds of every number below n + 1
 pub below-and-at : (P : ℕ → Type 0) (n : ℕ) → ((k : ℕ) → k < n → P k) → P n → (k : ℕ) → k < suc n → P k
@@ -213,6 +213,39 @@ length-count n (a ∷ l) d h =
     let ends = within 1 n a (range .0) in
     let more = count-one-more n (λ k. eqb a k || member k l) (λ k. member k l) a (ends .0) (ends .1) (rw (eqb-self a) refl) (not-true (member a l) (new .0)) (λ j _ _ q. rw (ne-eqb a j (λ e. q (sym e))) refl) in
     omega (arith, length-count n l (new .1) (range .1))
+
+-- a list has no fewer elements than numbers from 1 to n, and more where one stands there twice
+count-with-same : (n a : ℕ) (p : ℕ → Bool) → p a ≡ true → count n (λ k. eqb a k || p k) ≡ count n p
+count-with-same n a p e =
+    count-same n _ p (λ k _ _. by-answer (eqb a k) (λ q. rw (q) (sym (ap p (sym (eqb-true a k q)) ∙ e))) (λ q. rw (q) refl))
+
+count-with : (n a : ℕ) (p : ℕ → Bool) → count n (λ k. eqb a k || p k) ≤ suc (count n p)
+count-with n a p =
+    by-answer (p a) (λ e. omega (arith, count-with-same n a p e)) (λ e. by-answer (between 1 n a)
+    (λ q. let r = within 1 n a q in omega (arith, count-one-more n (λ k. eqb a k || p k) p a (r .0) (r .1) (rw (eqb-self a) refl) e (λ j _ _ z. rw (ne-eqb a j (λ y. z (sym y))) refl)))
+    (λ q. omega (arith, count-same n (λ k. eqb a k || p k) p (λ k l h. rw (ne-eqb a k (λ y. true≢false (sym (between-intro 1 n k l h) ∙ ap (between 1 n) (sym y) ∙ q))) refl))))
+
+count-length : (n : ℕ) (l : List ℕ) → count n (λ k. member k l) ≤ length l
+unfolding member
+count-length n [] = omega (arith, count-none n (λ _. false) (λ _ _ _. refl))
+count-length n (a ∷ l) = omega (arith, count-with n a (λ k. member k l), count-length n l)
+
+count-twice : (n : ℕ) (l : List ℕ) → distinct l ≡ false → count n (λ k. member k l) < length l
+unfolding member distinct
+count-twice n [] e = absurd (true≢false e)
+count-twice n (a ∷ l) e =
+    by-answer (member a l) (λ q. omega (arith, count-with-same n a (λ k. member k l) q, count-length n l))
+    (λ q. omega (arith, count-with n a (λ k. member k l), count-twice n l (rw (q) at e)))
+
+count-all : (n : ℕ) (p : ℕ → Bool) → ((k : ℕ) → 1 ≤ k → k ≤ n → p k ≡ true) → count n p ≡ n
+unfolding count
+count-all zero p f = refl
+count-all (suc n) p f = rw (f (suc n) (omega arith) (omega arith)) (ap suc (count-all n p (λ k l h. f k l (omega arith))))
+
+-- so where n elements are all numbers from 1 to n, none stands there twice
+pub all-distinct : (l : List ℕ) → ((k : ℕ) → 1 ≤ k → k ≤ length l → member k l ≡ true) → distinct l ≡ true
+all-distinct l f =
+    by-answer (distinct l) (λ e. e) (λ e. absurd (omega (arith, count-twice (length l) l e, count-all (length l) (λ k. member k l) f)))
 
 -- so n of them are all
 pub distinct-all : (l : List ℕ) → distinct l ≡ true → all (between 1 (length l)) l ≡ true → (k : ℕ) → 1 ≤ k → k ≤ length l → member k l ≡ true

@@ -37,13 +37,13 @@ pub record Started : Type 0 where
 abbrev pub startResult : ℕ → List ℕ → List ℕ → Started
 startResult refusal table mail = record { refusal = refusal; table = table; mail = mail }
 
--- S, M and C are within their bounds, and the lengths are theirs: RULES 8.2
+-- S, M and C are within their bounds, and the three lengths are theirs: RULES 8.2
 abbrev pub sizesFit : Config → List ℕ → List ℕ → Bool
 sizesFit c table mail =
     between 1 maxSessions (c .sessions) && between 1 maxItems (c .items) && between 1 Mail.maxCapacity (c .capacity)
     && eqb (length (c .ranks)) (c .sessions) && eqb (length table) (Table.size (c .sessions) (c .items)) && eqb (length mail) (Mail.size (c .capacity))
 
--- the causes of a start, in their order: RULES 4.3
+-- the causes of a start, in their order: RULES 8.0
 unfoldable pub startRefusal : Config → List ℕ → List ℕ → ℕ
 startRefusal c table mail =
     first

@@ -35,13 +35,13 @@ module _ (ranks : List ℕ) where
     unfolding wellFormed
     facts = and-both (all (between 1 n) ranks) (distinct ranks) w
 
-    -- the rank of a session is that of one
+    -- the rank of a session lies in 1 to n
     rank-range : (t : ℕ) → between 1 n t ≡ true → between 1 n (rank ranks t) ≡ true
     rank-range t e =
         let r = within 1 n t e in
         ap (between 1 n) (rank-inside t e) ∙ all-getD (between 1 n) ranks (t - 1) 0 (facts .0) (omega arith)
 
-    -- so it is no other number's
+    -- so no session has the rank of a number that is no session's
     mixed : (a b : ℕ) → between 1 n a ≡ true → between 1 n b ≡ false → rank ranks a ≡ rank ranks b → a ≡ b
     mixed a b e f q = absurd (true≢false (sym (rank-range a e) ∙ ap (between 1 n) (q ∙ rank-outside b f) ∙ f))
 

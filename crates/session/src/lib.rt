@@ -9,9 +9,9 @@ ghost use Prim.Native.Nat.{_+_, _≤_, _<_};
 ghost use lib.ListN.{length};
 ghost use Rattle.message.specs.declared.Message.{Message};
 ghost use Rattle.message.specs.Kind;
-ghost use Rattle.message.specs.Limits.{IsItem};
+ghost use Rattle.message.specs.Limits.{IsItem, maxSessions};
 ghost use Rattle.message.specs.Outbox.{plain, outboxOf};
-ghost use Rattle.session.specs.Seniority.{rank, senior};
+ghost use Rattle.session.specs.Seniority.{rank, senior, Leads};
 ghost use Rattle.session.specs.Record.{size, sessionAt, putSession};
 ghost use Rattle.session.specs.Rules.{stepOf, dropped, storedProbes, toHeld, requested, released, granted, resent, aborted, cleaned, cleanedWaiting, cleanedVictim, rolledBack, junior, Storable, keptProbe, received, Deliverable, probed};
 
@@ -73,6 +73,25 @@ impl Session {
         ensures { λ r. ⌜ r ≡ senior (now (ranks .entry)) a b ⌝ }
     {
         Session::rank(ranks, a) < Session::rank(ranks, b)
+    }
+
+    // The place of the most senior of the first n sessions of a list, found in one pass.
+    pub fn most_senior(ranks: &[u8], list: [u8; MAX_SESSIONS], n: usize) -> usize
+        requires { ⌜ (0 < n) × (n ≤ maxSessions) ⌝ }
+        ensures { λ r. ⌜ Leads (senior (now (ranks .entry))) list n r ⌝ }
+    {
+        let mut place: usize = 0;
+        let mut best = Session::rank(ranks, list[0]);
+        let mut i: usize = 1;
+        while i < n {
+            let rank = Session::rank(ranks, list[i]);
+            if rank < best {
+                place = i;
+                best = rank;
+            }
+            i += 1;
+        }
+        place
     }
 
     // The more junior of two sessions.

@@ -54,10 +54,10 @@ module _ (t x : ℕ) (table mail : List ℕ) (j : Judged t x table mail) where
   pub juniors-whole : length (Table.session table t .juniors) ≡ 64
   juniors-whole = TableLaws.juniors-length table (j .formed .records .sized) t (j .session-low) (j .session-high)
 
-  has-session : Table.HasSession table t
+  pub has-session : Table.HasSession table t
   has-session = record { sized = j .formed .records .sized; low = j .session-low; high = j .session-high }
 
-  has-item : Table.HasItem table x
+  pub has-item : Table.HasItem table x
   has-item = record { sized = j .formed .records .sized; low = j .item-low; high = j .item-high }
 
   pub item-packed : Packed (Table.item table x)

@@ -76,7 +76,7 @@ sessionOk t k = SessionRecord.wellFormed (sessionsOf t) (itemsOf t) (session t k
 unfoldable pub itemOk : List ℕ → ℕ → Bool
 itemOk t x = ItemRecord.wellFormed (sessionsOf t) (item t x)
 
--- the table is in form when every record is and the ranks are
+-- the table is well-formed when every record is and the ranks are
 pub in-form : (t : List ℕ) → wellFormed t ≡ every (sessionsOf t) (sessionOk t) && every (itemsOf t) (itemOk t) && Seniority.wellFormed (ranks t)
 unfolding wellFormed sessionOk itemOk
 in-form t = refl

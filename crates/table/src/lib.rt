@@ -171,6 +171,14 @@ pub fn holder(t: &[u8], x: u8) -> u8
     t[item_place(sessions(t), x)]
 }
 
+// How many sessions wait for item x.
+pub fn waiting(t: &[u8], x: u8) -> u8
+    requires { ⌜ HasItem (now t) x ⌝ }
+    ensures { λ r. ⌜ r ≡ item (now (t .entry)) x .waiting ⌝ }
+{
+    t[item_place(sessions(t), x) + Item::WAITING_PLACE]
+}
+
 // Replaces the record of item x.
 pub fn put_item(t: &mut [u8], x: u8, i: Item)
     requires { ⌜ HasItem (now t) x ⌝ }

@@ -1,4 +1,4 @@
-// Words and numbers as text in a lent buffer: what writes at a place answers the place behind it.
+// Numbers as text in a lent buffer: what writes at a place answers the place behind it.
 ghost use mathlib.Core.Path.{_≡_};
 ghost use Prim.Native.Nat.{_+_, _≤_};
 ghost use lib.ListN.{length};

@@ -24,6 +24,9 @@ fn mark(t: &[u8], at: &mut [u8; MAX_SESSIONS], x: u8)
     if h == 0 {
         return;
     }
+    if table::waiting(t, x) == 0 {
+        return;
+    }
     let i = table::item(t, x);
     let mut j: usize = 0;
     while j < i.waiting as usize {

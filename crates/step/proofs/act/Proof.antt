@@ -12,7 +12,7 @@ use Rattle.mailbox.specs.Layout.{Kept, countOf, entriesOf}
 use Rattle.mailbox.proofs.Laws.{getD-entries}
 use Rattle.refusal.specs.Refusal.{first}
 use Rattle.step.specs.Step.{stepCauses, itemReceives, sessionActs}
-use Rattle.step.proofs.Acting.{mail-kept, juniors-whole, for-item, acts-few, acted-refused, acted-concluded, delivers, item-acts, session-acts}
+use Rattle.step.proofs.Acting.{mail-kept, juniors-whole, has-session, has-item, for-item, acts-few, acted-refused, acted-concluded, delivers, item-acts, session-acts}
 use Rattle.step.proofs.Form.{plan-keeps}
 use Rattle.step.proofs.act.Statement.{statement}
 use Rattle.step.proofs.act.Tie as tie
@@ -71,7 +71,7 @@ commit-item-requires c κs =
     let entries = entriesOf (s .args .mail .now) in
     let formed = plan-keeps (s .args .t) (s .args .x) (s .args .table .now) (s .args .mail .now) j (s .args .verb) (s .pre .0) (s .pre .1) (none (c .before .before .before .before .before .before)) .formed in
     let is = item-acts (s .args .verb) (s .args .t) (s .args .x) (s .args .table .now) entries (eq-eqb (s .args .verb) 3 (c .before .before .before .before .before .if2 .taken)) in
-    (record { sized = j .formed .records .sized; low = j .session-low; high = j .session-high }, record { sized = j .formed .records .sized; low = j .item-low; high = j .item-high }, rw (received (c .before .before), c .before .before .before .before .before .before .before .before .before .before .delivered .ensures) (rw (is) at formed), kept (c .before .before .before .before .before .before .before .before .before .before .before .before), c .before .before .item-receives .ensures .1)
+    (has-session (s .args .t) (s .args .x) (s .args .table .now) (s .args .mail .now) j, has-item (s .args .t) (s .args .x) (s .args .table .now) (s .args .mail .now) j, rw (received (c .before .before), c .before .before .before .before .before .before .before .before .before .before .delivered .ensures) (rw (is) at formed), kept (c .before .before .before .before .before .before .before .before .before .before .before .before), c .before .before .item-receives .ensures .1)
 
 same-length-3 : tie.Need-same-length-3
 same-length-3 c = search needs
@@ -93,8 +93,8 @@ session-acts-requires c κs =
 
 commit-session-requires : tie.Need-commit-session-requires
 commit-session-requires c κs =
-    let j = c .before .before .before .before .before .before .before .before .before .before .before .before .before .before .pre .2 in
-    (record { sized = j .formed .records .sized; low = j .session-low; high = j .session-high }, kept (c .before .before .before .before .before .before .before .before .before .before .before .before), omega (arith, acted (c .before .before)))
+    let s = c .before .before .before .before .before .before .before .before .before .before .before .before .before .before in
+    (has-session (s .args .t) (s .args .x) (s .args .table .now) (s .args .mail .now) (s .pre .2), kept (c .before .before .before .before .before .before .before .before .before .before .before .before), omega (arith, acted (c .before .before)))
 
 same-length-5 : tie.Need-same-length-5
 same-length-5 c = search needs

@@ -10,7 +10,9 @@ use Rattle.lists.proofs.Laws.{removeAt-length}
 use Rattle.session.specs.Seniority.{senior}
 use Rattle.item.specs.NextHolder.{nextHolder}
 use Rattle.item.specs.Record.{unpacked}
-use Rattle.item.specs.Rules.{onRelease}
+use Rattle.item.specs.Rules.{handedOver, onRelease}
+use Rattle.session.proofs.Seniority.{senior-weak}
+use Rattle.item.proofs.MostSenior.{no-probes, most-senior-passes}
 use Rattle.item.proofs.Laws.{queue-length, holds-queue, holds-other, holds-packed, vacated-none, vacated-more}
 use borrow.Author.Needs.{needs}
 use Rattle.item.proofs.Item.on_release.Statement.{statement}
@@ -54,7 +56,7 @@ handed-over-requires c κs =
     holds-packed _ k (removeAt (next .result) q) (holds-other (rest .result) (i .holder) (removeAt (next .result) q) (rest .ensures) k) (omega (arith, s .pre .fits, next .ensures .1, removeAt-length (next .result) q (omega arith)))
 
 returns-3 : tie.Need-returns-3
-unfolding onRelease
+unfolding onRelease handedOver nextHolder
 returns-3 c =
     let s = c .before .before .before .before .before .before .before .before .before in
     let i = s .args .self in
@@ -65,7 +67,10 @@ returns-3 c =
     let some : 0 < length q = omega (arith, next .ensures .1) in
     let first : getD q (next .result) 0 ≡ getD (i .queue) (next .result) 0 = getD-take (i .waiting) (i .queue) (next .result) 0 (next .ensures .1) in
     let left = holds-queue (rest .result) (i .holder) (removeAt (next .result) q) (rest .ensures) in
-    rw (eq-eqb _ _ (c .before .before .before .before .before .before .if1 .left), vacated-more (senior (s .args .ranks .now)) (nextHolder (senior (s .args .ranks .now))) q some, ← next .ensures .0, first, ← left) (c .handed-over .ensures)
+    let r = s .args .ranks .now in
+    let by = nextHolder (senior r) in
+    let none = no-probes (senior r) q (getD q (by q) 0) (by q) (most-senior-passes (senior-weak r) q some) in
+    rw (eq-eqb _ _ (c .before .before .before .before .before .before .if1 .left), vacated-more (senior r) by q some, none, ← next .ensures .0, first, ← left) (c .handed-over .ensures)
 
 pub on-release-spec : {M : Type 1} → statement M
 on-release-spec =
