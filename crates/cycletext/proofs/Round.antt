@@ -11,9 +11,7 @@ use lib.Seq.{take-all}
 use Rattle.lists.specs.Lists.{tabulate}
 use Rattle.message.specs.Limits.{maxSessions}
 use Rattle.session.proofs.Seniority.{senior-weak}
-use Rattle.session.specs.Seniority.{Leads}
-use Rattle.session.proofs.Leads.{leads-one, leads-new, leads-still}
-use Rattle.item.proofs.MostSenior.{leads-place}
+use Rattle.session.proofs.MostSenior.{Leads, leads-one, leads-new, leads-still, leads-place}
 use Rattle.table.specs.Layout as Table
 use Rattle.table.specs.Layout.{sessionsOf}
 use Rattle.table.proofs.Laws.{sized-facts, senior-total}

@@ -6,8 +6,8 @@ use native.Mathlib.Omega.{arith}
 use lib.Dec.{ltb}
 use Rattle.lists.proofs.Laws.{getD-member}
 use Rattle.lists.proofs.Orders.{less, weak}
-use Rattle.item.specs.NextHolder.{mostSenior}
-use Rattle.item.proofs.MostSenior.{most-senior-inside}
+use Rattle.session.specs.MostSenior.{mostSenior}
+use Rattle.session.proofs.MostSenior.{most-senior-inside}
 use Rattle.deadlock.specs.Machine.{Call, Laws, State}
 use Rattle.deadlock.specs.Statement.{Guarantees}
 use Rattle.deadlock.specs.Instance.{seniorFirst}

@@ -3,7 +3,7 @@ use Prim.Native.Nat.{ℕ}
 use mathlib.Core.List.{_∷_}
 use lib.Dec.{ltb}
 use lib.ListN.{getD}
-use Rattle.item.specs.NextHolder.{mostSenior}
+use Rattle.session.specs.MostSenior.{mostSenior}
 use Rattle.deadlock.specs.Machine.{Rules}
 
 -- with S sessions and M items

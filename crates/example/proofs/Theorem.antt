@@ -10,7 +10,8 @@ use Rattle.session.specs.Seniority
 use Rattle.session.specs.Seniority.{rank, senior, plain}
 use Rattle.session.specs.Record as SessionRecord
 use Rattle.session.specs.Rules as Session
-use Rattle.item.specs.NextHolder.{isMostSenior, mostSenior, nextHolder}
+use Rattle.session.specs.MostSenior.{isMostSenior, mostSenior}
+use Rattle.item.specs.NextHolder.{nextHolder}
 use Rattle.item.specs.Record as ItemRecord
 use Rattle.item.specs.Rules as Item
 use Rattle.mailbox.specs.Entry

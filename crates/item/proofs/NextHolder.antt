@@ -1,17 +1,24 @@
 -- What callers know of the next holder.
 use mathlib.Core.Path.{_≡_, refl}
-use mathlib.Core.Bool.{Bool, true, false}
-use mathlib.Core.List.{List, _∷_}
+use mathlib.Core.Bool.{Bool, true, false, not}
+use mathlib.Core.List.{List, [], _∷_}
 use Prim.Native.Nat.{ℕ, _<_}
 use lib.ListN.{length, getD}
 use Rattle.lists.specs.Lists.{member, removeAt}
+use Rattle.lists.proofs.Laws.{filter-none, all-removeAt}
 use Rattle.lists.proofs.Orders.{StrictWeak, StrictTotal}
 use Rattle.message.specs.Kind
 use Rattle.message.specs.Outbox.{plain}
-use Rattle.item.specs.NextHolder.{isMostSenior, nextHolder}
-use Rattle.item.specs.Rules.{resends, handedOver, vacated}
+use Rattle.session.specs.MostSenior.{isMostSenior}
+use Rattle.session.proofs.MostSenior.{none-senior, most-senior-inside, most-senior-passes, most-senior-only}
+use Rattle.item.specs.NextHolder.{nextHolder}
+use Rattle.item.specs.Rules.{probes, resends, handedOver, vacated}
 use Rattle.item.proofs.Laws.{vacated-more}
-use Rattle.item.proofs.MostSenior.{none-senior, no-probes, most-senior-inside, most-senior-passes, most-senior-only}
+
+-- nobody left in the queue causes a probe to a session that passes `isMostSenior`
+pub no-probes : (senior : ℕ → ℕ → Bool) (q : List ℕ) (n k : ℕ) → isMostSenior senior q n ≡ true → probes senior n (removeAt k q) ≡ []
+unfolding isMostSenior probes
+no-probes senior q n k e = rw (filter-none (λ r. senior r n) (removeAt k q) (all-removeAt (λ s. not (senior s n)) k q e)) refl
 
 module _ {senior : ℕ → ℕ → Bool} (order : StrictWeak senior) (q : List ℕ) (h : 0 < length q) where
   abbrev next : ℕ

@@ -1,7 +1,6 @@
 -- Who is senior: the session with the lower rank. Nothing else knows how this is decided; the rules take it as a parameter. RULES is docs/RULES.md.
-use Prim.Native.Nat.{ℕ, suc, _-_, _<_}
-use mathlib.Core.Path.{_≡_}
-use mathlib.Core.Bool.{Bool, true, false, cond, _&&_}
+use Prim.Native.Nat.{ℕ, suc, _-_}
+use mathlib.Core.Bool.{Bool, cond, _&&_}
 use mathlib.Core.List.{List}
 use lib.Dec.{ltb}
 use lib.ListN.{length, getD}
@@ -14,12 +13,6 @@ rank ranks t = cond (between 1 (length ranks) t) (getD ranks (t - 1) 0) t
 -- session a is senior to session b: RULES 1.3
 unfoldable pub senior : List ℕ → ℕ → ℕ → Bool
 senior ranks a b = ltb (rank ranks a) (rank ranks b)
-
--- at place k of a list stands the most senior of its first n: none of them is senior to it, and it is senior to those before it
-pub record Leads (senior : ℕ → ℕ → Bool) (l : List ℕ) (n k : ℕ) : Type 0 where
-  pub inside : k < n
-  pub unsurpassed : (j : ℕ) → j < n → senior (getD l j 0) (getD l k 0) ≡ false
-  pub first : (j : ℕ) → j < k → senior (getD l k 0) (getD l j 0) ≡ true
 
 -- ranks are well-formed: the numbers from 1 to how many there are, none twice (so that none is missing): RULES 2.8
 unfoldable pub wellFormed : List ℕ → Bool

@@ -6,12 +6,13 @@ ghost use mathlib.Core.Path.{_≡_};
 ghost use mathlib.Core.Bool.{cond};
 ghost use mathlib.Core.List.{List, [], _∷_, _++_};
 ghost use Prim.Native.Nat.{_+_, _≤_, _<_};
-ghost use lib.ListN.{length};
+ghost use lib.ListN.{length, take};
 ghost use Rattle.message.specs.declared.Message.{Message};
 ghost use Rattle.message.specs.Kind;
 ghost use Rattle.message.specs.Limits.{IsItem, maxSessions};
 ghost use Rattle.message.specs.Outbox.{plain, outboxOf};
-ghost use Rattle.session.specs.Seniority.{rank, senior, Leads};
+ghost use Rattle.session.specs.Seniority.{rank, senior};
+ghost use Rattle.session.specs.MostSenior.{mostSenior};
 ghost use Rattle.session.specs.Record.{size, sessionAt, putSession};
 ghost use Rattle.session.specs.Rules.{stepOf, dropped, storedProbes, toHeld, requested, released, granted, resent, aborted, cleaned, cleanedWaiting, cleanedVictim, rolledBack, junior, Storable, keptProbe, received, Deliverable, probed};
 
@@ -78,7 +79,7 @@ impl Session {
     // The place of the most senior of the first n sessions of a list, found in one pass.
     pub fn most_senior(ranks: &[u8], list: [u8; MAX_SESSIONS], n: usize) -> usize
         requires { ⌜ (0 < n) × (n ≤ maxSessions) ⌝ }
-        ensures { λ r. ⌜ Leads (senior (now (ranks .entry))) list n r ⌝ }
+        ensures { λ r. ⌜ (r ≡ mostSenior (senior (now (ranks .entry))) (take n list)) × (r < n) ⌝ }
     {
         let mut place: usize = 0;
         let mut best = Session::rank(ranks, list[0]);

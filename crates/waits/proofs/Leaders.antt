@@ -11,8 +11,8 @@ use Rattle.lists.proofs.Tests.{and-both, and-intro, fails, same?}
 use Rattle.lists.proofs.Laws.{getD-tabulate, length-tabulate, getD-member}
 use Rattle.lists.proofs.Searches.{count-none, count-some, every-at, every-intro}
 use Rattle.lists.proofs.Orders.{StrictTotal, weak}
-use Rattle.item.specs.NextHolder.{isMostSenior, mostSenior}
-use Rattle.item.proofs.MostSenior.{most-senior-inside, most-senior-passes, none-senior}
+use Rattle.session.specs.MostSenior.{isMostSenior, mostSenior}
+use Rattle.session.proofs.MostSenior.{most-senior-inside, most-senior-passes, none-senior}
 use Rattle.waits.specs.Waits.{reached, cycleLength, onCycle, leads, cycles}
 use Rattle.waits.specs.Cycle.{around, leader, cycle}
 use Rattle.waits.proofs.Reached.{Graph, reached-sum, on-cycle-positive, cycle-returns}

@@ -4,7 +4,7 @@ use mathlib.Core.Bool.{Bool}
 use mathlib.Core.List.{List}
 use lib.ListN.{getD}
 use Rattle.lists.specs.Lists.{tabulate}
-use Rattle.item.specs.NextHolder.{mostSenior}
+use Rattle.session.specs.MostSenior.{mostSenior}
 use Rattle.waits.specs.declared.Wait.{Wait}
 use Rattle.waits.specs.Waits.{reached, cycleLength}
 

@@ -12,7 +12,8 @@ use Rattle.item.specs.NextHolder.{nextHolder}
 use Rattle.item.specs.Record.{unpacked}
 use Rattle.item.specs.Rules.{handedOver, onRelease}
 use Rattle.session.proofs.Seniority.{senior-weak}
-use Rattle.item.proofs.MostSenior.{no-probes, most-senior-passes}
+use Rattle.session.proofs.MostSenior.{most-senior-passes}
+use Rattle.item.proofs.NextHolder.{no-probes}
 use Rattle.item.proofs.Laws.{queue-length, holds-queue, holds-other, holds-packed, vacated-none, vacated-more}
 use borrow.Author.Needs.{needs}
 use Rattle.item.proofs.Item.on_release.Statement.{statement}

@@ -1,14 +1,14 @@
 -- `Session::most_senior` meets its contract. The invariant: at `place` stands the most senior of the first i, with rank `best`.
-use mathlib.Core.Path.{_≡_}
+use mathlib.Core.Path.{_≡_, sym}
 use mathlib.Core.Logic.{⊎-elim}
 use Prim.Native.Nat.{_-_, _≤_}
 use native.Mathlib.Numerals.{add-one}
 use native.Mathlib.Omega.{arith}
 use borrow.Author.Tests.{lt-ltb, le-ltb}
-use lib.ListN.{getD}
-use Rattle.session.specs.Seniority.{rank, senior, Leads}
+use lib.ListN.{length, getD}
+use Rattle.session.specs.Seniority.{rank, senior}
 use Rattle.session.proofs.Seniority.{senior-weak}
-use Rattle.session.proofs.Leads.{leads-one, leads-new, leads-still}
+use Rattle.session.proofs.MostSenior.{Leads, leads-one, leads-new, leads-still, leads-place}
 use Rattle.session.proofs.Session.most_senior.Statement.{statement}
 use Rattle.session.proofs.Session.most_senior.Tie as tie
 
@@ -61,9 +61,13 @@ loop-again c =
 
 returns : tie.Need-returns Inv-loop μ-loop
 returns c =
+    let s = c .before .before .before .before in
     let l = c .before .loop in
-    let all : l .i ≡ c .before .before .before .before .args .n = omega arith in
-    rw (← all) (l .inv .1)
+    let q = s .args .t2 in
+    let len : length q ≡ 64 = s .good .1 .0 .1 .0 .1 in
+    let all : l .i ≡ s .args .n = omega arith in
+    let found : Leads (senior (s .args .ranks .now)) q (s .args .n) (l .place) = rw (← all) (l .inv .1) in
+    (sym (leads-place (senior-weak (s .args .ranks .now)) q (s .args .n) (l .place) (omega arith) found), found .inside)
 
 pub most-senior-spec : {M : Type 1} → statement M
 most-senior-spec =
