@@ -1,7 +1,8 @@
--- Every declaration of a list of single steps is true: each is one of a run of the machine.
+-- Every declaration of a list of calls is true: each is one of a run of the machine.
 use mathlib.Core.Path.{_≡_, refl, sym, ap, _∙_}
 use mathlib.Core.List.{List, [], _∷_, _++_}
 use mathlib.Core.Logic.{_≢_}
+use mathlib.Core.Option.{some}
 use Prim.Native.Nat.{ℕ}
 use lib.Dec.{eqb}
 use borrow.Author.Tests.{eqb-false, not-true}
@@ -14,7 +15,8 @@ use Rattle.deadlock.specs.Machine
 use Rattle.deadlock.specs.Statement as MachineStatement
 use Rattle.deadlock.proofs.Theorem as MachineTheorem
 use Rattle.lockmgr.specs.Calls.{Config}
-use Rattle.lockmgr.specs.Run.{Step, buffers, done}
+use Rattle.lockmgr.specs.Run.{Step, Buffers, buffers, Done, doneOn, leftBy, done, left}
+use Rattle.lockmgr.specs.History.{Call, stepsOf, steps}
 use Rattle.clause.specs.Statement.{TrueDeclaration, DeclarationsTrue}
 use Rattle.clause.proofs.State.{machineOf, machine-laws, stateOf, Good}
 use Rattle.clause.proofs.Cycles.{reached-of, on-cycle-of}
@@ -47,39 +49,50 @@ unfolding Machine.run
 run-then conf s [] c = refl
 run-then conf s (d ∷ cs) c = run-then conf (Machine.step (machineOf conf) anything s d .state) cs c
 
--- what is to hold of the first step, which leaves and answers r, and of the others
-abbrev From : List Step → Stepped → Type 0
-From steps r =
-    (r .answer .victim ≢ 0 → r .answer .initiator ≢ 0 → TrueDeclaration (r .table) (r .answer .victim) (r .answer .initiator))
-    × DeclarationsTrue (done (buffers (r .table) (r .mail)) steps)
-
 module _ (conf : Config) where
   abbrev begun : Machine.State
   begun = Machine.start (machineOf conf)
 
   -- after a run of the machine from its start, a move
-  module _ (table : List ℕ) (l : List Entry) (verb t : ℕ) (r : Stepped) (m : Moved conf table l verb t r)
+  module _ (table : List ℕ) (l : List Entry) (b : Buffers) (m : Moved conf table l b)
       (cs : List Machine.Call) (e : ran conf begun cs .state ≡ stateOf conf table l) where
-    stepped-to : Machine.step (machineOf conf) anything (ran conf begun cs .state) (m .call) ≡ record { state = stateOf conf (r .table) (m .entries); event = m .event }
-    stepped-to = ap (λ (s : Machine.State). Machine.step (machineOf conf) anything s (m .call)) e ∙ step-is conf table l verb t r m
+    stepped-to : Machine.step (machineOf conf) anything (ran conf begun cs .state) (m .call) ≡ record { state = stateOf conf (b .table) (m .entries); event = m .event }
+    stepped-to = ap (λ (s : Machine.State). Machine.step (machineOf conf) anything s (m .call)) e ∙ step-is conf table l b m
 
-    pub run-on : ran conf begun (cs ++ (m .call ∷ [])) .state ≡ stateOf conf (r .table) (m .entries)
+    run-on : ran conf begun (cs ++ (m .call ∷ [])) .state ≡ stateOf conf (b .table) (m .entries)
     run-on = run-then conf begun cs (m .call) ∙ ap (λ (s : Machine.Stepped). s .state) stepped-to
 
-    pub declares-truly : r .answer .victim ≢ 0 → TrueDeclaration (r .table) (r .answer .victim) (r .answer .initiator)
-    declares-truly n =
-        let d : Machine.Declaration = record { victim = r .answer .victim; initiator = r .answer .initiator } in
-        let told = guaranteed conf (r .table) (m .entries) (m .good) .declarations-true cs (m .call) d (ap (λ (s : Machine.Stepped). s .event .declared) stepped-to ∙ m .declares n) in
-        true-in-table conf (r .table) (m .entries) (m .good) (r .answer .victim) (r .answer .initiator) (rw (stepped-to) at told)
+    declared-truly : (v i : ℕ) → m .event .declared ≡ some (record { victim = v; initiator = i }) → TrueDeclaration (b .table) v i
+    declared-truly v i declared =
+        let told = guaranteed conf (b .table) (m .entries) (m .good) .declarations-true cs (m .call) (record { victim = v; initiator = i }) (ap (λ (s : Machine.Stepped). s .event .declared) stepped-to ∙ declared) in
+        true-in-table conf (b .table) (m .entries) (m .good) v i (rw (stepped-to) at told)
 
-  pub declarations : (steps : List Step) (table mail : List ℕ) (l : List Entry) → Good conf table l → mail ≡ Mail.mailBytes (conf .capacity) l
-      → (cs : List Machine.Call) → ran conf begun cs .state ≡ stateOf conf table l → DeclarationsTrue (done (buffers table mail) steps)
-  unfolding done
-  declarations [] table mail l g b cs e = tt
-  declarations (c ∷ steps) table mail l g b cs e =
-      rw (b) (by-step conf table l g (c .verb) (c .session) (c .item) (From steps)
-      (λ n _. ((λ v. absurd (v refl)), declarations steps table (Mail.mailBytes (conf .capacity) l) l g refl cs e))
+  -- every declaration of what is done from a table and entries that a run leads to
+  abbrev TrueFrom : (Buffers → List Done) → List ℕ → List Entry → Type 0
+  TrueFrom more table l =
+      (cs : List Machine.Call) → ran conf begun cs .state ≡ stateOf conf table l → DeclarationsTrue (more (buffers table (Mail.mailBytes (conf .capacity) l)))
+
+  -- of a step and of what is done behind it
+  true-step : (more : Buffers → List Done) → ((table : List ℕ) (l : List Entry) → Good conf table l → TrueFrom more table l)
+      → (c : Step) (table : List ℕ) (l : List Entry) → Good conf table l → TrueFrom (λ b. let d = doneOn b c in d ∷ more (leftBy d)) table l
+  true-step more then c table l g cs e =
+      by-step conf table l g (c .verb) (c .session) (c .item)
+      (λ (r : Stepped). (r .answer .victim ≢ 0 → r .answer .initiator ≢ 0 → TrueDeclaration (r .table) (r .answer .victim) (r .answer .initiator))
+      × DeclarationsTrue (more (buffers (r .table) (r .mail))))
+      (λ n _. ((λ v. absurd (v refl)), then table l g cs e))
       (λ r m. (
-        (λ v _. declares-truly table l (c .verb) (c .session) r m cs e v),
-        declarations steps (r .table) (r .mail) (m .entries) (m .good) (m .mail) (cs ++ (m .call ∷ [])) (run-on table l (c .verb) (c .session) r m cs e),
-      )))
+        (λ v _. declared-truly table l _ (m .moved) cs e (r .answer .victim) (r .answer .initiator) (m .declares v)),
+        rw (m .moved .mail) (then (r .table) (m .moved .entries) (m .moved .good) (cs ++ (m .moved .call ∷ [])) (run-on table l _ (m .moved) cs e)),
+      ))
+
+  -- of a list of steps, and of a list of calls
+  true-steps : (more : Buffers → List Done) → ((table : List ℕ) (l : List Entry) → Good conf table l → TrueFrom more table l)
+      → (steps : List Step) (table : List ℕ) (l : List Entry) → Good conf table l → TrueFrom (λ b. done b steps ++ more (left b steps)) table l
+  unfolding done left
+  true-steps more then [] table l g = then table l g
+  true-steps more then (c ∷ steps) table l g = true-step (λ b. done b steps ++ more (left b steps)) (true-steps more then steps) c table l g
+
+  pub declarations : (calls : List Call) (table : List ℕ) (l : List Entry) → Good conf table l → TrueFrom (λ b. steps b calls) table l
+  unfolding steps
+  declarations [] table l g = λ _ _. tt
+  declarations (c ∷ calls) table l g = true-steps (λ b. steps b calls) (declarations calls) (stepsOf (buffers table (Mail.mailBytes (conf .capacity) l)) c) table l g

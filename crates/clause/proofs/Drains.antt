@@ -21,7 +21,7 @@ use Rattle.lockmgr.specs.Run as Run
 use Rattle.lockmgr.specs.Run.{Buffers, buffers, doneOn, leftBy, done, left}
 use Rattle.lockmgr.specs.Drain.{oldest, limited, ending, deliveries, drainRefusal, drainSteps, drain}
 use Rattle.lockmgr.specs.History
-use Rattle.lockmgr.specs.History.{stepsOf, singles, after}
+use Rattle.lockmgr.specs.History.{stepsOf, after, steps}
 use Rattle.lockmgr.proofs.Judging.{formed-zero, buffers-zero, start-zero}
 use Rattle.lockmgr.proofs.Form.{step-keeps-form}
 use Rattle.lockmgr.proofs.Draining.{next-accepted}
@@ -37,11 +37,11 @@ use Rattle.clause.specs.Statement.{opened}
 use Rattle.clause.specs.Drains.{isAccepted, DrainIsSteps, DrainEnds, DrainsEnd, BoundSmall}
 use Rattle.clause.proofs.State
 use Rattle.clause.proofs.State.{machineOf, machine-laws, stateOf, Good}
-use Rattle.clause.proofs.Moves.{Moved}
+use Rattle.clause.proofs.Moves.{Moved, StepMoved}
 use Rattle.clause.proofs.Step.{by-step}
 use Rattle.clause.proofs.Follow.{anything}
 use Rattle.clause.proofs.Theorem.{start-accepted, followed}
-use Rattle.clause.proofs.Replay.{single-steps}
+use Rattle.clause.proofs.Replay.{steps-left, steps-done}
 
 -- the verb of an entry is that of a delivery
 is-delivery : (e : Entry) → between Step.deliverToItem Step.deliverToSession (verbOf e) ≡ true
@@ -58,17 +58,18 @@ all-accepted (suc n) b f =
     (all-accepted n (leftBy (doneOn b c)) (step-keeps-form (c .verb) (c .session) (c .item) (b .table) (b .mail) f .formed)))
     (λ _. refl)
 
-one-call : (limit : ℕ) (b : Buffers) → singles b (History.drain limit ∷ []) ≡ drainSteps limit b
-unfolding singles stepsOf
-one-call limit b = append-nil (drainSteps limit b)
+-- the steps of a single call
+one-call : (limit : ℕ) (b : Buffers) → steps b (History.drain limit ∷ []) ≡ done b (drainSteps limit b)
+unfolding steps stepsOf
+one-call limit b = append-nil (done b (drainSteps limit b))
 
 pub drain-is-steps : DrainIsSteps
-unfolding drain drainSteps done all
+unfolding drain drainSteps done all after stepsOf
 drain-is-steps limit b = record {
   made = refl;
-  left = rw (single-steps b (drainSteps limit b)) refl;
-  same-left = rw (single-steps b (drainSteps limit b), one-call limit b) refl;
-  same-steps = rw (single-steps b (drainSteps limit b), one-call limit b) refl;
+  left = rw (steps-left b (drainSteps limit b)) refl;
+  same-left = rw (steps-left b (drainSteps limit b)) refl;
+  same-steps = rw (steps-done b (drainSteps limit b)) (one-call limit b);
   accepted = by-test (λ (l : List Run.Step). all isAccepted (done b l) ≡ true) (eqb (drainRefusal b) 0)
       (λ q. all-accepted limit b (buffers-zero (b .table) (b .mail) (eqb-true (drainRefusal b) 0 q))) (λ _. refl);
 }
@@ -88,12 +89,15 @@ module _ (conf : Config) where
   R = machineOf conf
 
   -- each makes the potential fall
-  module _ (table : List ℕ) (l : List Entry) (k : Invariant R (stateOf conf table l)) (verb t : ℕ) (r : Stepped) (m : Moved conf table l verb t r) where
+  module _ (table : List ℕ) (l : List Entry) (k : Invariant R (stateOf conf table l)) (verb t : ℕ) (r : Stepped) (s : StepMoved conf table l verb t r) where
+    abbrev m : Moved conf table l (buffers (r .table) (r .mail))
+    m = s .moved
+
     kept : Invariant R (stateOf conf (r .table) (m .entries))
     kept = rw (m .moves) (invariant-move R (machine-laws conf (r .table) (m .entries) (m .good)) (stateOf conf table l) k (m .call) (m .of-machine))
 
     falls : between Step.deliverToItem Step.deliverToSession verb ≡ true → potential R (stateOf conf (r .table) (m .entries)) < potential R (stateOf conf table l)
-    falls d = rw (m .moves) (omega (arith, BoundTheorem.theorem R (machine-laws conf (r .table) (m .entries) (m .good)) .falls (stateOf conf table l) k (m .call) (m .of-machine) (m .delivers d)))
+    falls d = rw (m .moves) (omega (arith, BoundTheorem.theorem R (machine-laws conf (r .table) (m .entries) (m .good)) .falls (stateOf conf table l) k (m .call) (m .of-machine) (s .delivers d)))
 
   few : (n : ℕ) (table : List ℕ) (l : List Entry) → Good conf table l → Invariant R (stateOf conf table l)
       → length (deliveries n (buffers table (Mail.mailBytes (conf .capacity) l))) ≤ potential R (stateOf conf table l)
@@ -105,7 +109,7 @@ module _ (conf : Config) where
       (λ q. by-step conf table l g (oldest b .verb) (oldest b .session) (oldest b .item)
       (λ (r : Stepped). r .answer .refusal ≡ 0 → length (oldest b ∷ deliveries n (buffers (r .table) (r .mail))) ≤ potential R (stateOf conf table l))
       (λ i other z. absurd (other z))
-      (λ r m _. rw (m .mail) (omega (arith, few n (r .table) (m .entries) (m .good) (kept table l k _ _ r m), falls table l k _ _ r m (is-delivery (Mail.entryAt (b .mail) 0)))))
+      (λ r m _. rw (m .moved .mail) (omega (arith, few n (r .table) (m .moved .entries) (m .moved .good) (kept table l k _ _ r m), falls table l k _ _ r m (is-delivery (Mail.entryAt (b .mail) 0)))))
       (next-accepted table (Mail.mailBytes (conf .capacity) l) (State.buffers-formed conf table l g) (eqb-true (ending b) limited q)))
       (λ _. omega arith)
 

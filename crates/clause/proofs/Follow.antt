@@ -1,7 +1,7 @@
--- A list of single steps is a run of the machine: those that are not refused, in order. The counts agree.
+-- A list of calls is a run of the machine: its single steps that are not refused, in order. The counts agree.
 use mathlib.Core.Path.{_≡_, refl, ap}
 use mathlib.Core.Bool.{Bool, true, _&&_, and-false}
-use mathlib.Core.List.{List, [], _∷_}
+use mathlib.Core.List.{List, [], _∷_, _++_}
 use Prim.Native.Nat.{ℕ, _+_}
 use native.Mathlib.Omega.{arith}
 use lib.Dec.{eqb}
@@ -11,15 +11,15 @@ use Rattle.mailbox.specs.Entry.{Entry}
 use Rattle.mailbox.specs.Layout as Mail
 use Rattle.table.specs.Layout as Table
 use Rattle.step.specs.Step as Step
-use Rattle.lockmgr.specs.Calls as Calls
 use Rattle.lockmgr.specs.Calls.{Config}
 use Rattle.step.specs.Step.{Stepped, stepped, refusedAnswer}
 use Rattle.lockmgr.specs.Run as Run
-use Rattle.lockmgr.specs.Run.{Buffers, buffers, done, left, rollsBack, one}
+use Rattle.lockmgr.specs.Run.{Buffers, buffers, Done, doneOn, leftBy, done, left, rollsBack, one}
+use Rattle.lockmgr.specs.History.{Call, stepsOf, after, steps}
 use Rattle.deadlock.specs.Machine
 use Rattle.clause.specs.Statement.{closed, rolledBack}
 use Rattle.clause.proofs.State.{machineOf, stateOf, Good}
-use Rattle.clause.proofs.Moves.{Moved, one-is-bit, never-both}
+use Rattle.clause.proofs.Moves.{Moved, StepMoved, one-is-bit, never-both}
 use Rattle.clause.proofs.Step.{by-step}
 
 -- the policy that refuses nothing: a refused step is no call of the machine
@@ -31,10 +31,10 @@ abbrev pub ran : Config → Machine.State → List Machine.Call → Machine.Ran
 ran conf s cs = Machine.run (machineOf conf) anything s cs
 
 -- the machine's step at a move
-pub step-is : (conf : Config) (table : List ℕ) (l : List Entry) (verb t : ℕ) (r : Stepped) (m : Moved conf table l verb t r)
-    → Machine.step (machineOf conf) anything (stateOf conf table l) (m .call) ≡ record { state = stateOf conf (r .table) (m .entries); event = m .event }
+pub step-is : (conf : Config) (table : List ℕ) (l : List Entry) (b : Buffers) (m : Moved conf table l b)
+    → Machine.step (machineOf conf) anything (stateOf conf table l) (m .call) ≡ record { state = stateOf conf (b .table) (m .entries); event = m .event }
 unfolding Machine.step
-step-is conf table l verb t r m = rw (m .of-machine, ← m .moves, m .happens) refl
+step-is conf table l b m = rw (m .of-machine, ← m .moves, m .happens) refl
 
 -- a run whose first step is known
 run-more : (conf : Config) (s : Machine.State) (c : Machine.Call) (cs : List Machine.Call) (a : Machine.Stepped) → Machine.step (machineOf conf) anything s c ≡ a
@@ -43,76 +43,92 @@ unfolding Machine.run
 run-more conf s c cs a e =
     ap (λ (b : Machine.Stepped). record { state = ran conf (b .state) cs .state; events = b .event ∷ ran conf (b .state) cs .events }) e
 
--- the counts of a list, after k cycles closed and j sessions rolled back, are those of a run of the machine
-pub record Followed (conf : Config) (s : Machine.State) (b : Buffers) (steps : List Run.Step) (k j : ℕ) : Type 0 where
+-- what is left in the end and the counts of the steps done, after k cycles closed and j sessions rolled back, are those of a run of the machine
+pub record Followed (conf : Config) (s : Machine.State) (end : Buffers) (steps : List Done) (k j : ℕ) : Type 0 where
   pub run : List Machine.Call
   pub entries : List Entry
-  pub mail : left b steps .mail ≡ Mail.mailBytes (conf .capacity) entries
-  pub good : Good conf (left b steps .table) entries
-  pub state : ran conf s run .state ≡ stateOf conf (left b steps .table) entries
-  pub closes : k + closed (done b steps) ≡ Machine.countClosed (ran conf s run .events)
-  pub rolls : j + rolledBack (done b steps) ≡ Machine.countRolledBack (ran conf s run .events)
+  pub mail : end .mail ≡ Mail.mailBytes (conf .capacity) entries
+  pub good : Good conf (end .table) entries
+  pub state : ran conf s run .state ≡ stateOf conf (end .table) entries
+  pub closes : k + closed steps ≡ Machine.countClosed (ran conf s run .events)
+  pub rolls : j + rolledBack steps ≡ Machine.countRolledBack (ran conf s run .events)
 
-module _ (conf : Config) (verb t : ℕ) (steps : List Run.Step) (table mail : List ℕ) (l : List Entry) where
-  abbrev delivery : Bool
-  delivery = between Step.deliverToItem Step.deliverToSession verb
+-- nothing is done
+pub none-followed : (conf : Config) (table : List ℕ) (l : List Entry) → Good conf table l
+    → Followed conf (stateOf conf table l) (buffers table (Mail.mailBytes (conf .capacity) l)) [] 0 0
+unfolding closed rolledBack Machine.run Machine.countClosed Machine.countRolledBack
+none-followed conf table l g = record { run = []; entries = l; mail = refl; good = g; state = refl; closes = refl; rolls = refl }
 
-  -- what the list does whose first step leaves and answers r
-  abbrev After : Stepped → Type 0
-  After r = Followed conf (stateOf conf table l) (buffers (r .table) (r .mail)) steps (r .answer .closed) (one (delivery && rollsBack t table (r .table)))
+-- what is done behind a step: what it leaves in the end, and its single steps
+module _ (conf : Config) (end : Buffers → Buffers) (more : Buffers → List Done) where
+  -- it is followed from a table and entries
+  abbrev FollowedFrom : List ℕ → List Entry → Type 0
+  FollowedFrom table l =
+      let b = buffers table (Mail.mailBytes (conf .capacity) l) in
+      Followed conf (stateOf conf table l) (end b) (more b) 0 0
 
-  refused-after : Followed conf (stateOf conf table l) (buffers table mail) steps 0 0 → (n : ℕ) → After (stepped (refusedAnswer n) table mail)
-  refused-after h n = record {
-    run = h .run;
-    entries = h .entries;
-    mail = h .mail;
-    good = h .good;
-    state = h .state;
-    closes = h .closes;
-    rolls = rw (never-both (eqb (Table.session table t .stage) Stage.rolledBack), and-false delivery) (h .rolls);
-  }
+  module _ (verb t : ℕ) (table : List ℕ) (l : List Entry) where
+    abbrev delivery : Bool
+    delivery = between Step.deliverToItem Step.deliverToSession verb
 
-  moved-after : (r : Stepped) (m : Moved conf table l verb t r)
-      → Followed conf (stateOf conf (r .table) (m .entries)) (buffers (r .table) (r .mail)) steps 0 0 → After r
-  unfolding Machine.countClosed Machine.countRolledBack
-  moved-after r m h =
-      let at = run-more conf (stateOf conf table l) (m .call) (h .run) _ (step-is conf table l verb t r m) in record {
-        run = m .call ∷ h .run;
-        entries = h .entries;
-        mail = h .mail;
-        good = h .good;
-        state = rw (at) (h .state);
-        closes = rw (at) (omega (arith, m .closes, h .closes));
-        rolls = rw (at, m .delivered, m .rolls, one-is-bit (m .event .rolledBack)) (omega (arith, h .rolls));
-      }
+    -- behind a step that leaves and answers r, with its counts
+    abbrev After : Stepped → Type 0
+    After r =
+        let b = buffers (r .table) (r .mail) in
+        Followed conf (stateOf conf table l) (end b) (more b) (r .answer .closed) (one (delivery && rollsBack t table (r .table)))
 
-module _ (conf : Config) (table mail : List ℕ) (l : List Entry) where
-  abbrev All : List Run.Step → Type 0
-  All steps = Followed conf (stateOf conf table l) (buffers table mail) steps 0 0
+    refused-after : FollowedFrom table l → (n : ℕ) → After (stepped (refusedAnswer n) table (Mail.mailBytes (conf .capacity) l))
+    refused-after h n = record {
+      run = h .run;
+      entries = h .entries;
+      mail = h .mail;
+      good = h .good;
+      state = h .state;
+      closes = h .closes;
+      rolls = rw (never-both (eqb (Table.session table t .stage) Stage.rolledBack), and-false delivery) (h .rolls);
+    }
 
-  no-steps : Good conf table l → mail ≡ Mail.mailBytes (conf .capacity) l → All []
-  unfolding left done closed rolledBack Machine.run Machine.countClosed Machine.countRolledBack
-  no-steps g e = record { run = []; entries = l; mail = e; good = g; state = refl; closes = refl; rolls = refl }
+    moved-after : (r : Stepped) (m : StepMoved conf table l verb t r) → FollowedFrom (r .table) (m .moved .entries) → After r
+    unfolding Machine.countClosed Machine.countRolledBack
+    moved-after r m f =
+        let b = buffers (r .table) (r .mail) in
+        let h : Followed conf (stateOf conf (r .table) (m .moved .entries)) (end b) (more b) 0 0 = rw (m .moved .mail) f in
+        let at = run-more conf (stateOf conf table l) (m .moved .call) (h .run) _ (step-is conf table l b (m .moved)) in record {
+          run = m .moved .call ∷ h .run;
+          entries = h .entries;
+          mail = h .mail;
+          good = h .good;
+          state = rw (at) (h .state);
+          closes = rw (at) (omega (arith, m .closes, h .closes));
+          rolls = rw (at, m .delivered, m .rolls, one-is-bit (m .moved .event .rolledBack)) (omega (arith, h .rolls));
+        }
 
-  after-step : (c : Run.Step) (steps : List Run.Step) → After conf (c .verb) (c .session) steps table mail l (Calls.step (c .verb) (c .session) (c .item) table mail) → All (c ∷ steps)
-  unfolding left done closed rolledBack
-  after-step c steps h =
+  -- a step, if what is done behind it is followed from wherever it leads
+  follow-step : ((table : List ℕ) (l : List Entry) → Good conf table l → FollowedFrom table l)
+      → (c : Run.Step) (table : List ℕ) (l : List Entry) → Good conf table l
+      → (let d = doneOn (buffers table (Mail.mailBytes (conf .capacity) l)) c in Followed conf (stateOf conf table l) (end (leftBy d)) (d ∷ more (leftBy d)) 0 0)
+  unfolding closed rolledBack
+  follow-step then c table l g =
+      let h =
+      by-step conf table l g (c .verb) (c .session) (c .item) (After (c .verb) (c .session) table l)
+      (λ n _. refused-after (c .verb) (c .session) table l (then table l g) n)
+      (λ r m. moved-after (c .verb) (c .session) table l r m (then (r .table) (m .moved .entries) (m .moved .good))) in
       record { run = h .run; entries = h .entries; mail = h .mail; good = h .good; state = h .state; closes = omega (arith, h .closes); rolls = omega (arith, h .rolls) }
 
-  -- the first step, with what it is followed by
-  first-step : (c : Run.Step) (steps : List Run.Step) → Good conf table l → mail ≡ Mail.mailBytes (conf .capacity) l → All steps
-      → ((r : Stepped) (m : Moved conf table l (c .verb) (c .session) r) → Followed conf (stateOf conf (r .table) (m .entries)) (buffers (r .table) (r .mail)) steps 0 0)
-      → All (c ∷ steps)
-  first-step c steps g e same other =
-      after-step c steps
-      (rw (e) (by-step conf table l g (c .verb) (c .session) (c .item) (After conf (c .verb) (c .session) steps table mail l)
-      (λ n _. refused-after conf (c .verb) (c .session) steps table (Mail.mailBytes (conf .capacity) l) l (rw (e) at same) n)
-      (λ r m. moved-after conf (c .verb) (c .session) steps table mail l r m (other r m))))
+-- a list of steps
+follow-steps : (conf : Config) (end : Buffers → Buffers) (more : Buffers → List Done)
+    → ((table : List ℕ) (l : List Entry) → Good conf table l → FollowedFrom conf end more table l)
+    → (steps : List Run.Step) (table : List ℕ) (l : List Entry) → Good conf table l
+    → FollowedFrom conf (λ b. end (left b steps)) (λ b. done b steps ++ more (left b steps)) table l
+unfolding left done
+follow-steps conf end more then [] table l g = then table l g
+follow-steps conf end more then (c ∷ steps) table l g =
+    follow-step conf (λ b. end (left b steps)) (λ b. done b steps ++ more (left b steps)) (follow-steps conf end more then steps) c table l g
 
--- by the list
-pub follow : (conf : Config) (steps : List Run.Step) (table mail : List ℕ) (l : List Entry) → Good conf table l → mail ≡ Mail.mailBytes (conf .capacity) l
-    → Followed conf (stateOf conf table l) (buffers table mail) steps 0 0
-follow conf [] table mail l g e = no-steps conf table mail l g e
-follow conf (c ∷ steps) table mail l g e =
-    first-step conf table mail l c steps g e (follow conf steps table mail l g e)
-    (λ r m. follow conf steps (r .table) (r .mail) (m .entries) (m .good) (m .mail))
+-- a list of calls
+pub follow : (conf : Config) (calls : List Call) (table : List ℕ) (l : List Entry) → Good conf table l
+    → FollowedFrom conf (λ b. after b calls) (λ b. steps b calls) table l
+unfolding after steps
+follow conf [] table l g = none-followed conf table l g
+follow conf (c ∷ calls) table l g =
+    follow-steps conf (λ b. after b calls) (λ b. steps b calls) (follow conf calls) (stepsOf (buffers table (Mail.mailBytes (conf .capacity) l)) c) table l g

@@ -1,4 +1,4 @@
--- What a step that is not refused is to the machine: one of its moves, with the same event.
+-- What a call that is not refused is to the machine: one of its moves, with the same event.
 use mathlib.Core.Path.{_≡_, refl, ap, _∙_}
 use mathlib.Core.Bool.{Bool, true, false, cond, not, _&&_, and-false}
 use mathlib.Core.List.{List, _++_, map}
@@ -22,7 +22,7 @@ use Rattle.waits.specs.OnTable.{locks, cycleLength}
 use Rattle.step.specs.Step as Step
 use Rattle.step.specs.Step.{Stepped, committed, sessionPlan, itemPlan}
 use Rattle.lockmgr.specs.Calls.{Config}
-use Rattle.lockmgr.specs.Run.{rollsBack}
+use Rattle.lockmgr.specs.Run.{Buffers, buffers, rollsBack}
 use Rattle.deadlock.specs.Lists.{bit}
 use Rattle.deadlock.specs.Machine
 use Rattle.bound.specs.Statement as Bound
@@ -32,21 +32,25 @@ use Rattle.clause.proofs.State
 use Rattle.clause.proofs.State.{machineOf, stateOf, Good}
 use Rattle.clause.proofs.Cycles.{on-cycle-of}
 
--- a step with this verb and session, from a table and entries, that leaves and answers r
-pub record Moved (conf : Config) (table : List ℕ) (l : List Entry) (verb t : ℕ) (r : Stepped) : Type 0 where
+-- from a table and entries to other buffers: a call of the machine, with what happens at it
+pub record Moved (conf : Config) (table : List ℕ) (l : List Entry) (b : Buffers) : Type 0 where
   pub call : Machine.Call
   pub of-machine : Machine.ofMachine (machineOf conf) call ≡ true
   pub entries : List Entry
-  pub mail : r .mail ≡ Mail.mailBytes (conf .capacity) entries
-  pub good : Good conf (r .table) entries
-  pub moves : stateOf conf (r .table) entries ≡ Machine.move (machineOf conf) (stateOf conf table l) call
+  pub mail : b .mail ≡ Mail.mailBytes (conf .capacity) entries
+  pub good : Good conf (b .table) entries
+  pub moves : stateOf conf (b .table) entries ≡ Machine.move (machineOf conf) (stateOf conf table l) call
   pub event : Machine.Event
-  pub happens : Machine.eventOf (machineOf conf) (stateOf conf table l) call (stateOf conf (r .table) entries) ≡ event
-  pub closes : r .answer .closed ≡ bit (event .closed)
-  pub declares : r .answer .victim ≢ 0 → event .declared ≡ some (record { victim = r .answer .victim; initiator = r .answer .initiator })
-  pub rolls : rollsBack t table (r .table) ≡ event .rolledBack
+  pub happens : Machine.eventOf (machineOf conf) (stateOf conf table l) call (stateOf conf (b .table) entries) ≡ event
+
+-- such a move by a step with this verb and session, which leaves and answers r
+pub record StepMoved (conf : Config) (table : List ℕ) (l : List Entry) (verb t : ℕ) (r : Stepped) : Type 0 where
+  pub moved : Moved conf table l (buffers (r .table) (r .mail))
+  pub closes : r .answer .closed ≡ bit (moved .event .closed)
+  pub declares : r .answer .victim ≢ 0 → moved .event .declared ≡ some (record { victim = r .answer .victim; initiator = r .answer .initiator })
+  pub rolls : rollsBack t table (r .table) ≡ moved .event .rolledBack
   pub delivered : between Step.deliverToItem Step.deliverToSession verb && rollsBack t table (r .table) ≡ rollsBack t table (r .table)
-  pub delivers : between Step.deliverToItem Step.deliverToSession verb ≡ true → Bound.delivers (stateOf conf table l) call ≡ true
+  pub delivers : between Step.deliverToItem Step.deliverToSession verb ≡ true → Bound.delivers (stateOf conf table l) (moved .call) ≡ true
 
 pub one-is-bit : (b : Bool) → cond b 1 0 ≡ bit b
 one-is-bit true = refl
@@ -61,11 +65,11 @@ pub never-both : (b : Bool) → not b && b ≡ false
 never-both true = refl
 never-both false = refl
 
-module _ (conf : Config) (table : List ℕ) (l : List Entry) (g : Good conf table l) (verb t : ℕ) (t-range : between 1 (conf .sessions) t ≡ true) where
+module _ (conf : Config) (table : List ℕ) (l : List Entry) (g : Good conf table l) (t : ℕ) (t-range : between 1 (conf .sessions) t ≡ true) where
   abbrev before : Machine.State
   before = stateOf conf table l
 
-  -- the step of a session: the verb, the machine's call, the entries that are not delivered by it
+  -- what session t does: the machine's call, the entries that are not delivered by it
   module _ (call : Machine.Call) (of-machine : Machine.ofMachine (machineOf conf) call ≡ true) (rest : List Entry) (r : Session.After) where
     abbrev sent : List Entry
     sent = rest ++ map (fromSession t) (r .sends)
@@ -77,9 +81,7 @@ module _ (conf : Config) (table : List ℕ) (l : List Entry) (g : Good conf tabl
         (moves : (f : ℕ → Session) → Put f → readState (conf .sessions) (conf .items) f (locks table) sent ≡ Machine.move (machineOf conf) before call)
         (happens : (f : ℕ → Session) → Put f → StateWellFormed (conf .sessions) (conf .items) f (locks table) sent
         → Machine.eventOf (machineOf conf) before call (readState (conf .sessions) (conf .items) f (locks table) sent)
-        ≡ record { closed = false; declared = none; rolledBack = not (eqb (Table.session table t .stage) Stage.rolledBack) && eqb (f t .stage) Stage.rolledBack })
-        (delivered : between Step.deliverToItem Step.deliverToSession verb && eqb (r .session .stage) Stage.rolledBack ≡ eqb (r .session .stage) Stage.rolledBack)
-        (delivers : between Step.deliverToItem Step.deliverToSession verb ≡ true → Bound.delivers before call ≡ true) where
+        ≡ record { closed = false; declared = none; rolledBack = not (eqb (Table.session table t .stage) Stage.rolledBack) && eqb (f t .stage) Stage.rolledBack }) where
       abbrev table-after : List ℕ
       table-after = Table.withSession table t (r .session)
 
@@ -89,7 +91,7 @@ module _ (conf : Config) (table : List ℕ) (l : List Entry) (g : Good conf tabl
       state : stateOf conf table-after sent ≡ readState (conf .sessions) (conf .items) (Table.session table-after) (locks table) sent
       state = State.session-state conf table l g t t-range (r .session) sent fits kept
 
-      pub session-moved : Moved conf table l verb t (committed t (conf .capacity) (sessionPlan t table rest r))
+      pub session-moved : Moved conf table l (buffers table-after (Mail.mailBytes (conf .capacity) sent))
       session-moved = record {
         call = call;
         of-machine = of-machine;
@@ -99,6 +101,16 @@ module _ (conf : Config) (table : List ℕ) (l : List Entry) (g : Good conf tabl
         moves = state ∙ moves (Table.session table-after) put;
         event = record { closed = false; declared = none; rolledBack = rollsBack t table table-after };
         happens = ap (Machine.eventOf (machineOf conf) before call) state ∙ happens (Table.session table-after) put (kept (Table.session table-after) put);
+      }
+
+      -- by a step with this verb
+      pub session-stepped : (verb : ℕ)
+          → between Step.deliverToItem Step.deliverToSession verb && eqb (r .session .stage) Stage.rolledBack ≡ eqb (r .session .stage) Stage.rolledBack
+          → (between Step.deliverToItem Step.deliverToSession verb ≡ true → Bound.delivers before call ≡ true)
+          → StepMoved conf table l verb t (committed t (conf .capacity) (sessionPlan t table rest r))
+      unfolding session-moved
+      session-stepped verb delivered delivers = record {
+        moved = session-moved;
         closes = one-is-bit false;
         declares = λ n. absurd (n refl);
         rolls = refl;
@@ -107,7 +119,7 @@ module _ (conf : Config) (table : List ℕ) (l : List Entry) (g : Good conf tabl
         delivers = delivers;
       }
 
-  -- the step of item x
+  -- what item x does on a message of session t
   module _ (x : ℕ) (x-range : between 1 (conf .items) x ≡ true) (call : Machine.Call) (of-machine : Machine.ofMachine (machineOf conf) call ≡ true)
       (rest : List Entry) (r : Item.After) where
     abbrev answered : List Entry
@@ -150,16 +162,19 @@ module _ (conf : Config) (table : List ℕ) (l : List Entry) (g : Good conf tabl
       never-rolls Joined b = refl
       never-rolls (Declared v i) b = refl
 
-      pub item-moved : Moved conf table l verb t (committed t (conf .capacity) (itemPlan x table rest r))
-      item-moved = record {
-        call = call;
-        of-machine = of-machine;
-        entries = answered;
-        mail = refl;
-        good = good;
-        moves = State.item-state conf table l g x x-range (r .lock) answered fits kept ∙ moves (locks item-after) put-lock;
-        event = Machine.itemEvent (r .event) (Machine.onCycle (machineOf conf) (stateOf conf item-after answered) t);
-        happens = happens (stateOf conf item-after answered);
+      -- by a step with this verb
+      pub item-stepped : (verb : ℕ) → StepMoved conf table l verb t (committed t (conf .capacity) (itemPlan x table rest r))
+      item-stepped verb = record {
+        moved = record {
+          call = call;
+          of-machine = of-machine;
+          entries = answered;
+          mail = refl;
+          good = good;
+          moves = State.item-state conf table l g x x-range (r .lock) answered fits kept ∙ moves (locks item-after) put-lock;
+          event = Machine.itemEvent (r .event) (Machine.onCycle (machineOf conf) (stateOf conf item-after answered) t);
+          happens = happens (stateOf conf item-after answered);
+        };
         closes = closes (r .event);
         declares = declares (r .event) (Machine.onCycle (machineOf conf) (stateOf conf item-after answered) t);
         rolls = same-stage ∙ never-rolls (r .event) (Machine.onCycle (machineOf conf) (stateOf conf item-after answered) t);

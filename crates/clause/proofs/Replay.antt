@@ -17,7 +17,7 @@ use Rattle.lockmgr.specs.Calls.{Config}
 use Rattle.lockmgr.proofs.Judging.{start-zero}
 use Rattle.lockmgr.specs.Run as Run
 use Rattle.lockmgr.specs.Run.{Buffers, buffers, Done, doneOn, leftBy, done, left, tallied, rollsBack}
-use Rattle.lockmgr.specs.History.{stepsOf, singles}
+use Rattle.lockmgr.specs.History.{stepsOf, after, steps}
 use Rattle.clause.specs.Statement.{opened, closed, rollback, rolledBack}
 use Rattle.clause.specs.Drains.{callOf}
 use Rattle.clause.proofs.State.{Good}
@@ -42,7 +42,7 @@ next conf table mail l g e verb t x =
       good = g;
       mail = refl;
     })
-    (λ r m. record { delivered = m .delivered; entries = m .entries; good = m .good; mail = m .mail }))
+    (λ r m. record { delivered = m .delivered; entries = m .moved .entries; good = m .moved .good; mail = m .moved .mail }))
 
 -- the steps add their counts to a tally
 record Tallied (y : Run.Tally) (l : List Done) : Type 0 where
@@ -67,11 +67,16 @@ replay conf (c ∷ l) table mail k g e y =
     let d = doneOn (buffers table mail) c in
     one-step y d (done (leftBy d) l) (n .delivered) (replay conf l (d .result .table) (d .result .mail) (n .entries) (n .good) (n .mail) (Run.counted (c .session) table (d .result) y))
 
--- the single steps of a list of steps
-pub single-steps : (b : Buffers) (l : List Run.Step) → singles b (map callOf l) ≡ l
-unfolding singles stepsOf left
-single-steps b [] = refl
-single-steps b (c ∷ l) = ap (λ (k : List Run.Step). c ∷ k) (single-steps (leftBy (doneOn b c)) l)
+-- a list of steps, as calls
+pub steps-left : (b : Buffers) (l : List Run.Step) → after b (map callOf l) ≡ left b l
+unfolding after stepsOf left
+steps-left b [] = refl
+steps-left b (c ∷ l) = steps-left (leftBy (doneOn b c)) l
+
+pub steps-done : (b : Buffers) (l : List Run.Step) → steps b (map callOf l) ≡ done b l
+unfolding steps stepsOf left done
+steps-done b [] = refl
+steps-done b (c ∷ l) = ap (λ (k : List Done). doneOn b c ∷ k) (steps-done (leftBy (doneOn b c)) l)
 
 -- from a start that is not refused, with the tallies at zero
 abbrev pub replayed : Config → List ℕ → List ℕ → List Run.Step → Run.Ran
@@ -87,5 +92,5 @@ tallies-agree c table mail e l empty =
     let p = start-leaves c table mail e in
     let g : Good c (s .table) [] = rw (ap (λ (b : Buffers). b .table) p) (begun-good c (start-zero c table mail (start-accepted c table mail e))) in
     let h = replay c l (s .table) (s .mail) [] g (ap (λ (b : Buffers). b .mail) p) Run.zeros in
-    let n = theorem c table mail e (map callOf l) .settled (rw (single-steps b l) empty) .counts in
-    omega (arith, h .closes, h .rolls, rw (single-steps b l) at n)
+    let n = theorem c table mail e (map callOf l) .settled (rw (steps-left b l) empty) .counts in
+    omega (arith, h .closes, h .rolls, rw (steps-done b l) at n)

@@ -36,7 +36,7 @@ use Rattle.agreement.proofs.MoveAgrees as Agrees
 use Rattle.agreement.proofs.EventAgrees as Events
 use Rattle.clause.proofs.State
 use Rattle.clause.proofs.State.{seniorOf, nextOf, machineOf, Good}
-use Rattle.clause.proofs.Moves.{Moved, session-moved, item-moved}
+use Rattle.clause.proofs.Moves.{StepMoved, session-stepped, item-stepped}
 
 -- nothing happens, for no test and another is passed
 quiet : (b : Bool) → Machine.nothing ≡ record { closed = false; declared = none; rolledBack = b && false }
@@ -93,7 +93,7 @@ module _ (conf : Config) (table : List ℕ) (l : List Entry) (g : Good conf tabl
     in-range = and-intro t-range x-range
 
     abbrev Done : ℕ → Type 0
-    Done verb = Unhindered verb t x table mail → Moved conf table l verb t (committed t (conf .capacity) (plan verb t x table l))
+    Done verb = Unhindered verb t x table mail → StepMoved conf table l verb t (committed t (conf .capacity) (plan verb t x table l))
 
     few-sessions : conf .sessions ≤ 64
     few-sessions = State.few-sessions conf table l g
@@ -116,13 +116,12 @@ module _ (conf : Config) (table : List ℕ) (l : List Entry) (g : Good conf tabl
         let mask = or-neither (has x (s .held)) _ (u .mask) .0 in
         let allowed : eqb (s .stage) Stage.growing && not (has x (s .held)) ≡ true = and-intro (not-false (eqb (s .stage) Stage.growing) stage) (rw (mask) refl) in
         rw (request-plan t x table l)
-        (session-moved conf table l g Step.request t t-range (Machine.requestCall t x) in-range l (Session.requested x s)
+        (session-stepped conf table l g t t-range (Machine.requestCall t x) in-range l (Session.requested x s)
         (rw (capacity-is, entries-are, request-plan t x table l) at (u .room))
         (λ f h. Agrees.request-move-kept (seniorOf conf) (nextOf conf) (conf .sessions) (conf .items) few-sessions few-items (Table.session table) (locks table) l formed t x t-range x-range f h)
         (λ f h. Agrees.request-move (seniorOf conf) (nextOf conf) (conf .sessions) (conf .items) few-sessions few-items (Table.session table) (locks table) l formed t x t-range x-range allowed f h)
         (λ f h _. rw (h .here) (quiet (not (eqb (s .stage) Stage.rolledBack))))
-        refl
-        (λ e. absurd (false≢true e)))
+        Step.request refl (λ e. absurd (false≢true e)))
 
     release-done : Done Step.release
     unfolding Machine.ofMachine Machine.eventOf Session.released
@@ -131,13 +130,12 @@ module _ (conf : Config) (table : List ℕ) (l : List Entry) (g : Good conf tabl
         let stage : eqb (s .stage) Stage.growing || eqb (s .stage) Stage.shrinking ≡ true = not-false (eqb (s .stage) Stage.growing || eqb (s .stage) Stage.shrinking) (u .stage) in
         let allowed : (eqb (s .stage) Stage.growing || eqb (s .stage) Stage.shrinking) && has x (s .held) ≡ true = and-intro stage (not-false (has x (s .held)) (u .mask)) in
         rw (release-plan t x table l)
-        (session-moved conf table l g Step.release t t-range (Machine.releaseCall t x) in-range l (Session.released x s)
+        (session-stepped conf table l g t t-range (Machine.releaseCall t x) in-range l (Session.released x s)
         (rw (capacity-is, entries-are, release-plan t x table l) at (u .room))
         (λ f h. Agrees.release-move-kept (seniorOf conf) (nextOf conf) (conf .sessions) (conf .items) few-sessions few-items (Table.session table) (locks table) l formed t x t-range x-range stage f h)
         (λ f h. Agrees.release-move (seniorOf conf) (nextOf conf) (conf .sessions) (conf .items) few-sessions few-items (Table.session table) (locks table) l formed t x t-range x-range allowed f h)
         (λ f h _. rw (h .here) (quiet (not (eqb (s .stage) Stage.rolledBack))))
-        refl
-        (λ e. absurd (false≢true e)))
+        Step.release refl (λ e. absurd (false≢true e)))
 
     -- the item and the session are given the ranks of the table, which are those of the start
     item-plan : plan Step.deliverToItem t x table l ≡ itemPlan x table (Agrees.othersOf t x l true) (Agrees.itemStep (seniorOf conf) (nextOf conf) (locks table) t x l)
@@ -155,29 +153,28 @@ module _ (conf : Config) (table : List ℕ) (l : List Entry) (g : Good conf tabl
     item-done u =
         let found : eqb (Agrees.placeOf t x l true) (length l) ≡ false = rw (entries-are) at (u .route) in
         rw (item-plan)
-        (item-moved conf table l g Step.deliverToItem t t-range x x-range (Machine.deliverToItem t x) in-range (Agrees.othersOf t x l true) (Agrees.itemStep (seniorOf conf) (nextOf conf) (locks table) t x l)
+        (item-stepped conf table l g t t-range x x-range (Machine.deliverToItem t x) in-range (Agrees.othersOf t x l true) (Agrees.itemStep (seniorOf conf) (nextOf conf) (locks table) t x l)
         (rw (capacity-is, entries-are, item-plan) at (u .room))
         (λ f h. Agrees.item-move-kept (seniorOf conf) (nextOf conf) (conf .sessions) (conf .items) few-sessions few-items (Table.session table) (locks table) l formed t x t-range x-range found (next-inside (senior-weak (conf .ranks))) f h)
         (λ f h. Agrees.item-move (seniorOf conf) (nextOf conf) (conf .sessions) (conf .items) few-sessions few-items (Table.session table) (locks table) l formed t x t-range x-range found (next-inside (senior-weak (conf .ranks))) f h)
         (λ after. Events.item-move-event (seniorOf conf) (nextOf conf) (conf .sessions) (conf .items) few-sessions few-items (Table.session table) (locks table) l formed t x t-range x-range found (next-inside (senior-weak (conf .ranks))) after)
-        (taken true found))
+        (taken true found) Step.deliverToItem)
 
     session-done : Done Step.deliverToSession
     unfolding delivered Machine.ofMachine Bound.delivers
     session-done u =
         let found : eqb (Agrees.placeOf t x l false) (length l) ≡ false = rw (entries-are) at (u .route) in
         rw (session-plan)
-        (session-moved conf table l g Step.deliverToSession t t-range (Machine.deliverToSession t x) in-range (Agrees.othersOf t x l false) (Agrees.sessionStep (seniorOf conf) (Table.session table) t x l)
+        (session-stepped conf table l g t t-range (Machine.deliverToSession t x) in-range (Agrees.othersOf t x l false) (Agrees.sessionStep (seniorOf conf) (Table.session table) t x l)
         (rw (capacity-is, entries-are, session-plan) at (u .room))
         (λ f h. Agrees.session-move-kept (seniorOf conf) (nextOf conf) (conf .sessions) (conf .items) few-sessions few-items (Table.session table) (locks table) l formed t x t-range x-range found f h)
         (λ f h. Agrees.session-move (seniorOf conf) (nextOf conf) (conf .sessions) (conf .items) few-sessions few-items (Table.session table) (locks table) l formed t x t-range x-range found f h)
         (λ f h v. Events.session-move-event (seniorOf conf) (nextOf conf) (conf .sessions) (conf .items) few-sessions few-items (Table.session table) (locks table) l formed t x t-range x-range f _ v)
-        refl
-        (λ _. taken false found))
+        Step.deliverToSession refl (λ _. taken false found))
 
   -- whatever holds of a refused step, and of one that is a move of the machine, holds of a step
   pub by-step : (verb t x : ℕ) (P : Stepped → Type 0) → ((n : ℕ) → n ≢ 0 → P (stepped (refusedAnswer n) table mail))
-      → ((r : Stepped) → Moved conf table l verb t r → P r) → P (step verb t x table mail)
+      → ((r : Stepped) → StepMoved conf table l verb t r → P r) → P (step verb t x table mail)
   by-step verb t x P refused moved =
       outcome verb t x table mail P refused (λ e u.
       let known = judged-zero verb t x table mail e in

@@ -1,4 +1,4 @@
--- The clause: the single steps of a list of calls are a run of the machine, whose theorem holds of the lock manager's rules.
+-- The clause: a list of calls is a run of the machine, whose theorem holds of the lock manager's rules.
 use mathlib.Core.Path.{_≡_, refl, sym, ap, _∙_}
 use mathlib.Core.Bool.{false, not}
 use mathlib.Core.List.{List, [], _∷_}
@@ -26,7 +26,7 @@ use Rattle.deadlock.specs.Machine
 use Rattle.agreement.specs.Reading.{readEntries}
 use Rattle.agreement.proofs.MoveAgrees.{start-agrees}
 use Rattle.lockmgr.specs.Run.{Buffers, buffers}
-use Rattle.lockmgr.specs.History.{Call, singles, after}
+use Rattle.lockmgr.specs.History.{Call, after, steps}
 use Rattle.clause.specs.Statement.{opened, Settled, WellFormed, Holds, Clause}
 use Rattle.clause.proofs.State
 use Rattle.clause.proofs.State.{seniorOf, nextOf, machineOf, stateOf, Good}
@@ -80,7 +80,7 @@ unfolding readEntries
 none-read l e = ap readEntries e
 
 -- what a list of calls leaves that is followed by a run of the machine from its start
-module _ (conf : Config) (b : Buffers) (calls : List Call) (h : Followed conf (Machine.start (machineOf conf)) b (singles b calls) 0 0) where
+module _ (conf : Config) (b : Buffers) (calls : List Call) (h : Followed conf (Machine.start (machineOf conf)) (after b calls) (steps b calls) 0 0) where
   abbrev table-left : List ℕ
   table-left = after b calls .table
 
@@ -133,14 +133,14 @@ module _ (c : Config) (table mail : List ℕ) (e : Calls.start c table mail .ref
   state : stateOf c (begun c) [] ≡ Machine.start (machineOf c)
   state = begun-state c (known .sizes .ranks-whole)
 
-  pub followed : Followed c (Machine.start (machineOf c)) b (singles b calls) 0 0
-  followed = rw (start-leaves c table mail e, ← state) (follow c _ (begun c) (Mail.mailBytes (c .capacity) []) [] good refl)
+  pub followed : Followed c (Machine.start (machineOf c)) (after b calls) (steps b calls) 0 0
+  followed = rw (start-leaves c table mail e, ← state) (follow c calls (begun c) [] good)
 
   holds : Holds c b calls
   unfolding Machine.run
   holds = record {
     settled = settled c b calls followed;
-    declarations = rw (start-leaves c table mail e) (declarations c _ (begun c) (Mail.mailBytes (c .capacity) []) [] good refl [] (sym state));
+    declarations = rw (start-leaves c table mail e) (declarations c calls (begun c) [] good [] (sym state));
     formed = well-formed c b calls followed;
   }
 

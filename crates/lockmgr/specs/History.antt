@@ -1,4 +1,4 @@
--- A list of calls, each given the table and mail as the one before left them: the single steps that it is made of.
+-- A list of calls, each given the table and mail as the one before left them: what it leaves, and the single steps that it is made of.
 use Prim.Native.Nat.{ℕ}
 use mathlib.Core.List.{List, [], _∷_, _++_}
 use Rattle.lockmgr.specs.Run.{Step, Buffers, Done, done, left}
@@ -16,14 +16,15 @@ stepsOf b (step verb t x) = record { verb = verb; session = t; item = x } ∷ []
 stepsOf b (report t) = []
 stepsOf b (drain limit) = drainSteps limit b
 
--- and those of a list of calls
-unfoldable pub singles : Buffers → List Call → List Step
-singles b [] = []
-singles b (c ∷ l) = let k = stepsOf b c in k ++ singles (left b k) l
+-- what a call leaves
+abbrev pub leaves : Buffers → Call → Buffers
+leaves b c = left b (stepsOf b c)
 
 -- what a list of calls leaves, and its single steps, done
-abbrev pub after : Buffers → List Call → Buffers
-after b calls = left b (singles b calls)
+unfoldable pub after : Buffers → List Call → Buffers
+after b [] = b
+after b (c ∷ l) = after (leaves b c) l
 
-abbrev pub steps : Buffers → List Call → List Done
-steps b calls = done b (singles b calls)
+unfoldable pub steps : Buffers → List Call → List Done
+steps b [] = []
+steps b (c ∷ l) = done b (stepsOf b c) ++ steps (leaves b c) l
