@@ -47,4 +47,4 @@ module _ (senior : ℕ → ℕ → Bool) (next : List ℕ → ℕ) (S M : ℕ) (
   session-move-event g k v =
       let f = session-facts S M (sessions t) (w .session t t-range) in
       let h = session-facts S M (g t) (v .session t t-range) in
-      rw (session-at senior next S M few-sessions few-items sessions locks l w t x t-range x-range, session-at senior next S M few-sessions few-items g locks k v t x t-range x-range, rolledBack-agrees (sessions t .awaited) (sessions t .stage) (f .stage-low) (f .stage-high), rolledBack-agrees (g t .awaited) (g t .stage) (h .stage-low) (h .stage-high)) refl
+      rw (session-at S sessions t t-range, session-at S g t t-range, rolledBack-agrees (sessions t .awaited) (sessions t .stage) (f .stage-low) (f .stage-high), rolledBack-agrees (g t .awaited) (g t .stage) (h .stage-low) (h .stage-high)) refl

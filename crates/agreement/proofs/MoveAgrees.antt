@@ -93,32 +93,20 @@ pub record StateWellFormed (S M : ℕ) (sessions : ℕ → Session) (locks : ℕ
   pub lock : (x : ℕ) → between 1 M x ≡ true → LockWellFormed S (locks x)
   pub entries : all (Entry.wellFormed S M) l ≡ true
 
-module _ (senior : ℕ → ℕ → Bool) (next : List ℕ → ℕ) (S M : ℕ) (few-sessions : S ≤ 64) (few-items : M ≤ 64)
-    (sessions : ℕ → Session) (locks : ℕ → Lock) (l : List Entry) (w : StateWellFormed S M sessions locks l)
-    (t x : ℕ) (t-range : between 1 S t ≡ true) (x-range : between 1 M x ≡ true) where
-  abbrev R : Machine.Rules
-  R = rules S M senior next
+-- session t of the machine
+pub session-at : (S : ℕ) (sessions : ℕ → Session) (t : ℕ) → between 1 S t ≡ true → readSessions S sessions t ≡ readSession (sessions t)
+unfolding readSessions
+session-at S sessions t r = rw (r) refl
 
-  pub session-at : readSessions S sessions t ≡ readSession (sessions t)
-  unfolding readSessions
-  session-at = rw (t-range) refl
-
-  pub item-at : readItems M locks x ≡ readItem (locks x)
-  unfolding readItems
-  item-at = rw (x-range) refl
-
-  -- a session's step
-  session-state : (rest : List Entry) (r : SessionRules.After) (g : ℕ → Session) → Replaced S sessions g t (r .session)
+-- what session t does
+module _ (S M : ℕ) (sessions : ℕ → Session) (locks : ℕ → Lock) (l : List Entry) (w : StateWellFormed S M sessions locks l) (t : ℕ) (t-range : between 1 S t ≡ true) where
+  -- the state after it
+  pub session-state : (rest : List Entry) (r : SessionRules.After) (g : ℕ → Session) → Replaced S sessions g t (r .session)
       → readState S M g locks (rest ++ map (fromSession t) (r .sends)) ≡ Machine.afterSession (readState S M sessions locks l) t (readEntries rest) (readSessionStep r)
   unfolding Machine.afterSession
   session-state rest r g h = rw (sessions-replaced S sessions g t (r .session) t-range h, readEntries-append rest (map (fromSession t) (r .sends)), from-session t (r .sends)) refl
 
-  item-state : (rest : List Entry) (r : ItemRules.After) (g : ℕ → Lock) → Replaced M locks g x (r .lock)
-      → readState S M sessions g (rest ++ map (fromItem x) (r .sends)) ≡ Machine.afterItem (readState S M sessions locks l) x (readEntries rest) (readItemStep r)
-  unfolding Machine.afterItem
-  item-state rest r g h = rw (items-replaced M locks g x (r .lock) x-range h, readEntries-append rest (map (fromItem x) (r .sends)), from-item x (r .sends)) refl
-
-  session-state-kept : (rest : List Entry) → all (Entry.wellFormed S M) rest ≡ true → (r : SessionRules.After) → SessionKept S M t r → (g : ℕ → Session) → Replaced S sessions g t (r .session)
+  pub session-state-kept : (rest : List Entry) → all (Entry.wellFormed S M) rest ≡ true → (r : SessionRules.After) → SessionKept S M t r → (g : ℕ → Session) → Replaced S sessions g t (r .session)
       → StateWellFormed S M g locks (rest ++ map (fromSession t) (r .sends))
   session-state-kept rest e r k g h = record {
     session = λ j f. at j f (eqb t j) refl .0;
@@ -130,6 +118,22 @@ module _ (senior : ℕ → ℕ → Bool) (next : List ℕ → ℕ) (S M : ℕ) (
       at : (j : ℕ) → between 1 S j ≡ true → (b : Bool) → eqb t j ≡ b → (SessionRecord.wellFormed S M (g j) ≡ true) × (length (g j .juniors) ≡ 64)
       at j f true q = rw (← eqb-true t j q, h .here) (k .session, k .juniors)
       at j f false q = rw (h .elsewhere j f (eqb-false t j q)) (w .session j f, w .juniors j f)
+
+module _ (senior : ℕ → ℕ → Bool) (next : List ℕ → ℕ) (S M : ℕ) (few-sessions : S ≤ 64) (few-items : M ≤ 64)
+    (sessions : ℕ → Session) (locks : ℕ → Lock) (l : List Entry) (w : StateWellFormed S M sessions locks l)
+    (t x : ℕ) (t-range : between 1 S t ≡ true) (x-range : between 1 M x ≡ true) where
+  abbrev R : Machine.Rules
+  R = rules S M senior next
+
+  pub item-at : readItems M locks x ≡ readItem (locks x)
+  unfolding readItems
+  item-at = rw (x-range) refl
+
+  -- an item's step
+  item-state : (rest : List Entry) (r : ItemRules.After) (g : ℕ → Lock) → Replaced M locks g x (r .lock)
+      → readState S M sessions g (rest ++ map (fromItem x) (r .sends)) ≡ Machine.afterItem (readState S M sessions locks l) x (readEntries rest) (readItemStep r)
+  unfolding Machine.afterItem
+  item-state rest r g h = rw (items-replaced M locks g x (r .lock) x-range h, readEntries-append rest (map (fromItem x) (r .sends)), from-item x (r .sends)) refl
 
   item-state-kept : (rest : List Entry) → all (Entry.wellFormed S M) rest ≡ true → (r : ItemRules.After) → ItemKept S M x r → (g : ℕ → Lock) → Replaced M locks g x (r .lock)
       → StateWellFormed S M sessions g (rest ++ map (fromItem x) (r .sends))
@@ -164,21 +168,21 @@ module _ (senior : ℕ → ℕ → Bool) (next : List ℕ → ℕ) (S M : ℕ) (
   pub request-move : eqb (sessions t .stage) Stage.growing && not (has x (sessions t .held)) ≡ true → (g : ℕ → Session) → Replaced S sessions g t (SessionRules.requested x (sessions t) .session)
       → readState S M g locks (l ++ map (fromSession t) (SessionRules.requested x (sessions t) .sends)) ≡ Machine.move R before (Machine.requestCall t x)
   unfolding Machine.move Machine.afterAnswer
-  request-move e g h = rw (session-at, request-answer, e) (session-state l (SessionRules.requested x (sessions t)) g h)
+  request-move e g h = rw (session-at S sessions t t-range, request-answer, e) (session-state S M sessions locks l w t t-range l (SessionRules.requested x (sessions t)) g h)
 
   -- a release in stage 1 or 3 of an item held
   pub release-move : (eqb (sessions t .stage) Stage.growing || eqb (sessions t .stage) Stage.shrinking) && has x (sessions t .held) ≡ true → (g : ℕ → Session) → Replaced S sessions g t (SessionRules.released x (sessions t) .session)
       → readState S M g locks (l ++ map (fromSession t) (SessionRules.released x (sessions t) .sends)) ≡ Machine.move R before (Machine.releaseCall t x)
   unfolding Machine.move Machine.afterAnswer
-  release-move e g h = rw (session-at, release-answer, e) (session-state l (SessionRules.released x (sessions t)) g h)
+  release-move e g h = rw (session-at S sessions t t-range, release-answer, e) (session-state S M sessions locks l w t t-range l (SessionRules.released x (sessions t)) g h)
 
   pub request-move-kept : (g : ℕ → Session) → Replaced S sessions g t (SessionRules.requested x (sessions t) .session)
       → StateWellFormed S M g locks (l ++ map (fromSession t) (SessionRules.requested x (sessions t) .sends))
-  request-move-kept g h = session-state-kept l (w .entries) (SessionRules.requested x (sessions t)) (request-kept S M t x t-range x-range (sessions t) (w .session t t-range) (w .juniors t t-range)) g h
+  request-move-kept g h = session-state-kept S M sessions locks l w t t-range l (w .entries) (SessionRules.requested x (sessions t)) (request-kept S M t x t-range x-range (sessions t) (w .session t t-range) (w .juniors t t-range)) g h
 
   pub release-move-kept : eqb (sessions t .stage) Stage.growing || eqb (sessions t .stage) Stage.shrinking ≡ true → (g : ℕ → Session) → Replaced S sessions g t (SessionRules.released x (sessions t) .session)
       → StateWellFormed S M g locks (l ++ map (fromSession t) (SessionRules.released x (sessions t) .sends))
-  release-move-kept e g h = session-state-kept l (w .entries) (SessionRules.released x (sessions t)) (release-kept S M t x t-range x-range (sessions t) (w .session t t-range) (w .juniors t t-range) e) g h
+  release-move-kept e g h = session-state-kept S M sessions locks l w t t-range l (w .entries) (SessionRules.released x (sessions t)) (release-kept S M t x t-range x-range (sessions t) (w .session t t-range) (w .juniors t t-range) e) g h
 
   -- ---- the deliveries
   module _ (d : Bool) (found : eqb (placeOf t x l d) (length l) ≡ false) where
@@ -242,11 +246,11 @@ module _ (senior : ℕ → ℕ → Bool) (next : List ℕ → ℕ) (S M : ℕ) (
     pub session-move : (g : ℕ → Session) → Replaced S sessions g t (sessionStep senior sessions t x l .session)
         → readState S M g locks (othersOf t x l false ++ map (fromSession t) (sessionStep senior sessions t x l .sends)) ≡ Machine.move R before (Machine.deliverToSession t x)
     unfolding Machine.move Machine.sessionTakes
-    session-move g h = rw (taken-eq false found, session-at, ← session-step-agrees) (session-state (othersOf t x l false) (sessionStep senior sessions t x l) g h)
+    session-move g h = rw (taken-eq false found, session-at S sessions t t-range, ← session-step-agrees) (session-state S M sessions locks l w t t-range (othersOf t x l false) (sessionStep senior sessions t x l) g h)
 
     pub session-move-kept : (g : ℕ → Session) → Replaced S sessions g t (sessionStep senior sessions t x l .session) → StateWellFormed S M g locks (othersOf t x l false ++ map (fromSession t) (sessionStep senior sessions t x l .sends))
     session-move-kept g h =
-        session-state-kept (othersOf t x l false) (others-formed false found) (sessionStep senior sessions t x l)
+        session-state-kept S M sessions locks l w t t-range (othersOf t x l false) (others-formed false found) (sessionStep senior sessions t x l)
         (rw (entry-session false found) at (session-kept senior S M (entryOf t x l false) (entry-formed false found) (sessions t) (w .session t t-range) (w .juniors t t-range))) g h
 
 -- a lock manager that was just started

@@ -18,7 +18,7 @@ use Rattle.session.proofs.Laws.{requested-length, received-length}
 use Rattle.session.specs.Rules as Session
 use Rattle.item.specs.NextHolder.{nextHolder}
 use Rattle.item.specs.Record.{Packed}
-use Rattle.item.proofs.Laws.{wellFormed-packed, received-fits, queue-length}
+use Rattle.item.proofs.Laws.{received-fits, queue-length}
 use Rattle.mailbox.specs.Entry.{Entry, unused, onRoute, toItem, toSession, seenByItem, seenBySession}
 use Rattle.mailbox.specs.Layout as Mail
 use Rattle.mailbox.specs.Layout.{Kept, capacityOf, countOf, entryAt, entriesOf, mailBytes}
@@ -61,8 +61,7 @@ module _ (t x : ℕ) (table mail : List ℕ) (j : Judged t x table mail) where
   has-item = record { sized = j .formed .records .sized; low = j .item-low; high = j .item-high }
 
   pub item-packed : Packed (Table.item table x)
-  item-packed =
-      wellFormed-packed (Table.sessionsOf table) (Table.item table x) max-sessions (TableLaws.queue-length table (j .formed .records .sized) x (j .item-low) (j .item-high)) (TableLaws.well-formed-item table (j .formed .records .formed) x (j .item-low) (j .item-high))
+  item-packed = TableLaws.packed-item table (j .formed .records .sized) (j .formed .records .formed) x (j .item-low) (j .item-high)
 
   -- an entry that a session is handed
   pub deliverable : (k : ℕ) → k < countOf mail → Session.Deliverable (seenBySession (entryAt mail k))

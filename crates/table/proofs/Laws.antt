@@ -182,6 +182,11 @@ module _ (t : List ℕ) (e : sized t ≡ true) where
   unfolding item
   queue-length x l h = length-slice t (itemPlace (sessionsOf t) x + ItemRecord.queuePlace) maxSessions (omega (arith, item-fits t e x l h))
 
+  -- a well-formed record has zeros behind its queue
+  pub packed-item : wellFormed t ≡ true → (x : ℕ) → 1 ≤ x → x ≤ itemsOf t → ItemRecord.Packed (item t x)
+  packed-item w x l h =
+      ItemLaws.wellFormed-packed (sessionsOf t) (item t x) (sized-facts t e .max-sessions) (queue-length x l h) (well-formed-item t w x l h)
+
   -- the table with the record of session k replaced
   module _ (k : ℕ) (l : 1 ≤ k) (h : k ≤ sessionsOf t) (s : Session) (j : length (s .juniors) ≡ maxSessions) where
     session-written : sessionPlace k + length (SessionRecord.sessionBytes s) ≤ length t
