@@ -19,8 +19,8 @@
 #   make fuzz          the comparison with new seeds: FUZZ_SECONDS=60, SEED=n to repeat one
 #   make bench         times of a call beside model, floor and hand-written Rust;
 #                      BEFORE=path/to/liblockmgr.a beside an earlier library too
-#   make earlier       the library and an earlier one, which knows no ranks, on the same calls,
-#                      byte for byte: BEFORE=path/to/liblockmgr.a
+#   make earlier       the library and an earlier one, which need not reopen sessions, on the
+#                      same calls, byte for byte: BEFORE=path/to/liblockmgr.a
 #   make picture       draws docs/cycle.svg anew (needs Graphviz)
 #   make format        lays out all sources anew; make format-check only looks
 #   make clean         removes what was built

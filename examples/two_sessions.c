@@ -4,8 +4,9 @@
  * single deliveries; for the rest the mail is drained. Each session edits the
  * items that it is granted; the victim's edit is undone after the drain that
  * rolls it back, before the other session goes on. Then the same calls are made
- * with other ranks, and the other session is the victim. Every answer is
- * checked; the exit status is 0 if all are as expected.
+ * with other ranks, and the other session is the victim; it is reopened and
+ * tries again. Every answer is checked; the exit status is 0 if all are as
+ * expected.
  */
 #include "lockmgr.h"
 
@@ -31,6 +32,7 @@ typedef struct {
 } script_step;
 
 #define REQUEST LOCKMGR_REQUEST
+#define RELEASE LOCKMGR_RELEASE
 #define TO_ITEM LOCKMGR_DELIVER_TO_ITEM
 #define TO_SESSION LOCKMGR_DELIVER_TO_SESSION
 
@@ -64,6 +66,11 @@ static const script_step found[] = {
 static const script_step crossed[] = {
     {REQUEST, 1, 2, {0, 1, 0, 0, 0}, "The design office wants item 2 as well."},
     {REQUEST, 2, 1, {0, 1, 0, 0, 0}, "The tool room wants item 1 as well."},
+};
+
+static const script_step again[] = {
+    {REQUEST, 1, 1, {0, 1, 0, 0, 0}, "The design office asks for item 1 again."},
+    {RELEASE, 2, 1, {0, 1, 0, 0, 0}, "The tool room is done with item 1."},
 };
 
 /* clang-format on */
@@ -102,7 +109,7 @@ static lockmgr_answer make(const script_step *step)
     case LOCKMGR_DELIVER_TO_SESSION:
         return deliver(LOCKMGR_TO_SESSION, step->session, step->item);
     default:
-        printf("%s of session %u for item %u\n", lockmgr_verb_text(step->verb), step->session,
+        printf("%s by session %u of item %u\n", lockmgr_verb_text(step->verb), step->session,
                step->item);
         return lockmgr_step(step->verb, step->session, step->item, table, sizeof table, mail,
                             sizeof mail);
@@ -221,6 +228,16 @@ static void drain(unsigned deliveries, const char *meaning)
             edit(session, lockmgr_awaited(before, session));
 }
 
+static void reopen(unsigned session, const char *meaning)
+{
+    unsigned refusal = lockmgr_reopen(session, table, sizeof table, mail, sizeof mail);
+    print_number();
+    printf("reopening of session %u\n", session);
+    print_indented(meaning);
+    printf("      -> %s\n", lockmgr_refusal_text(refusal));
+    expect("refusal of reopen", refusal, LOCKMGR_ACCEPTED);
+}
+
 /* The cycle in words: what the owner of the edit that will be undone is told. */
 static void tell(unsigned victim, const char *expected)
 {
@@ -318,6 +335,16 @@ int main(void)
               "rolled back. Item 1 goes to session 2, which holds both items now.");
     look(0, LOCKMGR_ROLLED_BACK, LOCKMGR_GROWING);
     expect_both_items(2);
+
+    printf("\nThe victim is reopened and tries again\n\n");
+    reopen(1, "Session 1 was rolled back, and no message is left that names it: it grows\n"
+              "again, with the rank that it had.");
+    PLAY(again);
+    drain(3, "Session 1 joins the wait queue of item 1. Then the release arrives, and item 1\n"
+             "goes to session 1.");
+    look(0, LOCKMGR_GROWING, LOCKMGR_SHRINKING);
+    expect("session 1 holds item 1:", lockmgr_holds(table, 1, 1) ? 1 : 0, 1);
+    expect("rank of session 1", lockmgr_rank(table, 1), 2);
 
     if (differences) {
         printf("\n%d answers differ from what is expected.\n", differences);

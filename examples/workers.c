@@ -1,19 +1,22 @@
 /*
  * Threads that share a catalogue: each locks a few items in any order, edits
  * them and lets them go. A session that becomes the victim of a deadlock has
- * its edits undone, and its worker tries again with the next session number.
+ * its edits undone. Each worker has one session number: after its work, and
+ * after a rollback, it reopens the session and goes on with the next piece of
+ * work, or tries the same one again.
  *
  *     workers [SECONDS [SEED]]
  *
  * One mutex guards the lock manager. Whoever makes a call holds it, drains the
  * mail and undoes what victims have edited before letting it go. So the mail is
- * empty at every call (rule 1 of the header), and nobody learns of a grant
- * before the item is as it should be. A worker that waits sleeps on a condition
- * and looks at the stage of its session. The items themselves are guarded by
- * their locks alone.
+ * empty at every call (rule 1 of the header), a session whose work is over can
+ * be reopened at once, and nobody learns of a grant before the item is as it
+ * should be. A worker that waits sleeps on a condition and looks at the stage of
+ * its session. The items themselves are guarded by their locks alone.
  *
- * The exit status is 0 if no two sessions ever edited an item at once and the
- * catalogue has in the end exactly what was committed.
+ * The exit status is 0 if no two sessions ever edited an item at once, the
+ * catalogue has in the end exactly what was committed, and all sessions and
+ * items are free again.
  */
 #include "lockmgr.h"
 
@@ -24,16 +27,16 @@
 #include <string.h>
 #include <time.h>
 
-enum { WORKERS = 6, SESSIONS = LOCKMGR_MAX_SESSIONS, ITEMS = 8, LOCKS = 3 };
+enum { WORKERS = 6, ITEMS = 8, LOCKS = 3 };
 
 /* The lock manager, and what the mutex guards beside it. */
 static pthread_mutex_t mutex = PTHREAD_MUTEX_INITIALIZER;
 static pthread_cond_t changed = PTHREAD_COND_INITIALIZER;
-static uint8_t table[LOCKMGR_TABLE_SIZE(SESSIONS, ITEMS)];
-static uint8_t mail[LOCKMGR_MAIL_SIZE(LOCKMGR_CAPACITY(SESSIONS, ITEMS))];
+static uint8_t table[LOCKMGR_TABLE_SIZE(WORKERS, ITEMS)];
+static uint8_t mail[LOCKMGR_MAIL_SIZE(LOCKMGR_CAPACITY(WORKERS, ITEMS))];
 static uint8_t before[sizeof table]; /* the table before the last call */
-static unsigned sessions_used, workers_started;
-static unsigned rolled_back, committed, overlaps;
+static unsigned workers_started;
+static unsigned committed, rolled_back, reopened, overlaps;
 static unsigned expected[ITEMS + 1]; /* committed edits of each item */
 
 /* The catalogue. An item belongs to the session that holds its lock. */
@@ -78,7 +81,7 @@ static void perform(unsigned verb, unsigned session, unsigned item)
         fail("drain", lockmgr_refusal_text(drained.refusal));
     if (drained.ending != LOCKMGR_DRAIN_EMPTY)
         fail("drain", lockmgr_ending_text(drained.ending));
-    for (other = 1; other <= sessions_used; other++) {
+    for (other = 1; other <= WORKERS; other++) {
         if (lockmgr_stage(before, other) != LOCKMGR_ROLLED_BACK &&
             lockmgr_stage(table, other) == LOCKMGR_ROLLED_BACK) {
             undo(other);
@@ -108,6 +111,18 @@ static unsigned edit(unsigned session, unsigned item)
     catalogue[item].edits++;
     sched_yield();
     return others + (catalogue[item].editor != session);
+}
+
+/* Reopens a session that has released everything or was rolled back. */
+static void reopen(unsigned session)
+{
+    uint8_t refusal;
+    pthread_mutex_lock(&mutex);
+    refusal = lockmgr_reopen(session, table, sizeof table, mail, sizeof mail);
+    if (refusal != LOCKMGR_ACCEPTED)
+        fail("reopen", lockmgr_refusal_text(refusal));
+    reopened++;
+    pthread_mutex_unlock(&mutex);
 }
 
 /* Locks and edits the items one after the other, then lets them go: 1, or 0 if
@@ -153,42 +168,39 @@ static void choose(uint32_t *state, unsigned *items)
     }
 }
 
-/* The next session number, or 0 if all have been used. */
-static unsigned next_session(void)
-{
-    unsigned session;
-    pthread_mutex_lock(&mutex);
-    session = sessions_used < SESSIONS ? ++sessions_used : 0;
-    pthread_mutex_unlock(&mutex);
-    return session;
-}
-
 static uint32_t seed;
+static time_t end;
 
+/* One piece of work after the other, each until it is committed, as long as
+ * there is time. */
 static void *work(void *unused)
 {
     unsigned items[ITEMS], session;
     uint32_t state;
+    int done;
     pthread_mutex_lock(&mutex);
-    state = seed + 7919u * ++workers_started;
+    session = ++workers_started;
     pthread_mutex_unlock(&mutex);
-    choose(&state, items);
-    while ((session = next_session()) != 0)
-        if (transaction(session, items))
-            choose(&state, items);
+    state = seed + 7919u * session;
+    do {
+        choose(&state, items);
+        do {
+            done = transaction(session, items);
+            reopen(session);
+        } while (!done);
+    } while (time(NULL) < end);
     return unused;
 }
 
-/* A lock manager from its start until all its session numbers are used. */
+/* A lock manager from its start until all workers have stopped. */
 static void run(void)
 {
-    lockmgr_options options = lockmgr_default_options(SESSIONS, ITEMS);
+    lockmgr_options options = lockmgr_default_options(WORKERS, ITEMS);
     pthread_t threads[WORKERS];
     unsigned k;
     uint8_t refusal = lockmgr_start_with(&options, table, sizeof table, mail, sizeof mail);
     if (refusal != LOCKMGR_ACCEPTED)
         fail("start", lockmgr_refusal_text(refusal));
-    sessions_used = 0;
     for (k = 0; k < WORKERS; k++) {
         if (pthread_create(&threads[k], NULL, work, NULL) != 0) {
             printf("no thread\n");
@@ -201,19 +213,20 @@ static void run(void)
 
 int main(int argc, char **argv)
 {
-    long seconds = argc > 1 ? strtol(argv[1], NULL, 10) : 2;
-    time_t end = time(NULL) + seconds;
-    unsigned item, wrong = 0, runs = 0;
+    unsigned k, wrong = 0;
+    end = time(NULL) + (argc > 1 ? strtol(argv[1], NULL, 10) : 2);
     if (argc > 2)
         seed = strtoul(argv[2], NULL, 10) & 0xFFFFFFFFu;
-    do {
-        run();
-        runs++;
-        for (item = 1; item <= ITEMS; item++)
-            wrong += catalogue[item].edits != expected[item] || catalogue[item].editor != 0;
-    } while (wrong == 0 && time(NULL) < end);
-    printf("%u runs of %d workers: %u transactions committed, %u rolled back\n", runs, WORKERS,
-           committed, rolled_back);
-    printf("%u overlaps, %u wrong items\n", overlaps, wrong);
+    run();
+    for (k = 1; k <= ITEMS; k++)
+        wrong += catalogue[k].edits != expected[k] || catalogue[k].editor != 0 ||
+                 lockmgr_holder(table, k) != 0;
+    for (k = 1; k <= WORKERS; k++)
+        wrong += lockmgr_stage(table, k) != LOCKMGR_GROWING;
+    wrong += reopened != committed + rolled_back;
+    printf("%d workers with a session each: %u pieces of work committed, %u rollbacks, "
+           "%u reopenings\n",
+           WORKERS, committed, rolled_back, reopened);
+    printf("%u overlaps, %u faults in the end\n", overlaps, wrong);
     return overlaps || wrong;
 }

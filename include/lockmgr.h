@@ -6,14 +6,14 @@
  * session there. Sessions and items talk only by messages, which stand in a
  * mailbox until you deliver them. When sessions come to wait for each other in
  * a cycle, probes find it: the most junior session of the cycle, the victim, is
- * rolled back and gives up everything that it holds. You call five functions
- * on numbers and byte buffers. The library allocates nothing, keeps nothing
+ * rolled back and gives up everything that it holds. A session whose work is
+ * over can be reopened for the next piece of work. You call six functions on
+ * numbers and byte buffers. The library allocates nothing, keeps nothing
  * between calls, does no input or output and starts no threads.
  *
  * Its limits: 1 to 64 sessions, 1 to 64 items, 1 to 4096 messages. Locks are
- * exclusive. A session that waits cannot give up. A session number serves
- * once: nothing brings a session back that has released an item or was rolled
- * back. The library is built for x86-64; this header is C99 and C++11.
+ * exclusive. A session that waits cannot give up. The library is built for
+ * x86-64; this header is C99 and C++11.
  *
  *
  * LIFE OF A LOCK MANAGER
@@ -30,9 +30,11 @@
  *      meant for the session.
  *   4. lockmgr_drain delivers, oldest first, until the mail is empty, in one
  *      call.
- *   5. lockmgr_report tells, at any time, whether a session lies on a cycle, and
+ *   5. lockmgr_reopen brings a session whose work is over back to its beginning,
+ *      so that its number serves the next piece of work.
+ *   6. lockmgr_report tells, at any time, whether a session lies on a cycle, and
  *      lockmgr_cycle_text writes in words who waits there for whom.
- *   6. There is no call to end it: drop the buffers, or start again on them.
+ *   7. There is no call to end it: drop the buffers, or start again on them.
  *
  * Sessions and items are numbered from 1.
  *
@@ -59,8 +61,10 @@
  * Seniority decides who is rolled back, and who of those in its wait queue holds
  * an item next when its release arrives; and the text of a cycle begins with the
  * most senior member. Who came first does not matter: a session in the queue can
- * be passed over by senior ones that come later, at most once by each, since a
- * session asks for nothing after its first release.
+ * be passed over by senior ones that come later, by each at most once until it
+ * is reopened. Where senior sessions are reopened again and again, a junior one
+ * may wait without end or be rolled back each time. Work that was rolled back
+ * may go on under another number, a more senior one that is free.
  *
  * Every session has a rank, and rank 1 is the most senior. By default session k
  * has rank k (lockmgr_default_options): session 1 is the most senior, the
@@ -114,7 +118,7 @@
  *
  * A session grows, asking for one item after the other, and then shrinks. It
  * asks for the next item when it has the last one, and for none after its
- * first release. lockmgr_stage reads where it is.
+ * first release until it is reopened. lockmgr_stage reads where it is.
  *
  *   LOCKMGR_GROWING      may request and release
  *   LOCKMGR_WAITING      has requested an item and waits for the grant
@@ -125,8 +129,8 @@
  *   LOCKMGR_ROLLED_BACK  was a victim, has released everything, and is done
  *
  * A victim goes through the last three stages by deliveries alone, and never
- * turns back. No call brings a session back from LOCKMGR_ROLLED_BACK or
- * LOCKMGR_SHRINKING to LOCKMGR_GROWING.
+ * turns back. From LOCKMGR_SHRINKING and LOCKMGR_ROLLED_BACK only lockmgr_reopen
+ * leads back to LOCKMGR_GROWING; see the next section.
  *
  * When to undo. What a session has changed in the items that it holds is yours
  * to undo if it becomes a victim, before anybody else works on these items.
@@ -144,6 +148,44 @@
  *     LOCKMGR_WITHDRAWING has passed its LOCKMGR_EVENT_UNDO, so undo it before
  *     the next delivery; one that you have undone at that event is not undone
  *     again after a drain.
+ *   - Undo before you reopen the session. Its stage tells that it was rolled
+ *     back only until then.
+ *
+ *
+ * REOPENING A SESSION
+ *
+ * The work of a session is over when it has released everything that it held,
+ * or was rolled back; lockmgr_finished tells. lockmgr_reopen then takes it back
+ * to LOCKMGR_GROWING: it holds nothing, stores no probes and may request again.
+ * It keeps its rank. So a few session numbers serve any number of pieces of
+ * work, one after the other.
+ *
+ * It is allowed when nothing is left of the work before. All of this must hold:
+ *
+ *   - the session is LOCKMGR_SHRINKING and holds nothing, or is
+ *     LOCKMGR_ROLLED_BACK;
+ *   - no message in the mail comes from it or goes to it, and no probe, clean or
+ *     abort there names it;
+ *   - it stands in no wait queue, and no item has it as its holder;
+ *   - no session stores a probe that has it as initiator or junior.
+ *
+ * Otherwise the call is refused with LOCKMGR_IN_USE; so it is for a session that
+ * is growing, which needs no reopening. What you usually have to do: after the
+ * last release deliver until the mail is empty, then reopen.
+ *
+ *   answer = lockmgr_step(LOCKMGR_RELEASE, 1, 3,
+ *                         table, sizeof table, mail, sizeof mail);
+ *   drained = lockmgr_drain(UINT64_MAX, table, sizeof table, mail, sizeof mail);
+ *   if (drained.ending == LOCKMGR_DRAIN_EMPTY && lockmgr_finished(table, 1))
+ *       refusal = lockmgr_reopen(1, table, sizeof table, mail, sizeof mail);
+ *
+ * On a lock manager that was started the last two conditions have always held
+ * where the first two did. So with an empty mail every session whose work is
+ * over can be reopened. This was tried in all states of small lock managers; it
+ * is not proved.
+ *
+ * What is guaranteed holds with reopening at any place among the calls. A
+ * session counts as rolled back each time it comes to LOCKMGR_ROLLED_BACK.
  *
  *
  * DELIVERING
@@ -182,31 +224,39 @@
  * it: with 64 sessions, one item and a capacity of 62, the release of an item
  * for which 63 sessions wait would send 63 messages.
  *
- * Proved is what holds when the mail is empty: no cycle stands, and as many
- * sessions have been rolled back as cycles were closed. Proved is also that
+ * Proved is what holds when the mail is empty: no cycle stands, and sessions
+ * have been rolled back as often as cycles were closed. Proved is also that
  * deliveries come to an end: lockmgr_drain, with a limit that is high enough,
  * empties the mail or comes to a message that does not fit. That they all fit
  * is not proved, and without a rule it is not so. Keep one of two rules from
  * the start on:
  *
- *   Rule 1. Make a request or a release only while the mail is empty. Then
+ *   Rule 1. Request, release or reopen only while the mail is empty. Then
  *           deliver, in any order, until it is empty again.
- *   Rule 2. Make a request or a release at any time. Always deliver the oldest
+ *   Rule 2. Request, release or reopen at any time. Always deliver the oldest
  *           message.
  *
- * Who delivers by lockmgr_drain alone keeps Rule 2, whenever the requests and
- * releases are made, and Rule 1 too if each is made only after a drain that
- * ended with LOCKMGR_DRAIN_EMPTY.
+ * Who delivers by lockmgr_drain alone keeps Rule 2, whenever these calls are
+ * made, and Rule 1 too if each is made only after a drain that ended with
+ * LOCKMGR_DRAIN_EMPTY.
  *
  * And give the mailbox at least LOCKMGR_CAPACITY(sessions, items) messages,
  * which is 6 S + M + 1, or 449 for 64 sessions and 64 items. Then no delivery
  * has ever been refused with LOCKMGR_MAIL_FULL: in all states of small lock
- * managers and in searches for the worst case (both made before there were
- * ranks, the searches before version 0.2), and in long random runs with any
- * ranks. None of these needed more than 4 S + M. This is tried, not proved. For
- * deadlocks the order of deliveries does not matter, for room it does: a
- * mailbox of 962 messages has been jammed by passing over routes that carry
- * rebroadcasts. Leaving places free before a call is no substitute for a rule.
+ * managers, with reopening too, and in searches for the worst case (both made
+ * before there were ranks, the searches before version 0.2), and in long random
+ * runs with any ranks and with reopening. None of these needed more than
+ * 4 S + M. This is tried, not proved. For deadlocks the order of deliveries does
+ * not matter, for room it does: a mailbox of 962 messages has been jammed by
+ * passing over routes that carry rebroadcasts. Leaving places free before a call
+ * is no substitute for a rule.
+ *
+ * Without a rule, where sessions are reopened, passing over one route can jam a
+ * mailbox of any capacity. Session 3 holds item 2 and waits for item 1. Sessions
+ * 1 and 2 take turns on item 1 by release, reopening and request; each turn
+ * leaves a resend for session 3, which is not delivered. Then both ask for item
+ * 2, and each resend would send two messages. With these 3 sessions and 2 items
+ * a mailbox of 4096 messages is jammed after 26,634 calls.
  *
  * If every delivery is refused all the same, or a drain ends with
  * LOCKMGR_DRAIN_FULL, move the mail into a larger buffer with
@@ -224,17 +274,17 @@
  * Before 1.0 a new minor number may lengthen an argument list or an answer, or
  * change a rule: recompile. Callers that start with lockmgr_options keep
  * compiling. What is guaranteed is proved for a lock manager that one minor
- * version has served from its start on. For this 0.2 to 0.4 count as one, since
- * calls were added and no rule changed between them. 0.5 stands alone: its
- * tables have ranks, and its rules read them.
+ * version has served from its start on. For this 0.2 to 0.4 count as one, and
+ * 0.5 and 0.6 as another, since calls were added and no rule changed between
+ * them. From 0.5 on tables have ranks, and the rules read them.
  *
  * LOCKMGR_LAYOUT_VERSION numbers the bytes of table and mail. The buffers do
  * not carry it. If you store or send them, store that number and
  * LOCKMGR_VERSION beside them, and go on only with a library of the same
- * layout, major and minor number, 0.2 to 0.4 again counting as one. There is
- * no conversion: let the sessions end under the old version and start anew
- * under the new one. This holds for all that was stored under 0.1 to 0.4, which
- * has layout 1.
+ * layout, major and minor number, 0.2 to 0.4 and 0.5 to 0.6 again counting as
+ * one. There is no conversion: let the sessions end under the old version and
+ * start anew under the new one. This holds for all that was stored under 0.1 to
+ * 0.4, which has layout 1.
  * Buffers of another layout are no danger, since every call judges them, and
  * most are refused with LOCKMGR_BAD_SIZE; but do not rely on it.
  */
@@ -251,9 +301,9 @@ extern "C" {
 /* ---- Version ------------------------------------------------------------ */
 
 #define LOCKMGR_VERSION_MAJOR 0
-#define LOCKMGR_VERSION_MINOR 5
+#define LOCKMGR_VERSION_MINOR 6
 #define LOCKMGR_VERSION_PATCH 0
-#define LOCKMGR_VERSION "0.5.0"
+#define LOCKMGR_VERSION "0.6.0"
 
 /* One number that grows with the version. */
 #define LOCKMGR_VERSION_NUMBER \
@@ -384,9 +434,10 @@ enum lockmgr_verb {
  * buffers are as they were.
  *
  * lockmgr_start gives only 2 and 14; lockmgr_step gives 1 to 9; lockmgr_drain
- * gives only 2, 3 and 4; lockmgr_report gives only 2, 3 and 5;
- * lockmgr_cycle_text gives only 2, 3, 5, 10 and 11. No call gives 12 or 13:
- * they are what the statement program prints in place of a statement.
+ * gives only 2, 3 and 4; lockmgr_reopen gives only 2 to 5 and 15;
+ * lockmgr_report gives only 2, 3 and 5; lockmgr_cycle_text gives only 2, 3, 5,
+ * 10 and 11. No call gives 12 or 13: they are what the statement program prints
+ * in place of a statement.
  */
 enum lockmgr_refusal {
     /* The call was accepted. */
@@ -395,15 +446,15 @@ enum lockmgr_refusal {
     LOCKMGR_BAD_VERB = 1,
     /* Start: a number of sessions, items or messages is 0 or above its bound,
      * or table, mail or list of ranks has not the length that belongs to them.
-     * Step, drain: the same of the numbers that the two buffers themselves
-     * carry. Report, cycle text: the same of the table. */
+     * Step, drain, reopen: the same of the numbers that the two buffers
+     * themselves carry. Report, cycle text: the same of the table. */
     LOCKMGR_BAD_SIZE = 2,
-    /* Step, drain, report, cycle text: the table is not well-formed. */
+    /* Step, drain, reopen, report, cycle text: the table is not well-formed. */
     LOCKMGR_BAD_TABLE = 3,
-    /* Step, drain: the mail is not well-formed. */
+    /* Step, drain, reopen: the mail is not well-formed. */
     LOCKMGR_BAD_MAIL = 4,
     /* Step: the session or the item is 0 or above the number that there are.
-     * Report, cycle text: the same of the session. */
+     * Reopen, report, cycle text: the same of the session. */
     LOCKMGR_BAD_NUMBER = 5,
     /* Step: a request by a session that is not growing, or a release by one
      * that is neither growing nor shrinking. */
@@ -427,7 +478,10 @@ enum lockmgr_refusal {
     LOCKMGR_NOBODY = 13,
     /* Start: the ranks are not the numbers 1 to S, none missing and none twice.
      * In a table such ranks are LOCKMGR_BAD_TABLE. */
-    LOCKMGR_BAD_RANKS = 14
+    LOCKMGR_BAD_RANKS = 14,
+    /* Reopen: the work of the session is not over, or a message, a wait queue,
+     * a holder or a stored probe still names it. */
+    LOCKMGR_IN_USE = 15
 };
 
 /* Stages of a session; see above. */
@@ -567,10 +621,10 @@ lockmgr_answer lockmgr_step(uint64_t verb, uint64_t session, uint64_t item,
  *
  * What it tells. The answers of its steps (sent, closed, victim, initiator) are
  * not kept. Stages tell the rest: a session that was LOCKMGR_WAITING before and
- * is LOCKMGR_GROWING now holds the item that it awaited; one that is
- * LOCKMGR_ROLLED_BACK now was a victim; one that is LOCKMGR_WAITING still
- * waits. After LOCKMGR_DRAIN_FULL or LOCKMGR_DRAIN_LIMITED a session may also
- * be LOCKMGR_CLEANING or LOCKMGR_WITHDRAWING: a victim that is not rolled back
+ * is LOCKMGR_GROWING now holds the item that it awaited; one that has come to
+ * LOCKMGR_ROLLED_BACK was a victim; one that is LOCKMGR_WAITING still waits.
+ * After LOCKMGR_DRAIN_FULL or LOCKMGR_DRAIN_LIMITED a session may also be
+ * LOCKMGR_CLEANING or LOCKMGR_WITHDRAWING: a victim that is not rolled back
  * yet. How many cycles were closed, and who declared them, cannot be read
  * afterwards; deliver one by one for that. When to undo is told above.
  *
@@ -601,6 +655,24 @@ lockmgr_answer lockmgr_step(uint64_t verb, uint64_t session, uint64_t item,
 lockmgr_drained lockmgr_drain(uint64_t limit,
                               uint8_t *table, size_t table_len,
                               uint8_t *mail, size_t mail_len);
+/* clang-format on */
+
+/*
+ * Reopens a session: it grows, awaits and holds nothing and stores no probes. It
+ * keeps its rank, and all other bytes stay as they were. The mail is only read.
+ *
+ * Answers 0; or LOCKMGR_BAD_SIZE, LOCKMGR_BAD_TABLE, LOCKMGR_BAD_MAIL or
+ * LOCKMGR_BAD_NUMBER; else LOCKMGR_IN_USE if it is not allowed, as REOPENING A
+ * SESSION says.
+ *
+ * On forged buffers the same conditions are judged. The record of the session
+ * itself is looked at too: a stored probe in it that names the session is
+ * LOCKMGR_IN_USE; others, and held items at LOCKMGR_ROLLED_BACK, are cleared.
+ */
+/* clang-format off */
+uint8_t lockmgr_reopen(uint64_t session,
+                       uint8_t *table, size_t table_len,
+                       const uint8_t *mail, size_t mail_len);
 /* clang-format on */
 
 /*
@@ -654,7 +726,7 @@ lockmgr_text lockmgr_cycle_text(uint64_t session,
 /* ---- Helpers ------------------------------------------------------------ */
 
 /*
- * What follows is written in this header, on top of the five calls or beside
+ * What follows is written in this header, on top of the six calls or beside
  * them. It is tested but no part of the proved library.
  */
 
@@ -678,9 +750,9 @@ static inline const char *lockmgr_text_(const char *const *texts, size_t count, 
 static inline const char *lockmgr_refusal_text(uint64_t refusal)
 {
     static const char *const texts[] = {
-        "accepted",   "bad verb",     "bad size",   "bad table",  "bad mail",
-        "bad number", "wrong stage",  "wrong item", "no message", "mail full",
-        "no cycle",   "short buffer", "bad list",   "nobody",     "bad ranks",
+        "accepted",    "bad verb",   "bad size",   "bad table", "bad mail", "bad number",
+        "wrong stage", "wrong item", "no message", "mail full", "no cycle", "short buffer",
+        "bad list",    "nobody",     "bad ranks",  "in use",
     };
     return lockmgr_text_(texts, sizeof texts / sizeof texts[0], refusal);
 }
@@ -797,6 +869,18 @@ static inline int lockmgr_holds(const uint8_t *table, unsigned session, unsigned
 {
     const uint8_t *held = table + LOCKMGR_SESSION_PLACE(session) + LOCKMGR_SESSION_HELD;
     return held[(item - 1) / 8] >> ((item - 1) % 8) & 1;
+}
+
+/* 1 if the work of a session is over: it has released everything that it held,
+ * or was rolled back. Else 0. */
+static inline int lockmgr_finished(const uint8_t *table, unsigned session)
+{
+    const uint8_t *held = table + LOCKMGR_SESSION_PLACE(session) + LOCKMGR_SESSION_HELD;
+    unsigned k, any = 0;
+    for (k = 0; k < LOCKMGR_SESSION_JUNIORS - LOCKMGR_SESSION_HELD; k++)
+        any |= held[k];
+    return lockmgr_stage(table, session) == LOCKMGR_ROLLED_BACK ||
+           (lockmgr_stage(table, session) == LOCKMGR_SHRINKING && any == 0);
 }
 
 /* The record of an item. */

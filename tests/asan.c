@@ -34,6 +34,15 @@ static void out_of_memory(void)
     exit(2);
 }
 
+/* What may be done with the pages of a buffer. A heap block has none of its own. */
+static void allow(buffer b, int rights)
+{
+    size_t page = (size_t)sysconf(_SC_PAGESIZE);
+    if (b.block_length > 0 &&
+        mprotect((uint8_t *)b.block + page, b.block_length - 2 * page, rights) != 0)
+        out_of_memory();
+}
+
 static buffer new_buffer(size_t length)
 {
     buffer b = {NULL, length, NULL, 0};
@@ -49,9 +58,8 @@ static buffer new_buffer(size_t length)
         b.block = mmap(NULL, b.block_length, PROT_NONE, MAP_PRIVATE | MAP_ANONYMOUS, -1, 0);
         if (b.block == MAP_FAILED)
             out_of_memory();
+        allow(b, PROT_READ | PROT_WRITE);
         uint8_t *first = (uint8_t *)b.block + page;
-        if (mprotect(first, inner, PROT_READ | PROT_WRITE) != 0)
-            out_of_memory();
         b.bytes = placed == PAGES_BEFORE ? first : first + inner - length;
     }
     if (length > 0)
@@ -247,6 +255,29 @@ static void drains(uint64_t limit, manager m, unsigned refusal, uint64_t made, u
     CHECK(drained.refusal == refusal && drained.made == made && drained.ending == ending);
 }
 
+/* A reopening; its refusal. The mail may only be read meanwhile. */
+static unsigned reopen(uint64_t session, manager m)
+{
+    manager expected = copied(m);
+    allow(m.mail, PROT_READ);
+    unsigned refusal =
+        lockmgr_reopen(session, m.table.bytes, m.table.length, m.mail.bytes, m.mail.length);
+    allow(m.mail, PROT_READ | PROT_WRITE);
+    calls++;
+    CHECK(refusal == LOCKMGR_ACCEPTED || refusal == LOCKMGR_IN_USE ||
+          (refusal >= LOCKMGR_BAD_SIZE && refusal <= LOCKMGR_BAD_NUMBER));
+    if (refusal == LOCKMGR_ACCEPTED) {
+        uint8_t *record = expected.table.bytes + LOCKMGR_SESSION_PLACE(session);
+        accepted++;
+        CHECK(lockmgr_finished(expected.table.bytes, (unsigned)session));
+        memset(record, 0, LOCKMGR_SESSION_SIZE);
+        record[LOCKMGR_SESSION_STAGE] = LOCKMGR_GROWING;
+    }
+    CHECK(same(m, expected));
+    drop_both(expected);
+    return refusal;
+}
+
 /* The text of a cycle of so many sessions into a buffer of so many bytes must
  * answer this refusal; the length that it answers. */
 static size_t text_into(size_t room, uint64_t session, buffer table, unsigned members,
@@ -329,7 +360,8 @@ static unsigned any_item(config c)
     return between(1, (unsigned)c.items);
 }
 
-/* One step of a run: a message is delivered, or a session asks or releases. */
+/* One call of a run: a message is delivered, or a session asks, releases or is
+ * reopened. */
 static void play(config c, manager m)
 {
     unsigned count = lockmgr_mail_count(m.mail.bytes);
@@ -338,6 +370,13 @@ static void play(config c, manager m)
         unsigned refusal =
             refusal_of(lockmgr_deliver_verb(message), message.session, message.item, m);
         CHECK(refusal == LOCKMGR_ACCEPTED || refusal == LOCKMGR_MAIL_FULL);
+    } else if (between(1, 5) == 1) {
+        unsigned session, tries = 0, refusal;
+        do
+            session = any_session(c);
+        while (!lockmgr_finished(m.table.bytes, session) && ++tries < 8);
+        refusal = reopen(session, m);
+        CHECK(refusal == LOCKMGR_IN_USE || (tries < 8 && refusal == LOCKMGR_ACCEPTED));
     } else {
         unsigned verb = between(1, 10) == 1 ? LOCKMGR_RELEASE : LOCKMGR_REQUEST;
         unsigned session = any_session(c), item = any_item(c);
@@ -417,6 +456,8 @@ static void check_bad_table(manager m)
     }
     drains(UINT64_MAX, m, LOCKMGR_BAD_TABLE, 0, 0);
     drains(0, bad_mail, LOCKMGR_BAD_TABLE, 0, 0);
+    CHECK(reopen(1, m) == LOCKMGR_BAD_TABLE);
+    CHECK(reopen(0, bad_mail) == LOCKMGR_BAD_TABLE);
     CHECK(report(1, m.table).refusal == LOCKMGR_BAD_TABLE);
     CHECK(report(0, m.table).refusal == LOCKMGR_BAD_TABLE);
     drop_both(bad_mail);
@@ -497,6 +538,11 @@ static void test_drains(config c, unsigned steps)
     CHECK(drained.ending != LOCKMGR_DRAIN_LIMITED && drained.made <= most);
     for (size_t k = 0; k < LENGTH(limits); k++)
         drains(limits[k], m, LOCKMGR_ACCEPTED, 0, drained.ending);
+    /* With an empty mail every session whose work is over can be reopened. */
+    for (unsigned k = 1; drained.ending == LOCKMGR_DRAIN_EMPTY && k <= c.sessions; k++) {
+        int finished = lockmgr_finished(m.table.bytes, k);
+        CHECK(reopen(k, m) == (finished ? LOCKMGR_ACCEPTED : LOCKMGR_IN_USE));
+    }
     drop_both(m);
 }
 
@@ -531,6 +577,20 @@ static void test_full(void)
     drop_both(m);
 }
 
+/* Writes a message at a place of the mail. The count stays. */
+static void put_message(manager m, unsigned place, unsigned direction, unsigned session,
+                        unsigned item, unsigned kind, unsigned a, unsigned b)
+{
+    uint8_t *route = m.mail.bytes + LOCKMGR_ROUTE_PLACE(place);
+    uint8_t *body = m.mail.bytes + LOCKMGR_BODY_PLACE(lockmgr_mail_capacity(m.mail.bytes), place);
+    route[LOCKMGR_ROUTE_DIRECTION] = (uint8_t)direction;
+    route[LOCKMGR_ROUTE_SESSION] = (uint8_t)session;
+    route[LOCKMGR_ROUTE_ITEM] = (uint8_t)item;
+    body[LOCKMGR_BODY_KIND] = (uint8_t)kind;
+    body[LOCKMGR_BODY_A] = (uint8_t)a;
+    body[LOCKMGR_BODY_B] = (uint8_t)b;
+}
+
 /* A clean that circles for ever among two sessions that await each other's
  * items, for a victim that is a third. */
 static void test_circling(void)
@@ -539,19 +599,14 @@ static void test_circling(void)
     const config c = {3, 2, 1};
     for (size_t k = 0; k < LENGTH(some_limits); k++) {
         manager m = fresh(c);
-        uint8_t *table = m.table.bytes, *mail = m.mail.bytes;
+        uint8_t *table = m.table.bytes;
         for (unsigned n = 1; n <= 2; n++) {
             table[LOCKMGR_SESSION_PLACE(n) + LOCKMGR_SESSION_STAGE] = LOCKMGR_WAITING;
             table[LOCKMGR_SESSION_PLACE(n) + LOCKMGR_SESSION_AWAITED] = (uint8_t)n;
             table[LOCKMGR_ITEM_PLACE(c.sessions, n) + LOCKMGR_ITEM_HOLDER] = (uint8_t)(3 - n);
         }
-        mail[LOCKMGR_MAIL_COUNT] = 1;
-        mail[LOCKMGR_ROUTE_PLACE(0) + LOCKMGR_ROUTE_DIRECTION] = LOCKMGR_TO_ITEM;
-        mail[LOCKMGR_ROUTE_PLACE(0) + LOCKMGR_ROUTE_SESSION] = 1;
-        mail[LOCKMGR_ROUTE_PLACE(0) + LOCKMGR_ROUTE_ITEM] = 1;
-        mail[LOCKMGR_BODY_PLACE(1, 0) + LOCKMGR_BODY_KIND] = LOCKMGR_MSG_CLEAN;
-        mail[LOCKMGR_BODY_PLACE(1, 0) + LOCKMGR_BODY_A] = 3;
-        mail[LOCKMGR_BODY_PLACE(1, 0) + LOCKMGR_BODY_B] = 1;
+        m.mail.bytes[LOCKMGR_MAIL_COUNT] = 1;
+        put_message(m, 0, LOCKMGR_TO_ITEM, 1, 1, LOCKMGR_MSG_CLEAN, 3, 1);
         drains(some_limits[k], m, LOCKMGR_ACCEPTED, some_limits[k], LOCKMGR_DRAIN_LIMITED);
         drop_both(m);
     }
@@ -579,6 +634,11 @@ static void test_lengths(config c)
             drains(limits[limit], mail, LOCKMGR_BAD_SIZE, 0, 0);
             drains(limits[limit], both, LOCKMGR_BAD_SIZE, 0, 0);
         }
+        for (uint64_t session = 0; session <= 1; session++) {
+            CHECK(reopen(session, table) == LOCKMGR_BAD_SIZE);
+            CHECK(reopen(session, mail) == LOCKMGR_BAD_SIZE);
+            CHECK(reopen(session, both) == LOCKMGR_BAD_SIZE);
+        }
         CHECK(report(1, both.table).refusal == LOCKMGR_BAD_SIZE);
         drop_both(both);
     }
@@ -603,6 +663,9 @@ static void test_null(void)
     drains(UINT64_MAX, no_table, LOCKMGR_BAD_SIZE, 0, 0);
     drains(UINT64_MAX, no_mail, LOCKMGR_BAD_SIZE, 0, 0);
     drains(0, nothing, LOCKMGR_BAD_SIZE, 0, 0);
+    CHECK(reopen(1, no_table) == LOCKMGR_BAD_SIZE);
+    CHECK(reopen(1, no_mail) == LOCKMGR_BAD_SIZE);
+    CHECK(reopen(1, nothing) == LOCKMGR_BAD_SIZE);
     CHECK(report(1, none).refusal == LOCKMGR_BAD_SIZE);
     /* No buffer for the text of session 1, which lies on no cycle, and no table. */
     lockmgr_text text = lockmgr_cycle_text(1, m.table.bytes, m.table.length, NULL, 0);
@@ -631,18 +694,21 @@ static void test_numbers(config c)
         CHECK(refusal_of(bad, 1, 1, m) == LOCKMGR_BAD_VERB);
         CHECK(refusal_of(LOCKMGR_REQUEST, bad, 1, m) == LOCKMGR_BAD_NUMBER);
         CHECK(refusal_of(LOCKMGR_REQUEST, 1, bad, m) == LOCKMGR_BAD_NUMBER);
+        CHECK(reopen(bad, m) == LOCKMGR_BAD_NUMBER);
         CHECK(report(bad, m.table).refusal == LOCKMGR_BAD_NUMBER);
     }
     CHECK(refusal_of(LOCKMGR_REQUEST, c.sessions + 1, 1, m) == LOCKMGR_BAD_NUMBER);
     CHECK(refusal_of(LOCKMGR_REQUEST, 1, c.items + 1, m) == LOCKMGR_BAD_NUMBER);
+    CHECK(reopen(c.sessions + 1, m) == LOCKMGR_BAD_NUMBER);
+    CHECK(reopen(UINT64_MAX, m) == LOCKMGR_BAD_NUMBER);
     CHECK(report(c.sessions + 1, m.table).refusal == LOCKMGR_BAD_NUMBER);
     CHECK(refusal_of(LOCKMGR_DELIVER_TO_ITEM, c.sessions, c.items, m) == LOCKMGR_NO_MESSAGE);
     CHECK(refusal_of(LOCKMGR_DELIVER_TO_SESSION, c.sessions, c.items, m) == LOCKMGR_NO_MESSAGE);
     drop_both(m);
 }
 
-/* A drain of bytes that are not well-formed delivers nothing, and the cause in
- * the table comes first. */
+/* A drain of bytes that are not well-formed delivers nothing, nobody is reopened
+ * there, and the cause in the table comes first. */
 static void test_malformed(config c)
 {
     manager m = fresh(c);
@@ -653,13 +719,97 @@ static void test_malformed(config c)
     for (size_t k = 0; k < LENGTH(limits); k++) {
         *kind = 0;
         drains(limits[k], m, LOCKMGR_BAD_MAIL, 0, 0);
+        CHECK(reopen(limits[k], m) == LOCKMGR_BAD_MAIL);
         *stage = 0;
         drains(limits[k], m, LOCKMGR_BAD_TABLE, 0, 0);
+        CHECK(reopen(limits[k], m) == LOCKMGR_BAD_TABLE);
         *kind = LOCKMGR_MSG_REQUEST;
         drains(limits[k], m, LOCKMGR_BAD_TABLE, 0, 0);
+        CHECK(reopen(limits[k], m) == LOCKMGR_BAD_TABLE);
         *stage = right;
     }
     drains(UINT64_MAX, m, LOCKMGR_ACCEPTED, 2, LOCKMGR_DRAIN_EMPTY);
+    drop_both(m);
+}
+
+/* Each reason that keeps the last session from being reopened, alone and at the
+ * last place that there is: it shrinks, or was rolled back, and all that stands
+ * beside the reason names others. */
+static void test_in_use(config c, unsigned stage)
+{
+    manager m = fresh(c);
+    unsigned last = (unsigned)c.sessions, item = (unsigned)c.items;
+    unsigned count = (unsigned)c.capacity;
+    uint8_t *own = m.table.bytes + LOCKMGR_SESSION_PLACE(last);
+    uint8_t *other = m.table.bytes + LOCKMGR_SESSION_PLACE(last - 1);
+    uint8_t *at = m.table.bytes + LOCKMGR_ITEM_PLACE(last, item);
+    uint8_t *held = own + LOCKMGR_SESSION_HELD + (item - 1) / 8;
+    own[LOCKMGR_SESSION_STAGE] = (uint8_t)stage;
+    for (unsigned k = 0; k < last - 1; k++)
+        own[LOCKMGR_SESSION_JUNIORS + k] = other[LOCKMGR_SESSION_JUNIORS + k] = 1;
+    at[LOCKMGR_ITEM_HOLDER] = 1;
+    at[LOCKMGR_ITEM_QUEUE_LENGTH] = (uint8_t)(last - 2);
+    for (unsigned k = 2; k < last; k++)
+        at[LOCKMGR_ITEM_QUEUE + k - 2] = (uint8_t)k;
+    m.mail.bytes[LOCKMGR_MAIL_COUNT] = (uint8_t)(count & 255);
+    m.mail.bytes[LOCKMGR_MAIL_COUNT + 1] = (uint8_t)(count >> 8);
+    for (unsigned k = 0; k < count; k++)
+        put_message(m, k, LOCKMGR_TO_SESSION, 1, item, LOCKMGR_MSG_CLEAN, 2, 1);
+
+    for (unsigned k = LOCKMGR_GROWING; k <= LOCKMGR_WITHDRAWING; k++) {
+        if (k == LOCKMGR_SHRINKING)
+            continue;
+        own[LOCKMGR_SESSION_STAGE] = (uint8_t)k;
+        own[LOCKMGR_SESSION_AWAITED] = (uint8_t)(k == LOCKMGR_GROWING ? 0 : item);
+        CHECK(reopen(last, m) == LOCKMGR_IN_USE);
+    }
+    own[LOCKMGR_SESSION_STAGE] = (uint8_t)stage;
+    own[LOCKMGR_SESSION_AWAITED] = 0;
+
+    /* In the route, as a and as b. */
+    const lockmgr_message messages[] = {
+        {LOCKMGR_TO_ITEM, (uint8_t)last, 1, LOCKMGR_MSG_RELEASE, 0, 0},
+        {LOCKMGR_TO_SESSION, (uint8_t)last, 1, LOCKMGR_MSG_RESEND, 0, 0},
+        {LOCKMGR_TO_ITEM, 1, 1, LOCKMGR_MSG_PROBE, (uint8_t)last, 1},
+        {LOCKMGR_TO_SESSION, 1, 1, LOCKMGR_MSG_PROBE, 1, (uint8_t)last},
+        {LOCKMGR_TO_SESSION, 1, 1, LOCKMGR_MSG_CLEAN, (uint8_t)last, 1},
+        {LOCKMGR_TO_ITEM, 1, 1, LOCKMGR_MSG_CLEAN, 1, (uint8_t)last},
+        {LOCKMGR_TO_SESSION, 1, 1, LOCKMGR_MSG_ABORT, 1, (uint8_t)last},
+    };
+    for (size_t k = 0; k < LENGTH(messages); k++) {
+        lockmgr_message n = messages[k];
+        put_message(m, count - 1, n.direction, n.session, item, n.kind, n.a, n.b);
+        CHECK(reopen(last, m) == LOCKMGR_IN_USE);
+    }
+    put_message(m, count - 1, LOCKMGR_TO_SESSION, 1, item, LOCKMGR_MSG_CLEAN, 2, 1);
+
+    /* In the queue, as holder, and as initiator and junior of a stored probe, of
+     * another session and of its own. */
+    const struct {
+        uint8_t *place;
+        unsigned value;
+    } bytes[] = {
+        {at + LOCKMGR_ITEM_QUEUE + last - 3, last},
+        {at + LOCKMGR_ITEM_HOLDER, last},
+        {other + LOCKMGR_SESSION_JUNIORS + last - 1, 1},
+        {other + LOCKMGR_SESSION_JUNIORS + last - 2, last},
+        {own + LOCKMGR_SESSION_JUNIORS + last - 1, 1},
+        {own + LOCKMGR_SESSION_JUNIORS + last - 2, last},
+    };
+    for (size_t k = 0; k < LENGTH(bytes); k++) {
+        uint8_t right = *bytes[k].place;
+        *bytes[k].place = (uint8_t)bytes[k].value;
+        CHECK(reopen(last, m) == LOCKMGR_IN_USE);
+        *bytes[k].place = right;
+    }
+
+    /* What it holds is a reason only while it shrinks. */
+    *held = (uint8_t)(1u << (item - 1) % 8);
+    if (stage == LOCKMGR_SHRINKING) {
+        CHECK(reopen(last, m) == LOCKMGR_IN_USE);
+        *held = 0;
+    }
+    CHECK(reopen(last, m) == LOCKMGR_ACCEPTED);
     drop_both(m);
 }
 
@@ -711,6 +861,7 @@ static void test_garbage(config c)
         }
         for (unsigned verb = 0; verb <= LOCKMGR_DELIVER_TO_SESSION + 1; verb++)
             step(verb, between(0, (unsigned)c.sessions), between(0, (unsigned)c.items), m);
+        reopen(between(0, (unsigned)c.sessions), m);
         report(between(0, (unsigned)c.sessions), m.table);
         drain_any(m);
     }
@@ -837,6 +988,10 @@ int main(void)
             test_malformed(sizes[k].config);
             test_lengths(sizes[k].config);
             test_numbers(sizes[k].config);
+            if (sizes[k].config.sessions > 2) {
+                test_in_use(sizes[k].config, LOCKMGR_SHRINKING);
+                test_in_use(sizes[k].config, LOCKMGR_ROLLED_BACK);
+            }
             test_garbage(sizes[k].config);
             test_forged(sizes[k].config);
         }

@@ -1,7 +1,8 @@
 /*
  * The helpers of the header: versions, texts, options, ranks, the bound of a
- * drain, deliveries with their events, a larger mail; and what each answers to
- * null, to wrong lengths and to numbers out of bounds.
+ * drain, deliveries with their events, sessions that are finished, a larger
+ * mail; and what each answers to null, to wrong lengths and to numbers out of
+ * bounds.
  */
 #include "lockmgr.h"
 
@@ -79,7 +80,7 @@ static void check_texts(const char *text(uint64_t number), unsigned first, unsig
 
 static void test_texts(void)
 {
-    check_texts(lockmgr_refusal_text, LOCKMGR_ACCEPTED, LOCKMGR_BAD_RANKS);
+    check_texts(lockmgr_refusal_text, LOCKMGR_ACCEPTED, LOCKMGR_IN_USE);
     check_texts(lockmgr_verb_text, LOCKMGR_REQUEST, LOCKMGR_DELIVER_TO_SESSION);
     check_texts(lockmgr_stage_text, LOCKMGR_GROWING, LOCKMGR_ROLLED_BACK);
     check_texts(lockmgr_kind_text, LOCKMGR_MSG_REQUEST, LOCKMGR_MSG_WITHDRAWN);
@@ -87,6 +88,7 @@ static void test_texts(void)
     check_texts(lockmgr_ending_text, LOCKMGR_DRAIN_EMPTY, LOCKMGR_DRAIN_LIMITED);
     CHECK(strcmp(lockmgr_refusal_text(LOCKMGR_BAD_NUMBER), "bad number") == 0);
     CHECK(strcmp(lockmgr_refusal_text(LOCKMGR_BAD_RANKS), "bad ranks") == 0);
+    CHECK(LOCKMGR_IN_USE == 15 && strcmp(lockmgr_refusal_text(15), "in use") == 0);
     CHECK(strcmp(lockmgr_verb_text(LOCKMGR_DELIVER_TO_ITEM), "deliver to item") == 0);
     CHECK(strcmp(lockmgr_stage_text(LOCKMGR_CLEANING), "cleaning") == 0);
     CHECK(strcmp(lockmgr_kind_text(LOCKMGR_MSG_ABORT), "abort") == 0);
@@ -212,6 +214,9 @@ static void test_reversed(void)
     CHECK(lockmgr_drain(10, table, sizeof table, mail, sizeof mail).ending == LOCKMGR_DRAIN_EMPTY);
     CHECK(lockmgr_stage(table, 1) == LOCKMGR_ROLLED_BACK);
     CHECK(lockmgr_holds(table, 2, 1) && lockmgr_holds(table, 2, 2));
+    CHECK(lockmgr_finished(table, 1) && !lockmgr_finished(table, 2));
+    CHECK(lockmgr_reopen(1, table, sizeof table, mail, sizeof mail) == LOCKMGR_ACCEPTED);
+    CHECK(lockmgr_stage(table, 1) == LOCKMGR_GROWING);
     CHECK(lockmgr_rank(table, 1) == 2 && lockmgr_rank(table, 2) == 1);
 }
 
@@ -360,6 +365,61 @@ static void test_bad_deliveries(void)
     refuses(lockmgr_deliver(9, table, sizeof table, mail, sizeof mail), LOCKMGR_BAD_TABLE);
 }
 
+/* ---- Sessions that are finished ------------------------------------------- */
+
+static unsigned reopen(unsigned session)
+{
+    return lockmgr_reopen(session, table, sizeof table, mail, sizeof mail);
+}
+
+/* In every stage, with each item held and with none. */
+static void test_finished(void)
+{
+    for (unsigned stage = LOCKMGR_GROWING; stage <= LOCKMGR_ROLLED_BACK; stage++) {
+        for (unsigned item = 0; item <= 64; item++) {
+            uint8_t *record = table + LOCKMGR_SESSION_PLACE(2);
+            fresh();
+            record[LOCKMGR_SESSION_STAGE] = (uint8_t)stage;
+            if (item > 0)
+                record[LOCKMGR_SESSION_HELD + (item - 1) / 8] = (uint8_t)(1u << (item - 1) % 8);
+            CHECK(lockmgr_finished(table, 2) ==
+                  (stage == LOCKMGR_ROLLED_BACK || (stage == LOCKMGR_SHRINKING && item == 0)));
+            CHECK(!lockmgr_finished(table, 1));
+        }
+    }
+}
+
+/* Two pieces of work by one session: it is finished with its last release, and
+ * reopened when that has arrived. */
+static void test_reopened(void)
+{
+    fresh();
+    for (unsigned turn = 0; turn < 2; turn++) {
+        for (unsigned item = 1; item <= 2; item++) {
+            request(1, item);
+            delivers(0, LOCKMGR_MSG_REQUEST, 1, item, LOCKMGR_EVENT_NONE);
+            delivers(0, LOCKMGR_MSG_GRANT, 1, item, LOCKMGR_EVENT_GRANTED);
+        }
+        for (unsigned item = 1; item <= 2; item++) {
+            CHECK(!lockmgr_finished(table, 1) && reopen(1) == LOCKMGR_IN_USE);
+            CHECK(lockmgr_step(LOCKMGR_RELEASE, 1, item, table, sizeof table, mail, sizeof mail)
+                      .refusal == LOCKMGR_ACCEPTED);
+        }
+        CHECK(lockmgr_finished(table, 1));
+        for (unsigned item = 1; item <= 2; item++) {
+            CHECK(reopen(1) == LOCKMGR_IN_USE);
+            delivers(0, LOCKMGR_MSG_RELEASE, 1, item, LOCKMGR_EVENT_NONE);
+        }
+        CHECK(reopen(1) == LOCKMGR_ACCEPTED);
+        CHECK(lockmgr_stage(table, 1) == LOCKMGR_GROWING && !lockmgr_finished(table, 1));
+        CHECK(reopen(1) == LOCKMGR_IN_USE);
+    }
+    /* Every byte is as after the start. */
+    remember();
+    fresh();
+    CHECK(unchanged());
+}
+
 /* ---- A larger mail ---------------------------------------------------------- */
 
 static void test_enlarge(void)
@@ -419,6 +479,8 @@ int main(void)
     test_events();
     test_drain_and_events();
     test_bad_deliveries();
+    test_finished();
+    test_reopened();
     test_enlarge();
     return verdict();
 }

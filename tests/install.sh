@@ -23,7 +23,7 @@ lib/pkgconfig/lockmgr.pc"
 found=$(cd "$root$prefix" && find . ! -type d -printf '%P\n' | LC_ALL=C sort)
 [ "$found" = "$expected" ] || { echo "installed: $found"; exit 1; }
 symbols=$(nm -D --defined-only "$root$prefix/lib/liblockmgr.so" | awk '{ print $3 }' | xargs)
-[ "$symbols" = "lockmgr_cycle_text lockmgr_drain lockmgr_report lockmgr_start lockmgr_step" ] || { echo "exports: $symbols"; exit 1; }
+[ "$symbols" = "lockmgr_cycle_text lockmgr_drain lockmgr_reopen lockmgr_report lockmgr_start lockmgr_step" ] || { echo "exports: $symbols"; exit 1; }
 
 command -v pkg-config > /dev/null || { echo "no pkg-config here: the examples are not compiled against the installed files"; exit 0; }
 

@@ -1,8 +1,8 @@
 /*
  * Room in the mail, as the header tells it: mailboxes that jam, and the two
  * rules under which the capacity of LOCKMGR_CAPACITY is enough, driven through
- * lists of calls that fill the mail and through random runs; with plain ranks
- * and with drawn ones.
+ * lists of calls that fill the mail and through random runs; with sessions that
+ * are reopened, with plain ranks and with drawn ones.
  */
 #include "lockmgr.h"
 
@@ -16,6 +16,9 @@ static uint8_t table[LOCKMGR_TABLE_SIZE(S, M)];
 static uint8_t mail[LOCKMGR_MAIL_SIZE(LOCKMGR_MAX_CAPACITY)];
 static uint8_t larger[LOCKMGR_MAIL_SIZE(LOCKMGR_MAX_CAPACITY)];
 static size_t table_len, mail_len;
+
+/* The buffers as the last start left them. */
+static uint8_t started_table[sizeof table], started_mail[sizeof mail];
 
 /* 1 if every start draws ranks, 0 if session k has rank k. */
 static int drawn;
@@ -58,9 +61,12 @@ static void start(unsigned sessions, unsigned items, unsigned capacity)
     mail_len = LOCKMGR_MAIL_SIZE(capacity);
     peak = 0;
     CHECK(lockmgr_start_with(&options, table, table_len, mail, mail_len) == LOCKMGR_ACCEPTED);
+    memcpy(started_table, table, table_len);
+    memcpy(started_mail, mail, mail_len);
 }
 
-/* A request or a release; its refusal. */
+/* A step, which is a request or a release where nothing else is said; its
+ * refusal. */
 static unsigned call(unsigned verb, unsigned rank, unsigned item)
 {
     unsigned session = ranked(rank);
@@ -68,6 +74,11 @@ static unsigned call(unsigned verb, unsigned rank, unsigned item)
     if (count() > peak)
         peak = count();
     return refusal;
+}
+
+static unsigned reopen(unsigned rank)
+{
+    return lockmgr_reopen(ranked(rank), table, table_len, mail, mail_len);
 }
 
 static unsigned deliver(unsigned place)
@@ -278,6 +289,69 @@ static void test_passed_over(void)
     check_rescue(LOCKMGR_MAX_CAPACITY);
 }
 
+/* A pump that never ends, since sessions are reopened. Session 3 holds item 2
+ * and waits for item 1, on which the sessions 2 and 1 take turns by release,
+ * reopening and request. Each turn leaves a resend for session 3, which is
+ * passed over. In the end both ask for item 2: session 3 stores a probe of each,
+ * and would send two messages for a resend. A cycle is closed, but the abort for
+ * its victim stands behind the resends. */
+static unsigned calls; /* steps and reopenings of this pump */
+
+static void makes(unsigned verb, unsigned session, unsigned item)
+{
+    calls++;
+    CHECK(call(verb, session, item) == LOCKMGR_ACCEPTED);
+}
+
+/* A request that is delivered. */
+static void asks(unsigned session, unsigned item)
+{
+    makes(LOCKMGR_REQUEST, session, item);
+    makes(LOCKMGR_DELIVER_TO_ITEM, session, item);
+}
+
+/* One turn: the holder of item 1 gives it to the other, and is reopened. */
+static void gives(unsigned holder, unsigned other)
+{
+    makes(LOCKMGR_RELEASE, holder, 1);
+    makes(LOCKMGR_DELIVER_TO_ITEM, holder, 1);
+    makes(LOCKMGR_DELIVER_TO_SESSION, other, 1);
+    calls++;
+    CHECK(reopen(holder) == LOCKMGR_ACCEPTED);
+}
+
+static void test_turns(void)
+{
+    enum { CAPACITY = LOCKMGR_MAX_CAPACITY };
+    start(3, 2, CAPACITY);
+    calls = 0;
+    asks(3, 2);
+    makes(LOCKMGR_DELIVER_TO_SESSION, 3, 2);
+    asks(2, 1);
+    makes(LOCKMGR_DELIVER_TO_SESSION, 2, 1);
+    asks(3, 1);
+    for (unsigned turn = 1; turn < CAPACITY; turn++) {
+        if (turn % 2 == 1) {
+            asks(1, 1);
+            makes(LOCKMGR_DELIVER_TO_SESSION, 2, 1); /* its probe */
+            gives(2, 1);
+        } else {
+            asks(2, 1);
+            gives(1, 2);
+        }
+        CHECK(count() == turn);
+    }
+    for (unsigned session = 2; session >= 1; session--) {
+        asks(session, 2);
+        makes(LOCKMGR_DELIVER_TO_SESSION, 3, 2); /* its probe, */
+        makes(LOCKMGR_DELIVER_TO_ITEM, 3, 1);    /* which session 3 sends on */
+    }
+    CHECK(calls == 26634);
+    CHECK(count() == CAPACITY && jammed());
+    CHECK(lockmgr_report(ranked(3), table, table_len).length == 2);
+    printf("turns with reopening: %d messages, jammed after %u calls\n", CAPACITY, calls);
+}
+
 /* Calls and deliveries in any order. 1 if the mail jams. */
 static int random_run(unsigned sessions, unsigned items, unsigned capacity, unsigned steps)
 {
@@ -357,11 +431,58 @@ static int worst_calls_at_any_time(unsigned capacity)
     return fits & drain(oldest);
 }
 
+/* The first of these lists with one victim, which is reopened each time: it
+ * takes the next item and asks for item 1, whose holder asks for that item. Each
+ * time the holder has one item more. */
+static int worst_reopened(unsigned capacity, order next)
+{
+    int fits = 1;
+    start(S, M, capacity);
+    for (unsigned session = S - 1; session >= 1; session--)
+        fits &= call_and_drain(LOCKMGR_REQUEST, session, 1, next);
+    for (unsigned item = 2; fits && item <= M; item++) {
+        fits &= call_and_drain(LOCKMGR_REQUEST, S, item, next);
+        fits &= call_and_drain(LOCKMGR_REQUEST, S, 1, next);
+        fits &= call_and_drain(LOCKMGR_REQUEST, S - 1, item, next);
+        CHECK(!fits || reopen(S) == LOCKMGR_ACCEPTED);
+    }
+    return fits;
+}
+
+static int worst_reopened_oldest_first(unsigned capacity)
+{
+    return worst_reopened(capacity, oldest);
+}
+
+static int worst_reopened_any_order(unsigned capacity)
+{
+    return worst_reopened(capacity, spreading_last);
+}
+
+/* Every session releases what it holds and is reopened, those that wait when
+ * they are granted their item: nothing is left but what a start leaves. */
+static void reopen_all(void)
+{
+    for (unsigned round = 0; round < S; round++) {
+        for (unsigned session = 1; session <= S; session++) {
+            for (unsigned item = 1; item <= M; item++)
+                if (lockmgr_stage(table, ranked(session)) != LOCKMGR_WAITING &&
+                    lockmgr_holds(table, ranked(session), item))
+                    CHECK(call_and_drain(LOCKMGR_RELEASE, session, item, oldest));
+            if (lockmgr_finished(table, ranked(session)))
+                CHECK(reopen(session) == LOCKMGR_ACCEPTED);
+        }
+    }
+    CHECK(memcmp(table, started_table, table_len) == 0);
+    CHECK(memcmp(mail, started_mail, mail_len) == 0);
+}
+
 static void test_worst(const char *name, int worst(unsigned capacity), unsigned needed)
 {
     CHECK(worst(ENOUGH));
-    CHECK(peak == needed);
+    reopen_all();
     printf("%s: at most %u messages, of %u\n", name, peak, (unsigned)ENOUGH);
+    CHECK(peak == needed);
     CHECK(worst(needed));
     CHECK(!worst(needed - 1));
 }
@@ -384,13 +505,22 @@ static void test_long_drain(void)
 
 /* ---- Random runs under the rules ------------------------------------------ */
 
-/* A request or a release at random, of one of so many items. */
+/* How many sessions were reopened in random calls. */
+static unsigned reopened;
+
+/* A request or a release at random, of one of so many items, or a reopening. */
 static void random_call(unsigned items)
 {
     for (unsigned k = 0; k < 8; k++) {
         unsigned session = between(1, S), item = between(1, items);
         unsigned stage = lockmgr_stage(table, ranked(session));
         int held = lockmgr_holds(table, ranked(session), item);
+        if (lockmgr_finished(table, ranked(session))) {
+            unsigned refusal = reopen(session);
+            CHECK(refusal == LOCKMGR_ACCEPTED || (refusal == LOCKMGR_IN_USE && count() > 0));
+            reopened += refusal == LOCKMGR_ACCEPTED;
+            return;
+        }
         if (stage == LOCKMGR_GROWING && !held) {
             CHECK(call(LOCKMGR_REQUEST, session, item) == LOCKMGR_ACCEPTED);
             return;
@@ -414,6 +544,7 @@ static void test_rule_1(void)
 {
     unsigned most = 0;
     random_state = 7;
+    reopened = 0;
     for (unsigned run = 0; run < 12; run++) {
         static const order orders[] = {any, oldest, spreading_last};
         start(S, M, ENOUGH);
@@ -423,14 +554,15 @@ static void test_rule_1(void)
         }
         most = peak > most ? peak : most;
     }
-    CHECK(most <= 4 * S + M);
-    printf("rule 1, random runs: at most %u messages\n", most);
+    CHECK(most <= 4 * S + M && reopened > 0);
+    printf("rule 1, random runs: at most %u messages, %u reopenings\n", most, reopened);
 }
 
 static void test_rule_2(void)
 {
     unsigned most = 0;
     random_state = 8;
+    reopened = 0;
     for (unsigned run = 0; run < 12; run++) {
         start(S, M, ENOUGH);
         for (unsigned k = 0; k < 1500; k++) {
@@ -442,8 +574,8 @@ static void test_rule_2(void)
         CHECK(drain(oldest));
         most = peak > most ? peak : most;
     }
-    CHECK(most <= 4 * S + M);
-    printf("rule 2, random runs: at most %u messages\n", most);
+    CHECK(most <= 4 * S + M && reopened > 0);
+    printf("rule 2, random runs: at most %u messages, %u reopenings\n", most, reopened);
 }
 
 int main(void)
@@ -455,9 +587,12 @@ int main(void)
         test_not_jammed();
         test_passed_over();
         test_random_pump();
+        test_turns();
         test_worst("rules 1 and 2, oldest first", worst_oldest_first, 249);
         test_worst("rule 1, any order", worst_any_order, 250);
         test_worst("rule 2, calls at any time", worst_calls_at_any_time, 189);
+        test_worst("rules 1 and 2, oldest first, reopening", worst_reopened_oldest_first, 249);
+        test_worst("rule 1, any order, reopening", worst_reopened_any_order, 250);
         test_long_drain();
         test_rule_1();
         test_rule_2();

@@ -1,4 +1,4 @@
-//! The five calls, by whoever answers them.
+//! The six calls, by whoever answers them.
 
 use crate::fast;
 use model::{Answer, Config, Cycle, Drained, Misreading, Text};
@@ -12,9 +12,10 @@ pub trait Calls {
     fn report(&self, session: u64, table: &[u8]) -> Cycle;
     fn drain(&self, limit: u64, table: &mut [u8], mail: &mut [u8]) -> Drained;
     fn cycle_text(&self, session: u64, table: &[u8], text: &mut [u8]) -> Text;
+    fn reopen(&self, session: u64, table: &mut [u8], mail: &[u8]) -> u8;
 }
 
-/// Calls made of five functions.
+/// Calls made of six functions.
 macro_rules! calls {
     ($name:ident, $module:path) => {
         impl Calls for $name {
@@ -37,6 +38,10 @@ macro_rules! calls {
             fn cycle_text(&self, session: u64, table: &[u8], text: &mut [u8]) -> Text {
                 use $module as answers;
                 answers::cycle_text(session, table, text)
+            }
+            fn reopen(&self, session: u64, table: &mut [u8], mail: &[u8]) -> u8 {
+                use $module as answers;
+                answers::reopen(session, table, mail)
             }
         }
     };
@@ -68,5 +73,8 @@ impl Calls for Misread {
     }
     fn cycle_text(&self, session: u64, table: &[u8], text: &mut [u8]) -> Text {
         model::cycle_text_as(self.0, session, table, text)
+    }
+    fn reopen(&self, session: u64, table: &mut [u8], mail: &[u8]) -> u8 {
+        model::reopen_as(self.0, session, table, mail)
     }
 }

@@ -3,16 +3,17 @@
 
 use crate::comparison::{held, Buffers, Comparison};
 use crate::forge::{
-    self, breaks, circling, clear_route, full_mail, well_formed, Beside, Break, Filling, Routes,
-    RANK_BREAKS,
+    self, breaks, circling, clear_route, full_mail, reopenable, well_formed, Beside, Break,
+    Filling, Routes, NAMED, RANK_BREAKS,
 };
 use crate::numbers::{
-    kind, DELIVER_TO_ITEM, DELIVER_TO_SESSION, GROWING, RELEASE, REQUEST, SHRINKING, TO_ITEM,
+    kind, CLEANING, DELIVER_TO_ITEM, DELIVER_TO_SESSION, GROWING, RELEASE, REQUEST, ROLLED_BACK,
+    SHRINKING, TO_ITEM, WAITING, WITHDRAWING,
 };
 use model::demand3::Demand3;
 use model::layout::{
-    ITEM_SIZE, JUNIORS, KIND, MAX_SESSIONS, MAX_TEXT, SESSION_SIZE, STAGE, TABLE_ITEMS,
-    TABLE_SESSIONS,
+    AWAITED, HELD, ITEM_SIZE, JUNIORS, KIND, MAX_SESSIONS, MAX_TEXT, SESSION_SIZE, STAGE,
+    TABLE_ITEMS, TABLE_SESSIONS,
 };
 use model::scenario::Random;
 use model::{Answer, Config, Drained, Ending, Misreading, Ranks, Refusal, ACCEPTED};
@@ -32,6 +33,7 @@ const ROUND: &[(&str, u64, u64, Case)] = &[
     ("run from start, three sessions", 1, 1, three_sessions),
     ("run from start, more sessions", 1, 5, medium_run),
     ("run from start, largest", 1, 100, largest_run),
+    ("run from start, sessions reused", 1, 100, reusing_run),
     ("cycle of all sessions", 1, 50, long_cycle),
     ("forged", 150, 1, forged),
     ("forged, largest", 1, 2, forged_largest),
@@ -48,6 +50,8 @@ const ROUND: &[(&str, u64, u64, Case)] = &[
     ("text of a cycle", 10, 1, texts),
     ("text of a cycle, more sessions", 2, 1, texts_wide),
     ("text of a cycle, largest", 1, 10, texts_largest),
+    ("reopening", 2, 1, reopenings),
+    ("reopening, largest", 1, 30, reopenings_largest),
     ("many messages at once", 1, 5, many_sends),
     ("broken form", 2, 1, broken),
     ("broken form, largest", 1, 20, broken_largest),
@@ -107,6 +111,8 @@ struct Started {
     ranks: Ranks,
     buffers: Buffers,
     demand3: Demand3,
+    /// How often each session was reopened.
+    reopened: Vec<u64>,
 }
 
 impl Started {
@@ -122,6 +128,7 @@ impl Started {
             ranks,
             buffers,
             demand3: Demand3::default(),
+            reopened: vec![0; config.sessions as usize],
         })
     }
 
@@ -163,11 +170,31 @@ impl Started {
         Ok(drained)
     }
 
+    fn reopen(&mut self, comparison: &mut Comparison, session: u64) -> Outcome {
+        let before = self.buffers.clone();
+        let after = &mut self.buffers;
+        let refusal = comparison.reopen(session, after)?;
+        self.demand3.after_reopen(
+            refusal,
+            (&before.table, &before.mail),
+            (&after.table, &after.mail),
+        )?;
+        if let Some(times) = self.reopened.get_mut((session as usize).wrapping_sub(1)) {
+            let (stage, messages) = (before.session(session as usize)[STAGE], before.count());
+            comparison.coverage.reused(refusal, stage, *times, messages);
+            *times += u64::from(refusal == ACCEPTED);
+        }
+        Ok(())
+    }
+
     /// Demand 3 was checked after so many accepted steps, and had counted this
     /// before them.
     fn checked(&self, comparison: &mut Comparison, steps: u64, before: Demand3) {
         let victims = self.demand3.declared_by_rank - before.declared_by_rank;
         comparison.coverage.checked(&self.ranks, steps, victims);
+        if before.reopened > 0 {
+            comparison.coverage.reused_steps(steps);
+        }
     }
 }
 
@@ -345,13 +372,45 @@ fn any_step(random: &mut Random, config: Config) -> (u64, u64, u64) {
     (verb, session, item)
 }
 
-/// A run of steps and drains from start, by bursts, with all mail delivered now
-/// and then.
-fn run(comparison: &mut Comparison, random: &mut Random, config: Config, steps: u64) -> Outcome {
+/// How often a run makes which call.
+struct Rates {
+    deliver_in_ten: u64,
+    release_one_in: u64,
+    drain_one_in: u64,
+    reopen_one_in: u64,
+}
+
+impl Rates {
+    fn draw(random: &mut Random) -> Rates {
+        Rates {
+            deliver_in_ten: random.between(2, 9),
+            release_one_in: random.between(3, 40),
+            drain_one_in: random.between(10, 100),
+            reopen_one_in: random.between(10, 60),
+        }
+    }
+
+    /// Sessions are done soon, and soon reopened.
+    fn reusing(random: &mut Random) -> Rates {
+        Rates {
+            deliver_in_ten: random.between(4, 7),
+            release_one_in: random.between(2, 4),
+            drain_one_in: random.between(5, 50),
+            reopen_one_in: random.between(3, 6),
+        }
+    }
+}
+
+/// A run of steps, drains and reopenings from start, by bursts, with all mail
+/// delivered now and then.
+fn run(
+    comparison: &mut Comparison,
+    random: &mut Random,
+    config: Config,
+    rates: Rates,
+    steps: u64,
+) -> Outcome {
     let mut started = Started::new(comparison, random, config)?;
-    let deliver_in_ten = random.between(2, 9);
-    let release_one_in = random.between(3, 40);
-    let drain_one_in = random.between(10, 100);
     let mut schedule = Schedule::draw(random, config);
     let mut delivering_all = false;
     for _ in 0..steps {
@@ -364,9 +423,13 @@ fn run(comparison: &mut Comparison, random: &mut Random, config: Config, steps: 
         } else if random.one_in(10) {
             let session = config.any_session(random);
             read(comparison, random, session, &started.buffers)?;
-        } else if random.one_in(drain_one_in) {
+        } else if random.one_in(rates.drain_one_in) {
             started.drain(comparison, any_limit(random))?;
-        } else if delivering_all || random.between(1, 10) <= deliver_in_ten {
+        } else if random.one_in(rates.reopen_one_in) {
+            if let Some(session) = done_session(random, config, &started.buffers) {
+                started.reopen(comparison, session)?;
+            }
+        } else if delivering_all || random.between(1, 10) <= rates.deliver_in_ten {
             match schedule.choose(random, &started.buffers) {
                 None => delivering_all = false,
                 Some(m) => {
@@ -374,7 +437,7 @@ fn run(comparison: &mut Comparison, random: &mut Random, config: Config, steps: 
                 }
             }
         } else {
-            let verb = if random.one_in(release_one_in) {
+            let verb = if random.one_in(rates.release_one_in) {
                 RELEASE
             } else {
                 REQUEST
@@ -404,6 +467,19 @@ fn own_step(random: &mut Random, config: Config, buffers: &Buffers, verb: u64) -
     drawn
 }
 
+/// A session to be reopened: one that is done, if some tries find such; seldom any
+/// number.
+fn done_session(random: &mut Random, config: Config, buffers: &Buffers) -> Option<u64> {
+    if random.one_in(20) {
+        return Some(random.between(0, config.sessions + 1));
+    }
+    let mut tries = (0..6).map(|_| config.any_session(random));
+    tries.find(|&session| {
+        let record = buffers.session(session as usize);
+        [SHRINKING, ROLLED_BACK].contains(&record[STAGE]) && held(record) == 0
+    })
+}
+
 fn small_run(comparison: &mut Comparison, random: &mut Random) -> Outcome {
     let config = Config {
         sessions: random.between(1, 8),
@@ -416,13 +492,22 @@ fn small_run(comparison: &mut Comparison, random: &mut Random) -> Outcome {
             _ => 300,
         },
     };
-    run(comparison, random, config, 400)
+    let rates = Rates::draw(random);
+    run(comparison, random, config, rates, 400)
 }
 
 /// Three sessions, whose ranks come in every order.
 fn three_sessions(comparison: &mut Comparison, random: &mut Random) -> Outcome {
     let config = Config::new(3, random.between(2, 4), 64);
-    run(comparison, random, config, 150)
+    let rates = Rates::draw(random);
+    run(comparison, random, config, rates, 150)
+}
+
+/// Few sessions, which are used again thousands of times.
+fn reusing_run(comparison: &mut Comparison, random: &mut Random) -> Outcome {
+    let config = Config::new(random.between(2, 4), random.between(2, 4), 64);
+    let rates = Rates::reusing(random);
+    run(comparison, random, config, rates, 150_000)
 }
 
 fn medium_run(comparison: &mut Comparison, random: &mut Random) -> Outcome {
@@ -431,11 +516,13 @@ fn medium_run(comparison: &mut Comparison, random: &mut Random) -> Outcome {
         items: random.between(9, 32),
         capacity: random.between(200, 1000),
     };
-    run(comparison, random, config, 500)
+    let rates = Rates::draw(random);
+    run(comparison, random, config, rates, 500)
 }
 
 fn largest_run(comparison: &mut Comparison, random: &mut Random) -> Outcome {
-    run(comparison, random, LARGEST, 1500)
+    let rates = Rates::draw(random);
+    run(comparison, random, LARGEST, rates, 1500)
 }
 
 /// Every session takes an item and asks for the next: a cycle of 64, or of
@@ -551,7 +638,7 @@ fn texts_largest(comparison: &mut Comparison, random: &mut Random) -> Outcome {
     forged_cycle(comparison, random, config, LARGEST.sessions)
 }
 
-/// A few steps, a report, a text and drains on well-formed buffers.
+/// A few steps, a report, a text, drains and reopenings on well-formed buffers.
 fn some_steps(
     comparison: &mut Comparison,
     random: &mut Random,
@@ -560,7 +647,7 @@ fn some_steps(
     steps: u64,
 ) -> Outcome {
     for _ in 0..steps {
-        match random.between(1, 11) {
+        match random.between(1, 12) {
             1 => {
                 let (verb, session, item) = any_step(random, config);
                 comparison.step(verb, session, item, buffers)?;
@@ -577,6 +664,10 @@ fn some_steps(
             }
             5 => {
                 comparison.drain(limit(random), buffers)?;
+            }
+            6 => {
+                let session = done_session(random, config, buffers);
+                comparison.reopen(session.unwrap_or(1), buffers)?;
             }
             _ => {
                 if let Some(m) = Schedule::Any.choose(random, buffers) {
@@ -766,6 +857,80 @@ fn circles_long(comparison: &mut Comparison, random: &mut Random) -> Outcome {
     Ok(())
 }
 
+/// A session of forged buffers is reopened; it may not be for one reason alone, each
+/// in turn; and numbers that are no session's.
+fn every_reason(
+    comparison: &mut Comparison,
+    random: &mut Random,
+    config: Config,
+    count: u64,
+) -> Outcome {
+    let session = config.any_session(random) as u8;
+    let mut answers = |random: &mut Random, buffers: &Buffers, expected, name| {
+        let found = comparison.reopen(session.into(), &mut buffers.clone())?;
+        if found != expected {
+            return Err(format!("{name} is answered with {found}"));
+        }
+        let number = odd_number(random, session.into(), config.sessions);
+        comparison.reopen(number, &mut buffers.clone()).map(|_| ())
+    };
+    let in_use = Refusal::InUse as u8;
+    for stage in [SHRINKING, ROLLED_BACK] {
+        let done = reopenable(random, config, count, session, stage);
+        answers(random, &done, ACCEPTED, "a session that is done")?;
+        let mut storing = done.clone();
+        forge::store_other(random, config, &mut storing, session);
+        answers(random, &storing, ACCEPTED, "a stored probe of others")?;
+        for (name, named) in NAMED {
+            let mut buffers = done.clone();
+            forge::name(random, config, &mut buffers, session, named);
+            answers(random, &buffers, in_use, name)?;
+        }
+    }
+    let done = reopenable(random, config, count, session, SHRINKING);
+    for stage in [GROWING, WAITING, CLEANING, WITHDRAWING] {
+        let mut buffers = done.clone();
+        let record = buffers.session_mut(session.into());
+        record[STAGE] = stage;
+        if stage != GROWING {
+            record[AWAITED] = config.any_item(random) as u8;
+        }
+        answers(random, &buffers, in_use, "another stage")?;
+    }
+    let mut buffers = done;
+    let held = 1u64 << (config.any_item(random) - 1);
+    buffers.session_mut(session.into())[HELD].copy_from_slice(&held.to_le_bytes());
+    answers(random, &buffers, in_use, "stage 3 with an item")
+}
+
+/// Two sessions or more: the only one is named by every message.
+fn reopenings(comparison: &mut Comparison, random: &mut Random) -> Outcome {
+    let drawn = forge::config(random);
+    let config = Config {
+        sessions: drawn.sessions.max(2),
+        ..drawn
+    };
+    let count = Filling::draw(random).of(random, config.capacity);
+    every_reason(comparison, random, config, count)?;
+    let only = Config {
+        sessions: 1,
+        ..drawn
+    };
+    for stage in [SHRINKING, ROLLED_BACK] {
+        let mut buffers = reopenable(random, only, 0, 1, stage);
+        comparison.reopen(1, &mut buffers)?;
+    }
+    Ok(())
+}
+
+fn reopenings_largest(comparison: &mut Comparison, random: &mut Random) -> Outcome {
+    let room = match random.between(1, 4) {
+        1 => random.between(1, LARGEST.capacity),
+        _ => 0,
+    };
+    every_reason(comparison, random, LARGEST, LARGEST.capacity - room)
+}
+
 /// The steps that send most: a request with all 64 probes; a clean, a release
 /// or a rebroadcast at an item where everyone waits, into mail with more or less
 /// room. And a release that finds a queue of 64 and no holder. In a drain too.
@@ -859,8 +1024,8 @@ fn broken_forms(
     Ok(())
 }
 
-/// A step and a drain of buffers that are broken in this way are refused as they
-/// must be, and so are a report and a text if it is the table.
+/// A step, a drain and a reopening of buffers that are broken in this way are
+/// refused as they must be, and so are a report and a text if it is the table.
 fn refused(
     comparison: &mut Comparison,
     random: &mut Random,
@@ -871,12 +1036,13 @@ fn refused(
     let (verb, session, item) = any_call(random, config);
     let step = comparison.step(verb, session, item, buffers)?.refusal;
     let drained = comparison.drain(limit(random), buffers)?.refusal;
+    let reopened = comparison.reopen(session, buffers)?;
     let [report, text] = read(comparison, random, session, buffers)?;
     let judging = match way.refusal {
-        Refusal::BadTable => 4,
-        _ => 2,
+        Refusal::BadTable => 5,
+        _ => 3,
     };
-    let found = &[step, drained, report, text][..judging];
+    let found = &[step, drained, reopened, report, text][..judging];
     if found.iter().any(|&refusal| refusal != way.refusal as u8) {
         return Err(format!("{} is refused with {found:?}", way.name));
     }
@@ -977,8 +1143,8 @@ fn refused_start(
     Ok(())
 }
 
-/// One to three changes anywhere, then a step, a report, a text and a drain,
-/// sometimes with numbers out of bounds too, so that causes meet each other.
+/// One to three changes anywhere, then a reopening, a step, a report, a text and a
+/// drain, sometimes with numbers out of bounds too, so that causes meet each other.
 fn damaged(comparison: &mut Comparison, random: &mut Random) -> Outcome {
     let (config, mut buffers) = forged_buffers(random);
     let changes = if random.one_in(3) {
@@ -999,6 +1165,7 @@ fn damaged(comparison: &mut Comparison, random: &mut Random) -> Outcome {
     if random.one_in(8) {
         verb = odd_number(random, verb, LAST_VERB);
     }
+    comparison.reopen(session, &mut buffers)?;
     comparison.step(verb, session, item, &mut buffers)?;
     read(comparison, random, session, &buffers)?;
     comparison.drain(limit(random), &mut buffers)?;
@@ -1073,6 +1240,7 @@ fn other_bounds(comparison: &mut Comparison, random: &mut Random) -> Outcome {
     buffers.table[TABLE_SESSIONS] -= MORE_SESSIONS as u8;
     buffers.table[TABLE_ITEMS] += LESS_ITEMS as u8;
     let (_, session, item) = any_call(random, config);
+    comparison.reopen(session, &mut buffers)?;
     comparison.step(REQUEST, session, item, &mut buffers)?;
     read(comparison, random, session, &buffers)?;
     comparison.drain(limit(random), &mut buffers)?;
@@ -1090,6 +1258,7 @@ fn numbers(comparison: &mut Comparison, random: &mut Random) -> Outcome {
     comparison.step(verb, odd_session, item, &mut buffers)?;
     comparison.step(verb, session, odd_item, &mut buffers)?;
     comparison.step(verb, odd_session, odd_item, &mut buffers)?;
+    comparison.reopen(odd_session, &mut buffers)?;
     read(comparison, random, odd_session, &buffers)?;
     Ok(())
 }
@@ -1138,6 +1307,7 @@ fn starts(comparison: &mut Comparison, random: &mut Random) -> Outcome {
         // The same numbers carried by the buffers.
         buffers.set_numbers(config);
         comparison.step(REQUEST, 1, 1, &mut buffers)?;
+        comparison.reopen(1, &mut buffers)?;
         read(comparison, random, 1, &buffers)?;
         comparison.drain(limit(random), &mut buffers)?;
     }
@@ -1145,7 +1315,7 @@ fn starts(comparison: &mut Comparison, random: &mut Random) -> Outcome {
 }
 
 /// Every byte of small buffers in turn with every value: a step, a drain and,
-/// for the table, a report and a text.
+/// for the table, a report and a text; and where a session may be reopened, that.
 pub fn every_value(comparison: &mut Comparison) -> Outcome {
     let mut random = Random::new(0);
     let config = Config::new(2, 2, 2);
@@ -1154,6 +1324,14 @@ pub fn every_value(comparison: &mut Comparison) -> Outcome {
         for place in 0..buffers.table.len() + buffers.mail.len() {
             for value in 0..=255 {
                 one_change(comparison, &mut random, config, &buffers, place, value)?;
+            }
+        }
+    }
+    for stage in [SHRINKING, ROLLED_BACK] {
+        let done = reopenable(&mut random, config, config.capacity, 2, stage);
+        for place in 0..done.table.len() + done.mail.len() {
+            for value in 0..=255 {
+                comparison.reopen(2, &mut changed(&done, place, value))?;
             }
         }
     }
@@ -1176,16 +1354,35 @@ pub fn every_place(comparison: &mut Comparison) -> Outcome {
     ];
     for (config, count) in configs {
         let buffers = well_formed(&mut random, config, count);
+        let session = config.any_session(&mut random);
+        let done = reopenable(&mut random, config, count, session as u8, ROLLED_BACK);
         for place in 0..buffers.table.len() + buffers.mail.len() {
             let value = random.between(1, 255) as u8;
             one_change(comparison, &mut random, config, &buffers, place, value)?;
+            // Often the session itself.
+            let value = if random.one_in(2) {
+                session as u8
+            } else {
+                value
+            };
+            comparison.reopen(session, &mut changed(&done, place, value))?;
         }
     }
     Ok(())
 }
 
+/// The same buffers with one byte set, counted through the table and then the mail.
+fn changed(buffers: &Buffers, place: usize, value: u8) -> Buffers {
+    let mut changed = buffers.clone();
+    match place.checked_sub(changed.table.len()) {
+        None => changed.table[place] = value,
+        Some(place) => changed.mail[place] = value,
+    }
+    changed
+}
+
 /// A step, a drain and, for a byte of the table, a report and a text, with one
-/// byte set, counted through the table and then the mail.
+/// byte set.
 fn one_change(
     comparison: &mut Comparison,
     random: &mut Random,
@@ -1194,11 +1391,7 @@ fn one_change(
     place: usize,
     value: u8,
 ) -> Outcome {
-    let mut changed = buffers.clone();
-    match place.checked_sub(changed.table.len()) {
-        None => changed.table[place] = value,
-        Some(place) => changed.mail[place] = value,
-    }
+    let mut changed = changed(buffers, place, value);
     let (verb, session, item) = any_call(random, config);
     if place < changed.table.len() {
         read(comparison, random, session, &changed)?;

@@ -3,13 +3,13 @@
 
 use crate::calls::Calls;
 use crate::coverage::Coverage;
-use crate::numbers::{DELIVER_TO_ITEM, DELIVER_TO_SESSION, TO_ITEM};
+use crate::numbers::{DELIVER_TO_ITEM, DELIVER_TO_SESSION, GROWING, TO_ITEM};
 use model::layout::{
     body_at, item_at, ranks_at, read_u16, route_at, session_at, write_u16, BODY_SIZE, DIRECTION,
     HELD, MAIL_CAPACITY, MAIL_COUNT, MAIL_HEADER, QUEUE, QUEUE_LENGTH, ROUTE_ITEM, ROUTE_SESSION,
-    ROUTE_SIZE, TABLE_HEADER, TABLE_ITEMS, TABLE_SESSIONS,
+    ROUTE_SIZE, STAGE, TABLE_HEADER, TABLE_ITEMS, TABLE_SESSIONS,
 };
-use model::{Answer, Config, Cycle, Drained, Ranks, Text};
+use model::{Answer, Config, Cycle, Drained, Ranks, Text, ACCEPTED};
 use std::fmt::Debug;
 
 /// The two buffers of a lock manager.
@@ -303,6 +303,38 @@ impl Comparison {
         self.coverage.cycle_text(session, buffers, expected, &text);
         Ok(expected)
     }
+
+    pub fn reopen(&mut self, session: u64, buffers: &mut Buffers) -> Result<u8, String> {
+        self.load(buffers);
+        let (table, mail) = (self.table.lent(), self.mail.lent());
+        let found = self.subject.reopen(session, table, mail);
+        let after = &mut self.after;
+        let expected = model::reopen(session, &mut after.table, &after.mail);
+        let call = format!("reopen {session}");
+        same_answer(&call, buffers, found, expected)?;
+        self.same_buffers(&call, buffers)?;
+        let right = match expected {
+            ACCEPTED => reopened_alone(session, buffers, &self.after),
+            _ => *buffers == self.after,
+        };
+        if !right {
+            let sizes = sizes(buffers);
+            return Err(format!("{call} {sizes}: bytes beside its record"));
+        }
+        self.coverage.reopen(session, buffers, expected);
+        std::mem::swap(buffers, &mut self.after);
+        Ok(expected)
+    }
+}
+
+/// Whether the record of a session is that of a fresh one, and every other byte is
+/// as it was.
+fn reopened_alone(session: u64, before: &Buffers, after: &Buffers) -> bool {
+    let mut expected = before.clone();
+    let record = expected.session_mut(session as usize);
+    record.fill(0);
+    record[STAGE] = GROWING;
+    *after == expected
 }
 
 /// Fails unless the subject answered what the model answered.

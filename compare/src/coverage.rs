@@ -1,13 +1,14 @@
 //! What the compared calls have met: refusals, endings of drains, pairs of kind
 //! and stage, the branches of every rule, ways to break the form, sizes and
-//! numbers, searches of a full mail, texts of cycles, ranks. A place that was never
-//! met makes the comparison worthless, so it fails then.
+//! numbers, searches of a full mail, texts of cycles, ranks, reasons not to reopen a
+//! session. A place that was never met makes the comparison worthless, so it fails
+//! then.
 
 use crate::comparison::{held, queue, Buffers};
-use crate::forge::{breaks, RANK_BREAKS};
+use crate::forge::{breaks, Named, Part, NAMED, RANK_BREAKS};
 use crate::numbers::{
-    delivered_direction, kind, CLEANING, DELIVER_TO_ITEM, GROWING, RELEASE, REQUEST, TO_ITEM,
-    TO_SESSION, WAITING, WITHDRAWING,
+    delivered_direction, kind, CLEANING, DELIVER_TO_ITEM, GROWING, RELEASE, REQUEST, ROLLED_BACK,
+    SHRINKING, TO_ITEM, TO_SESSION, WAITING, WITHDRAWING,
 };
 use model::layout::{
     AWAITED, BODY_A, BODY_B, DIRECTION, HOLDER, JUNIORS, KIND, MAX_SESSIONS, MAX_TEXT, ROUTE_ITEM,
@@ -17,7 +18,8 @@ use model::{Answer, Config, Cycle, Drained, Ending, Ranks, Refusal, Text, ACCEPT
 use std::collections::BTreeMap;
 use std::fmt::{self, Display, Formatter};
 
-/// Refusals of each call, endings of drains and bad ranks must be met this often.
+/// Refusals of each call, endings of drains, bad ranks and reasons not to reopen a
+/// session must be met this often.
 pub const AT_LEAST: u64 = 1_000;
 
 /// Each rule that is settled by seniority must be met this often against the
@@ -25,7 +27,7 @@ pub const AT_LEAST: u64 = 1_000;
 const BY_RANK_AT_LEAST: u64 = 50;
 
 /// The calls and the refusals that each can give.
-const CALLS: [(&str, &[Refusal]); 5] = [
+const CALLS: [(&str, &[Refusal]); 6] = [
     ("start", &[Refusal::BadSize, Refusal::BadRanks]),
     ("step", Refusal::ALL.split_at(Refusal::MailFull as usize).0),
     (
@@ -46,6 +48,16 @@ const CALLS: [(&str, &[Refusal]); 5] = [
             Refusal::ShortBuffer,
         ],
     ),
+    (
+        "reopen",
+        &[
+            Refusal::BadSize,
+            Refusal::BadTable,
+            Refusal::BadMail,
+            Refusal::BadNumber,
+            Refusal::InUse,
+        ],
+    ),
 ];
 
 const START: usize = 0;
@@ -53,9 +65,10 @@ const STEP: usize = 1;
 const REPORT: usize = 2;
 const DRAIN: usize = 3;
 const CYCLE_TEXT: usize = 4;
+const REOPEN: usize = 5;
 
 /// Refusals by their number and, first, an accepted call. No call gives 12 and 13.
-const ANSWERS: usize = Refusal::BadRanks as usize + 1;
+const ANSWERS: usize = Refusal::InUse as usize + 1;
 
 /// The numbers that some call answers.
 fn answers() -> impl Iterator<Item = usize> {
@@ -168,6 +181,9 @@ const SITUATIONS: &[&str] = &[
     "report: cycle of 2",
     "report: cycle of 3 to 63",
     "report: cycle of 64",
+    "reopen: 64 sessions, 64 items, 4096 messages, accepted",
+    "reopen: 64 sessions, 64 items, 4096 messages, the first",
+    "reopen: 64 sessions, 64 items, 4096 messages, the last",
 ];
 
 /// Deliveries from a full mail of more than 16 messages, half of which goes in one
@@ -330,6 +346,58 @@ const BAD_SIZES: &[&str] = &[
     "bad ranks beside another wrong size",
 ];
 
+/// The stages of a session that is named at one place alone, which is then the one
+/// reason not to reopen it.
+const DONE: [u8; 2] = [SHRINKING, ROLLED_BACK];
+
+/// Where nothing names a session, its stage alone can be the reason.
+const WRONG_STAGES: &[&str] = &[
+    "growing",
+    "waiting",
+    "cleaning",
+    "withdrawing",
+    "shrinking, holding items",
+];
+
+/// Sessions that are reopened.
+const REOPENED: &[&str] = &[
+    "shrinking",
+    "shrinking, stored probes",
+    "rolled back",
+    "rolled back, stored probes",
+    "rolled back, items in its mask",
+    "number above M",
+    "rank other than its number",
+    "item of its number in a message",
+    "empty mail",
+    "full mail",
+];
+
+/// Others that are not.
+const NOT_REOPENED: &[&str] = &[
+    "named by the first of several messages alone",
+    "named by the last of several messages alone",
+    "named by the last message of a full mail alone",
+    "number 0",
+    "number S + 1",
+    "number of 256 to 2^32 - 1",
+    "number of 2^32 and more",
+];
+
+/// Sessions reopened in lists of calls from a start, with demand 3 checked.
+const REUSED: &[&str] = &[
+    "reopened, shrinking",
+    "reopened, rolled back",
+    "reopened again, rolled back again",
+    "reopened beside messages of others",
+    "not reopened",
+    REUSED_STEPS,
+    MOST_REUSED,
+];
+
+const REUSED_STEPS: &str = "accepted steps after a reopening";
+const MOST_REUSED: &str = "most reopenings of one session in a list";
+
 /// Named counts, in the order of their list.
 struct Group {
     title: &'static str,
@@ -357,6 +425,11 @@ impl Group {
         let count = self.counts.get_mut(name);
         *count.unwrap_or_else(|| panic!("no place is called {name}")) += more;
     }
+
+    /// Counts the most that was met at once.
+    fn most(&mut self, name: &'static str, met: u64) {
+        self.add(name, met.saturating_sub(self.counts[name]));
+    }
 }
 
 pub struct Coverage {
@@ -376,6 +449,12 @@ pub struct Coverage {
     started: Group,
     checked: Group,
     bad_ranks: Group,
+    /// Reopenings refused with 15 for one name alone, by stage.
+    named: [[u64; DONE.len()]; NAMED.len()],
+    wrong_stages: Group,
+    reopened: Group,
+    not_reopened: Group,
+    reused: Group,
 }
 
 impl Coverage {
@@ -422,6 +501,23 @@ impl Coverage {
                     "Bad ranks at a start, the first four in a table too, for each call",
                     &bad_ranks,
                 )
+            },
+            named: Default::default(),
+            wrong_stages: Group {
+                at_least: AT_LEAST,
+                ..Group::new("Not reopened for the stage alone", WRONG_STAGES)
+            },
+            reopened: Group {
+                at_least: AT_LEAST,
+                ..Group::new("Reopened", REOPENED)
+            },
+            not_reopened: Group {
+                at_least: AT_LEAST,
+                ..Group::new("Not reopened", NOT_REOPENED)
+            },
+            reused: Group {
+                at_least: AT_LEAST,
+                ..Group::new("Lists from a start with reopenings", REUSED)
             },
         }
     }
@@ -473,6 +569,33 @@ impl Coverage {
     pub fn settled(&mut self) {
         self.drains
             .hit("empty mail on a list from start, demand 3 checked");
+    }
+
+    /// A session of a list from a start was reopened, or not, with demand 3 checked
+    /// after it. `times` are those before.
+    pub fn reused(&mut self, refusal: u8, stage: u8, times: u64, messages: usize) {
+        let reused = &mut self.reused;
+        if refusal != ACCEPTED {
+            reused.hit("not reopened");
+            return;
+        }
+        reused.hit(match stage {
+            SHRINKING => "reopened, shrinking",
+            _ => "reopened, rolled back",
+        });
+        if stage == ROLLED_BACK && times > 0 {
+            reused.hit("reopened again, rolled back again");
+        }
+        if messages > 0 {
+            reused.hit("reopened beside messages of others");
+        }
+        reused.most(MOST_REUSED, times + 1);
+    }
+
+    /// Demand 3 was checked after so many accepted steps of a list in which a
+    /// session was reopened before.
+    pub fn reused_steps(&mut self, steps: u64) {
+        self.reused.add(REUSED_STEPS, steps);
     }
 
     fn count(&mut self, call: usize, refusal: u8, numbers: &[u64], buffers: &Buffers) {
@@ -572,6 +695,110 @@ impl Coverage {
             }
             if count == capacity {
                 drains.hit("64 sessions, 64 items, capacity 4096, mail full");
+            }
+        }
+    }
+
+    pub(crate) fn reopen(&mut self, session: u64, before: &Buffers, refusal: u8) {
+        const BAD_NUMBER: u8 = Refusal::BadNumber as u8;
+        const IN_USE: u8 = Refusal::InUse as u8;
+        self.count(REOPEN, refusal, &[session], before);
+        match refusal {
+            ACCEPTED => self.reopened(session as u8, before),
+            IN_USE => self.in_use(session as u8, before),
+            BAD_NUMBER => {
+                let sessions = u64::from(before.table[TABLE_SESSIONS]);
+                let group = &mut self.not_reopened;
+                match session {
+                    0 => group.hit("number 0"),
+                    _ if session == sessions + 1 => group.hit("number S + 1"),
+                    0x100..=0xFFFF_FFFF => group.hit("number of 256 to 2^32 - 1"),
+                    0x1_0000_0000.. => group.hit("number of 2^32 and more"),
+                    _ => {}
+                }
+            }
+            _ => {}
+        }
+    }
+
+    /// A session that was reopened. No reason against it must be found here either.
+    fn reopened(&mut self, own: u8, before: &Buffers) {
+        let record = before.session(own.into());
+        let reason = (wrong_stage(record), names_of(before, own));
+        assert_eq!(reason, (None, Vec::new()), "session {own} was reopened");
+        let stored = record[JUNIORS].iter().any(|&junior| junior != 0);
+        let group = &mut self.reopened;
+        if record[STAGE] == SHRINKING {
+            group.hit("shrinking");
+            if stored {
+                group.hit("shrinking, stored probes");
+            }
+        } else {
+            group.hit("rolled back");
+            if stored {
+                group.hit("rolled back, stored probes");
+            }
+            if held(record) != 0 {
+                group.hit("rolled back, items in its mask");
+            }
+        }
+        if own > before.table[TABLE_ITEMS] {
+            group.hit("number above M");
+        }
+        if before.ranks()[usize::from(own) - 1] != own {
+            group.hit("rank other than its number");
+        }
+        let count = before.count();
+        if (0..count).any(|place| before.route(place)[ROUTE_ITEM] == own) {
+            group.hit("item of its number in a message");
+        }
+        if count == 0 {
+            group.hit("empty mail");
+        }
+        if count == before.capacity() {
+            group.hit("full mail");
+            if is_largest(before) {
+                self.situations
+                    .hit("reopen: 64 sessions, 64 items, 4096 messages, accepted");
+            }
+        }
+    }
+
+    /// A session that was refused with 15. If there is one reason alone it counts.
+    fn in_use(&mut self, own: u8, before: &Buffers) {
+        let record = before.session(own.into());
+        let names = names_of(before, own);
+        let named = match (wrong_stage(record), &names[..]) {
+            (None, []) => panic!("session {own} was not reopened"),
+            (Some(stage), []) => return self.wrong_stages.hit(stage),
+            (None, &[named]) => named,
+            _ => return,
+        };
+        let row = NAMED.iter().position(|&(_, other)| other == named);
+        let column = DONE.iter().position(|&stage| stage == record[STAGE]);
+        self.named[row.unwrap()][column.unwrap()] += 1;
+        let (count, capacity) = (before.count(), before.capacity());
+        if !matches!(named, Named::Message { .. }) || count < 2 {
+            return;
+        }
+        let (first, last) = (named_by(before, 0, own), named_by(before, count - 1, own));
+        let group = &mut self.not_reopened;
+        if !first.is_empty() {
+            group.hit("named by the first of several messages alone");
+        }
+        if !last.is_empty() {
+            group.hit("named by the last of several messages alone");
+            if count == capacity {
+                group.hit("named by the last message of a full mail alone");
+            }
+        }
+        if is_largest(before) && count == capacity {
+            let situations = &mut self.situations;
+            if !first.is_empty() {
+                situations.hit("reopen: 64 sessions, 64 items, 4096 messages, the first");
+            }
+            if !last.is_empty() {
+                situations.hit("reopen: 64 sessions, 64 items, 4096 messages, the last");
             }
         }
     }
@@ -943,6 +1170,14 @@ impl Coverage {
                 }
             }
         }
+        for (row, (name, _)) in NAMED.iter().enumerate() {
+            for (stage, &count) in DONE.iter().zip(&self.named[row]) {
+                if count < AT_LEAST {
+                    let stage = STAGES[usize::from(*stage) - 1];
+                    missing.push(format!("not reopened, {stage}, {name}: {count} times"));
+                }
+            }
+        }
         for group in self.groups() {
             for name in &group.names {
                 let count = group.counts[name];
@@ -954,7 +1189,7 @@ impl Coverage {
         missing
     }
 
-    fn groups(&self) -> [&Group; 11] {
+    fn groups(&self) -> [&Group; 15] {
         [
             &self.items,
             &self.sessions,
@@ -967,6 +1202,10 @@ impl Coverage {
             &self.searches,
             &self.drains,
             &self.texts,
+            &self.wrong_stages,
+            &self.reopened,
+            &self.not_reopened,
+            &self.reused,
         ]
     }
 }
@@ -1012,6 +1251,69 @@ fn on_no_cycle(buffers: &Buffers, mut session: u8) -> &'static str {
         }
     }
     "on no cycle: waits lead into a cycle"
+}
+
+/// Why the stage of a session forbids to reopen it, if it does.
+fn wrong_stage(record: &[u8]) -> Option<&'static str> {
+    match record[STAGE] {
+        GROWING => Some("growing"),
+        WAITING => Some("waiting"),
+        CLEANING => Some("cleaning"),
+        WITHDRAWING => Some("withdrawing"),
+        SHRINKING if held(record) != 0 => Some("shrinking, holding items"),
+        _ => None,
+    }
+}
+
+/// Where well-formed buffers name a session.
+fn names_of(buffers: &Buffers, session: u8) -> Vec<Named> {
+    let mut names = Vec::new();
+    for place in 0..buffers.count() {
+        names.extend(named_by(buffers, place, session));
+    }
+    for item in 1..=usize::from(buffers.table[TABLE_ITEMS]) {
+        let record = buffers.item(item);
+        if record[HOLDER] == session {
+            names.push(Named::Holder);
+        }
+        if queue(record).contains(&session) {
+            names.push(Named::Queue);
+        }
+    }
+    for owner in 1..=buffers.table[TABLE_SESSIONS] {
+        let own = owner == session;
+        let juniors = (1..).zip(&buffers.session(owner.into())[JUNIORS]);
+        for (initiator, &junior) in juniors.filter(|(_, &junior)| junior != 0) {
+            if initiator == session {
+                let initiator = true;
+                names.push(Named::Probe { own, initiator });
+            }
+            if junior == session {
+                let initiator = false;
+                names.push(Named::Probe { own, initiator });
+            }
+        }
+    }
+    names
+}
+
+/// Where a message names a session.
+fn named_by(buffers: &Buffers, place: usize, session: u8) -> Vec<Named> {
+    let (route, body) = (buffers.route(place), buffers.body(place));
+    let (direction, kind) = (route[DIRECTION], body[KIND]);
+    let in_route = route[ROUTE_SESSION] == session;
+    // An abort goes to its a.
+    let in_a = body[BODY_A] == session && !(in_route && kind == kind::ABORT);
+    let in_b = body[BODY_B] == session;
+    [(in_route, Part::Route), (in_a, Part::A), (in_b, Part::B)]
+        .into_iter()
+        .filter(|&(named, _)| named)
+        .map(|(_, part)| Named::Message {
+            part,
+            direction,
+            kind,
+        })
+        .collect()
 }
 
 /// Buffers of accepted calls, with S, M and C as large as can be.
@@ -1079,6 +1381,20 @@ impl Display for Coverage {
             write!(out, "  {:10}", format!("{first} to {last}"))?;
             for count in &self.cycles[first..=last] {
                 write!(out, "{count:>9}")?;
+            }
+            writeln!(out)?;
+        }
+
+        writeln!(out, "\nNot reopened for one name alone, by stage")?;
+        write!(out, "  {:30}", "")?;
+        for stage in DONE {
+            write!(out, "{:>12}", STAGES[usize::from(stage) - 1])?;
+        }
+        writeln!(out)?;
+        for ((name, _), counts) in NAMED.iter().zip(self.named) {
+            write!(out, "  {name:30}")?;
+            for count in counts {
+                write!(out, "{count:>12}")?;
             }
             writeln!(out)?;
         }

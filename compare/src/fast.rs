@@ -1,4 +1,4 @@
-//! The five calls written for speed, as a measure for the library: the form
+//! The six calls written for speed, as a measure for the library: the form
 //! is checked by loops without early exit that the compiler can vectorise, and
 //! the buffers are changed in place. Tested equal to the model.
 
@@ -632,6 +632,74 @@ fn try_drain(limit: u64, table: &mut [u8], mail: &mut [u8]) -> Result<Drained, R
         made,
         ending: ending as u8,
     })
+}
+
+pub fn reopen(session: u64, table: &mut [u8], mail: &[u8]) -> u8 {
+    match try_reopen(session, table, mail) {
+        Ok(()) => ACCEPTED,
+        Err(refusal) => refusal as u8,
+    }
+}
+
+fn try_reopen(session: u64, table: &mut [u8], mail: &[u8]) -> Result<(), Refusal> {
+    let (size, capacity) = judge(table, mail)?;
+    let session = within(session, size.sessions).ok_or(Refusal::BadNumber)?;
+    let record = session_record(table, session);
+    let done = match record[STAGE] {
+        SHRINKING => held(record) == 0,
+        stage => stage == ROLLED_BACK,
+    };
+    if !done || named_in_table(table, size, session) || named_in_mail(mail, capacity, session) {
+        return Err(Refusal::InUse);
+    }
+    let record = &mut table[session_at(session)];
+    record.fill(0);
+    record[STAGE] = GROWING;
+    Ok(())
+}
+
+/// Whether a holder, a queue or a stored probe of a well-formed table names a
+/// session. Behind a queue there are zeros.
+fn named_in_table(table: &[u8], size: Size, session: usize) -> bool {
+    let own = session as u8;
+    let records = &table[TABLE_HEADER..items_end(size.sessions, size.items)];
+    let (sessions, items) = records.split_at(SESSION_SIZE * size.sessions);
+    let mut named = 0;
+    for record in sessions.chunks_exact(SESSION_SIZE) {
+        let juniors: &[u8; MAX_SESSIONS] = record[JUNIORS].try_into().unwrap();
+        named |= juniors[session - 1] | any_equal(juniors, own);
+    }
+    for record in items.chunks_exact(ITEM_SIZE) {
+        let queue: &[u8; MAX_SESSIONS] = record[QUEUE].try_into().unwrap();
+        named |= all(record[HOLDER] == own) | any_equal(queue, own);
+    }
+    named != 0
+}
+
+fn any_equal(bytes: &[u8; MAX_SESSIONS], number: u8) -> u8 {
+    bytes.iter().fold(0, |any, &b| any | all(b == number))
+}
+
+/// Whether a message of well-formed mail names a session: the second byte of a
+/// route, or the second or third of a body, which are zeros where they are none.
+fn named_in_mail(mail: &[u8], capacity: usize, session: usize) -> bool {
+    let own = session as u8;
+    let used = ENTRY * count(mail);
+    let routes = &mail[MAIL_HEADER..][..used];
+    let bodies = &mail[routes_end(capacity)..][..used];
+    let mut named = [0u8; CELLS];
+    let (mut routes, mut bodies) = (routes.chunks_exact(CELLS), bodies.chunks_exact(CELLS));
+    for (route, body) in (&mut routes).zip(&mut bodies) {
+        for k in 0..CELLS {
+            let in_route = SECOND[k] & all(route[k] == own);
+            named[k] |= in_route | !FIRST[k] & all(body[k] == own);
+        }
+    }
+    let rest = routes.remainder().iter().zip(bodies.remainder());
+    for (k, (&route, &body)) in rest.enumerate() {
+        named[k] |= SECOND[k] & all(route == own) | !FIRST[k] & all(body == own);
+    }
+    any_set(&named)
 }
 
 /// The record of a message's receiver after the delivery.

@@ -306,6 +306,197 @@ pub fn clear_route(
     }
 }
 
+/// Which part of a message names a session. An abort's route and a are one.
+#[derive(Clone, Copy, PartialEq, Eq, Debug)]
+pub enum Part {
+    Route,
+    A,
+    B,
+}
+
+/// A place at which a session is named, so that it may not be reopened.
+#[derive(Clone, Copy, PartialEq, Eq, Debug)]
+pub enum Named {
+    Message { part: Part, direction: u8, kind: u8 },
+    Queue,
+    Holder,
+    Probe { own: bool, initiator: bool },
+}
+
+const fn to_item(part: Part, kind: u8) -> Named {
+    Named::Message {
+        part,
+        direction: TO_ITEM,
+        kind,
+    }
+}
+
+const fn to_session(part: Part, kind: u8) -> Named {
+    Named::Message {
+        part,
+        direction: TO_SESSION,
+        kind,
+    }
+}
+
+const fn probe(own: bool, initiator: bool) -> Named {
+    Named::Probe { own, initiator }
+}
+
+/// All such places.
+pub const NAMED: [(&str, Named); 27] = [
+    ("route: request", to_item(Part::Route, kind::REQUEST)),
+    ("route: release", to_item(Part::Route, kind::RELEASE)),
+    ("route: probe to an item", to_item(Part::Route, kind::PROBE)),
+    ("route: clean to an item", to_item(Part::Route, kind::CLEAN)),
+    (
+        "route: rebroadcast",
+        to_item(Part::Route, kind::REBROADCAST),
+    ),
+    ("route: withdraw", to_item(Part::Route, kind::WITHDRAW)),
+    (
+        "route: probe to a session",
+        to_session(Part::Route, kind::PROBE),
+    ),
+    (
+        "route: clean to a session",
+        to_session(Part::Route, kind::CLEAN),
+    ),
+    ("route: grant", to_session(Part::Route, kind::GRANT)),
+    ("route: resend", to_session(Part::Route, kind::RESEND)),
+    ("route and a: abort", to_session(Part::Route, kind::ABORT)),
+    ("route: withdrawn", to_session(Part::Route, kind::WITHDRAWN)),
+    ("a: probe to an item", to_item(Part::A, kind::PROBE)),
+    ("a: probe to a session", to_session(Part::A, kind::PROBE)),
+    ("a: clean to an item", to_item(Part::A, kind::CLEAN)),
+    ("a: clean to a session", to_session(Part::A, kind::CLEAN)),
+    ("b: probe to an item", to_item(Part::B, kind::PROBE)),
+    ("b: probe to a session", to_session(Part::B, kind::PROBE)),
+    ("b: clean to an item", to_item(Part::B, kind::CLEAN)),
+    ("b: clean to a session", to_session(Part::B, kind::CLEAN)),
+    ("b: abort", to_session(Part::B, kind::ABORT)),
+    ("in a queue", Named::Queue),
+    ("a holder", Named::Holder),
+    ("probe of another: initiator", probe(false, true)),
+    ("probe of another: junior", probe(false, false)),
+    ("probe of its own: initiator", probe(true, true)),
+    ("probe of its own: junior", probe(true, false)),
+];
+
+/// Whether a message names a session: a and b are zeros where they are none.
+fn names(route: &[u8], body: &[u8], session: u8) -> bool {
+    [route[ROUTE_SESSION], body[BODY_A], body[BODY_B]].contains(&session)
+}
+
+/// Well-formed buffers that do not name this session, which is shrinking and holds
+/// nothing or is rolled back: it may be reopened. It can have stored probes and,
+/// if it is rolled back, items in its mask. Every message names a session, so
+/// there is none where it is the only one.
+pub fn reopenable(
+    random: &mut Random,
+    config: Config,
+    messages: u64,
+    session: u8,
+    stage: u8,
+) -> Buffers {
+    let messages = if config.sessions > 1 { messages } else { 0 };
+    let mut buffers = well_formed(random, config, messages);
+    for owner in 1..=config.sessions as usize {
+        let juniors = &mut buffers.session_mut(owner)[JUNIORS];
+        juniors[usize::from(session) - 1] = 0;
+        for junior in juniors.iter_mut().filter(|junior| **junior == session) {
+            *junior = 0;
+        }
+    }
+    for item in 1..=config.items as usize {
+        let record = buffers.item_mut(item);
+        if record[HOLDER] == session {
+            record[HOLDER] = 0;
+        }
+        let mut queue = queue(record).to_vec();
+        queue.retain(|&waiting| waiting != session);
+        set_queue(record, &queue);
+    }
+    for place in 0..buffers.count() {
+        while names(buffers.route(place), buffers.body(place), session) {
+            let (route, body) = message(random, config);
+            buffers.set_message(place, route, body);
+        }
+    }
+    let record = buffers.session_mut(session.into());
+    record[STAGE] = stage;
+    record[AWAITED] = 0;
+    if stage == SHRINKING {
+        record[HELD].fill(0);
+    }
+    buffers
+}
+
+/// Any session but this one. There must be another.
+fn other(random: &mut Random, config: Config, session: u8) -> u8 {
+    let steps = random.between(1, config.sessions - 1);
+    ((u64::from(session) - 1 + steps) % config.sessions + 1) as u8
+}
+
+/// A session stores a probe that does not name it.
+pub fn store_other(random: &mut Random, config: Config, buffers: &mut Buffers, session: u8) {
+    let [initiator, junior] = [0; 2].map(|_| other(random, config, session));
+    buffers.session_mut(session.into())[JUNIORS][usize::from(initiator) - 1] = junior;
+}
+
+/// Names a session at one place more. There must be another session.
+pub fn name(random: &mut Random, config: Config, buffers: &mut Buffers, session: u8, named: Named) {
+    let [one, another] = [0; 2].map(|_| other(random, config, session));
+    let item = config.any_item(random);
+    match named {
+        Named::Message {
+            part,
+            direction,
+            kind,
+        } => {
+            let mut route = [direction, one, item as u8];
+            let mut body = [kind, 0, 0];
+            if has_sessions(kind) {
+                body = [kind, another, one];
+            }
+            match part {
+                Part::Route => route[ROUTE_SESSION] = session,
+                Part::A => body[BODY_A] = session,
+                Part::B => body[BODY_B] = session,
+            }
+            if kind == kind::ABORT {
+                body[BODY_A] = route[ROUTE_SESSION];
+            }
+            let last = buffers.count().max(1) - 1;
+            buffers.set_count(last + 1);
+            let place = match random.between(1, 4) {
+                1 => 0,
+                2 => last,
+                _ => random.between(0, last as u64) as usize,
+            };
+            buffers.set_message(place, route, body);
+        }
+        Named::Queue => {
+            let record = buffers.item_mut(item as usize);
+            let mut queue = queue(record).to_vec();
+            let place = random.between(0, queue.len() as u64) as usize;
+            queue.insert(place, session);
+            set_queue(record, &queue);
+        }
+        Named::Holder => buffers.item_mut(item as usize)[HOLDER] = session,
+        Named::Probe { own, initiator } => {
+            let owner = if own { session } else { one };
+            let (initiator, junior) = if initiator {
+                (session, another)
+            } else {
+                (another, session)
+            };
+            let juniors = &mut buffers.session_mut(owner.into())[JUNIORS];
+            juniors[usize::from(initiator) - 1] = junior;
+        }
+    }
+}
+
 /// What goes along with cleans that circle.
 #[derive(Clone, Copy, PartialEq, Eq, Debug)]
 pub enum Beside {
@@ -354,8 +545,8 @@ pub fn circling(random: &mut Random, config: Config, messages: u64, beside: Besi
 }
 
 /// A way to break the form of well-formed buffers: what must then be answered
-/// to a step whose verb and lengths are right, to a drain and, where it is the
-/// table, to a report and a text.
+/// to a step whose verb and lengths are right, to a drain, to a reopening and,
+/// where it is the table, to a report and a text.
 pub struct Break {
     pub name: &'static str,
     pub refusal: Refusal,

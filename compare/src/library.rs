@@ -4,7 +4,6 @@
 
 use crate::calls::Calls;
 use crate::comparison::Buffers;
-use model::layout::{items_end, TABLE_SESSIONS};
 use model::{Answer, Config, Cycle, Drained, Text, ACCEPTED};
 use std::ffi::{c_char, c_int, c_void, CStr, CString};
 use std::{mem, ptr};
@@ -77,6 +76,14 @@ extern "C" {
         text: *mut u8,
         text_len: usize,
     ) -> LockmgrText;
+
+    fn lockmgr_reopen(
+        session: u64,
+        table: *mut u8,
+        table_len: usize,
+        mail: *const u8,
+        mail_len: usize,
+    ) -> u8;
 }
 
 // From the C library.
@@ -87,29 +94,21 @@ extern "C" {
 
 type Start =
     unsafe extern "C" fn(u64, u64, u64, *const u8, usize, *mut u8, usize, *mut u8, usize) -> u8;
-type StartUnranked = unsafe extern "C" fn(u64, u64, u64, *mut u8, usize, *mut u8, usize) -> u8;
 type Step = unsafe extern "C" fn(u64, u64, u64, *mut u8, usize, *mut u8, usize) -> LockmgrAnswer;
 type Report = unsafe extern "C" fn(u64, *const u8, usize) -> LockmgrCycle;
 type Drain = unsafe extern "C" fn(u64, *mut u8, usize, *mut u8, usize) -> LockmgrDrained;
 type CycleText = unsafe extern "C" fn(u64, *const u8, usize, *mut u8, usize) -> LockmgrText;
+type Reopen = unsafe extern "C" fn(u64, *mut u8, usize, *const u8, usize) -> u8;
 
-/// How a library starts.
-#[derive(Clone, Copy)]
-enum Starts {
-    Ranked(Start),
-    /// An earlier one, whose tables end with the item records.
-    Unranked(StartUnranked),
-}
-
-/// The functions of a library. An earlier one that knows no ranks is lent the
-/// table without them: they are its last bytes.
+/// The functions of a library.
 pub struct Library {
-    start: Starts,
+    start: Start,
     step: Step,
     report: Report,
     drain: Drain,
+    cycle_text: CycleText,
     /// None in an earlier library, which has no such call.
-    cycle_text: Option<CycleText>,
+    reopen: Option<Reopen>,
 }
 
 /// Every name is looked up when the library is loaded. It stays the library's own,
@@ -119,18 +118,19 @@ const RTLD_NOW: c_int = 2;
 impl Library {
     /// The one that this program is linked with.
     pub const LINKED: Library = Library {
-        start: Starts::Ranked(lockmgr_start),
+        start: lockmgr_start,
         step: lockmgr_step,
         report: lockmgr_report,
         drain: lockmgr_drain,
-        cycle_text: Some(lockmgr_cycle_text),
+        cycle_text: lockmgr_cycle_text,
+        reopen: Some(lockmgr_reopen),
     };
 
     /// A shared library, which is never unloaded.
     ///
     /// # Safety
     /// The path names a build of this library with the interface of
-    /// include/lockmgr.h, or an earlier one.
+    /// include/lockmgr.h, or an earlier one that lacks calls alone.
     pub unsafe fn load(path: &str) -> Result<Library, String> {
         let c_path = CString::new(path).map_err(|_| format!("no path: {path}"))?;
         // SAFETY: the path ends in a zero. What loading runs is the caller's promise.
@@ -147,71 +147,39 @@ impl Library {
                 Ok(function)
             }
         };
-        let start = find(c"lockmgr_start")?;
         // SAFETY: by the caller's promise each has the type of that name in
-        // include/lockmgr.h, a start that of its layout, and the library stays
-        // loaded.
+        // include/lockmgr.h, and the library stays loaded.
         unsafe {
-            let report = mem::transmute::<*mut c_void, Report>(find(c"lockmgr_report")?);
-            Ok(Library {
-                start: match takes_ranks(report) {
-                    Some(true) => Starts::Ranked(mem::transmute::<*mut c_void, Start>(start)),
-                    Some(false) => {
-                        Starts::Unranked(mem::transmute::<*mut c_void, StartUnranked>(start))
-                    }
-                    None => return Err(format!("{path} takes other tables")),
-                },
+            let library = Library {
+                start: mem::transmute::<*mut c_void, Start>(find(c"lockmgr_start")?),
                 step: mem::transmute::<*mut c_void, Step>(find(c"lockmgr_step")?),
-                report,
+                report: mem::transmute::<*mut c_void, Report>(find(c"lockmgr_report")?),
                 drain: mem::transmute::<*mut c_void, Drain>(find(c"lockmgr_drain")?),
-                cycle_text: find(c"lockmgr_cycle_text")
+                cycle_text: mem::transmute::<*mut c_void, CycleText>(find(c"lockmgr_cycle_text")?),
+                reopen: find(c"lockmgr_reopen")
                     .ok()
-                    .map(|function| mem::transmute::<*mut c_void, CycleText>(function)),
-            })
+                    .map(|function| mem::transmute::<*mut c_void, Reopen>(function)),
+            };
+            if library.takes_tables() {
+                Ok(library)
+            } else {
+                Err(format!("{path} takes other tables"))
+            }
         }
     }
 
-    pub fn has_cycle_text(&self) -> bool {
-        self.cycle_text.is_some()
+    /// Whether it takes tables of this layout: it reports on the smallest one. The
+    /// start of an earlier layout would be another function; a report is the same
+    /// in every layout.
+    fn takes_tables(&self) -> bool {
+        let config = Config::new(1, 1, 1);
+        let mut fresh = Buffers::filled(config, 0);
+        model::start(config, &[1], &mut fresh.table, &mut fresh.mail);
+        self.report(1, &fresh.table).refusal == ACCEPTED
     }
 
-    pub fn takes_ranks(&self) -> bool {
-        matches!(self.start, Starts::Ranked(_))
-    }
-
-    /// The length of a table with so many sessions as the library is lent it.
-    fn length(&self, table: &[u8], sessions: u64) -> usize {
-        if self.takes_ranks() {
-            table.len()
-        } else {
-            table.len().saturating_sub(sessions as usize)
-        }
-    }
-
-    /// The same by the number of sessions that the table carries.
-    fn carried_length(&self, table: &[u8]) -> usize {
-        let sessions = table.get(TABLE_SESSIONS).copied().unwrap_or(0);
-        self.length(table, sessions.into())
-    }
-}
-
-/// Whether a library takes tables with ranks or, as an earlier one, without: it
-/// reports on the smallest table of its own layout alone.
-///
-/// # Safety
-/// The function is a library's report, whose type is the same in every layout.
-unsafe fn takes_ranks(report: Report) -> Option<bool> {
-    let config = Config::new(1, 1, 1);
-    let mut fresh = Buffers::filled(config, 0);
-    model::start(config, &[1], &mut fresh.table, &mut fresh.mail);
-    let accepts = |table: &[u8]| {
-        // SAFETY: the pointer is good for its length, and report only reads.
-        unsafe { report(1, table.as_ptr(), table.len()) }.refusal == ACCEPTED
-    };
-    if accepts(&fresh.table) {
-        Some(true)
-    } else {
-        accepts(&fresh.table[..items_end(1, 1)]).then_some(false)
+    pub fn has_reopen(&self) -> bool {
+        self.reopen.is_some()
     }
 }
 
@@ -241,27 +209,20 @@ impl Calls for Library {
             items,
             capacity,
         } = config;
-        let (table_len, mail_len) = (self.length(table, sessions), mail.len());
-        let (table, mail) = (pointer(table), pointer(mail));
         // SAFETY: each pointer is good for its length, two `&mut` never overlap, and
         // the ranks are only read.
         unsafe {
-            match self.start {
-                Starts::Ranked(start) => start(
-                    sessions,
-                    items,
-                    capacity,
-                    const_pointer(ranks),
-                    ranks.len(),
-                    table,
-                    table_len,
-                    mail,
-                    mail_len,
-                ),
-                Starts::Unranked(start) => {
-                    start(sessions, items, capacity, table, table_len, mail, mail_len)
-                }
-            }
+            (self.start)(
+                sessions,
+                items,
+                capacity,
+                const_pointer(ranks),
+                ranks.len(),
+                pointer(table),
+                table.len(),
+                pointer(mail),
+                mail.len(),
+            )
         }
     }
 
@@ -280,7 +241,7 @@ impl Calls for Library {
                 session,
                 item,
                 pointer(table),
-                self.carried_length(table),
+                table.len(),
                 pointer(mail),
                 mail.len(),
             )
@@ -295,9 +256,8 @@ impl Calls for Library {
     }
 
     fn report(&self, session: u64, table: &[u8]) -> Cycle {
-        let length = self.carried_length(table);
         // SAFETY: the pointer is good for its length, and report only reads.
-        let cycle = unsafe { (self.report)(session, const_pointer(table), length) };
+        let cycle = unsafe { (self.report)(session, const_pointer(table), table.len()) };
         Cycle {
             refusal: cycle.refusal,
             length: cycle.length,
@@ -310,7 +270,7 @@ impl Calls for Library {
             (self.drain)(
                 limit,
                 pointer(table),
-                self.carried_length(table),
+                table.len(),
                 pointer(mail),
                 mail.len(),
             )
@@ -322,16 +282,14 @@ impl Calls for Library {
         }
     }
 
-    /// Not for an earlier library without this call.
     fn cycle_text(&self, session: u64, table: &[u8], text: &mut [u8]) -> Text {
-        let cycle_text = self.cycle_text.expect("the library writes texts");
         // SAFETY: each pointer is good for its length, the table is only read, and
         // a `&mut` overlaps nothing.
         let written = unsafe {
-            cycle_text(
+            (self.cycle_text)(
                 session,
                 const_pointer(table),
-                self.carried_length(table),
+                table.len(),
                 pointer(text),
                 text.len(),
             )
@@ -339,6 +297,22 @@ impl Calls for Library {
         Text {
             refusal: written.refusal,
             length: written.length,
+        }
+    }
+
+    /// Not for an earlier library without this call.
+    fn reopen(&self, session: u64, table: &mut [u8], mail: &[u8]) -> u8 {
+        let reopen = self.reopen.expect("the library reopens sessions");
+        // SAFETY: each pointer is good for its length, the mail is only read, and a
+        // `&mut` overlaps nothing.
+        unsafe {
+            reopen(
+                session,
+                pointer(table),
+                table.len(),
+                const_pointer(mail),
+                mail.len(),
+            )
         }
     }
 }

@@ -4,12 +4,14 @@
 use compare::calls::{Calls, Fast, Misread, Model};
 use compare::cases::{every_place, round};
 use compare::comparison::{Buffers, Comparison};
-use compare::numbers::{delivered_direction, DELIVER_TO_ITEM};
+use compare::numbers::{delivered_direction, DELIVER_TO_ITEM, TO_ITEM, TO_SESSION};
+use model::item::Item;
 use model::layout::{
-    body_at, ranks_at, read_u16, route_at, BODY_SIZE, DIRECTION, KIND, MAIL_CAPACITY, MAX_SESSIONS,
-    ROUTE_ITEM, ROUTE_SESSION, ROUTE_SIZE,
+    body_at, ranks_at, read_u16, route_at, session_at, AWAITED, BODY_SIZE, DIRECTION, KIND,
+    MAIL_CAPACITY, MAX_SESSIONS, ROUTE_ITEM, ROUTE_SESSION, ROUTE_SIZE,
 };
-use model::mailbox::{count, kind};
+use model::mailbox::{count, kind, Body, Mailbox};
+use model::session::Session;
 use model::table::Table;
 use model::waits::{cycle_waits, text_of};
 use model::{Answer, Config, Cycle, Drained, Misreading, Ranks, Refusal, Text, ACCEPTED};
@@ -35,7 +37,9 @@ fn every_misreading_and_replaced_rule_is_found() {
         &Misreading::OF_01[..],
         &Misreading::OF_F2,
         &Misreading::OF_F6,
+        &Misreading::OF_F7,
         &Misreading::IN_BYTES,
+        &Misreading::OF_F7_IN_BYTES,
         &Misreading::OUTSIDE_STEPS,
     ]
     .into_iter()
@@ -122,6 +126,36 @@ enum Wrong {
     RanksUnseenByReport,
     /// A text takes bad ranks for plain ones.
     RanksUnseenByText,
+    /// A reopening takes bad ranks for plain ones.
+    RanksUnseenByReopen,
+    /// Only the lowest byte of a session number counts for a reopening.
+    NarrowReopen,
+    /// A reopening refused with 15 leaves a trace in the table.
+    TraceOfRefusedReopen,
+    /// A reopening leaves a trace in the record.
+    TraceOfReopen,
+    /// A reopening writes the record behind the session's.
+    NextReopened,
+    /// A reopening does not look at the first message.
+    FirstMessageUnseen,
+    /// A reopening does not look at the last message of a full mail.
+    LastMessageUnseen,
+    /// A reopening does not look at messages to items.
+    ToItemsUnseen,
+    /// A reopening does not look at messages to sessions.
+    ToSessionsUnseen,
+    /// A reopening does not look at the a and b of aborts.
+    AbortsUnseen,
+    /// A reopening takes an item of the session's number for the session.
+    ItemTaken,
+    /// A reopening does not look at the last item.
+    LastItemUnseen,
+    /// A reopening does not look at the last session's stored probes.
+    LastSessionUnseen,
+    /// Stored probes that name the session are cleared instead.
+    ClearsStored,
+    /// A reopening does not judge the length of the mail.
+    MailLengthUnseen,
 }
 
 /// Writes plain ranks into a table whose length is right.
@@ -286,9 +320,93 @@ impl Calls for Wrong {
             length: lines.len() as u16,
         }
     }
+
+    fn reopen(&self, session: u64, table: &mut [u8], mail: &[u8]) -> u8 {
+        let session = match self {
+            Wrong::NarrowReopen => session & 255,
+            _ => session,
+        };
+        let before = table.to_vec();
+        let refusal = unseen(*self == Wrong::RanksUnseenByReopen, table, |table| {
+            model::reopen(session, table, mail)
+        });
+        let in_use = Refusal::InUse as u8;
+        match self {
+            Wrong::MailLengthUnseen if refusal == Refusal::BadSize as u8 => {
+                let mut shorter = mail.to_vec();
+                shorter.pop();
+                return model::reopen(session, table, &shorter);
+            }
+            Wrong::ItemTaken if refusal == ACCEPTED => {
+                let taken = |place| mail[route_at(place)][ROUTE_ITEM] == session as u8;
+                if (0..count(mail)).any(taken) {
+                    table.copy_from_slice(&before);
+                    return in_use;
+                }
+            }
+            Wrong::TraceOfRefusedReopen if refusal == in_use => table[0] ^= 1,
+            Wrong::TraceOfReopen if refusal == ACCEPTED => {
+                table[session_at(session as usize)][AWAITED] = 1;
+            }
+            Wrong::NextReopened if refusal == ACCEPTED => {
+                let (own, next) = (session as usize, session as usize % table[0] as usize + 1);
+                table[session_at(own)].copy_from_slice(&before[session_at(own)]);
+                Session::fresh().encode(&mut table[session_at(next)]);
+            }
+            _ if refusal == in_use => return self.reopen_part(session as u8, table, mail),
+            _ => {}
+        }
+        refusal
+    }
 }
 
 impl Wrong {
+    /// A reopening that looks at a part of the buffers alone, and leaves the rest.
+    fn reopen_part(&self, session: u8, table: &mut [u8], mail: &[u8]) -> u8 {
+        let Some(mut records) = Table::decode(table) else {
+            return Refusal::InUse as u8; // the ranks are bad and not seen
+        };
+        let (sessions, items) = (records.sessions.len(), records.items.len());
+        let mut mailbox = Mailbox::decode(mail, sessions, items).unwrap();
+        let messages = &mut mailbox.messages;
+        match self {
+            Wrong::FirstMessageUnseen => drop(messages.drain(..messages.len().min(1))),
+            Wrong::LastMessageUnseen if messages.len() == mailbox.capacity => {
+                messages.pop();
+            }
+            Wrong::ToItemsUnseen => messages.retain(|m| m.route.direction as u8 != TO_ITEM),
+            Wrong::ToSessionsUnseen => messages.retain(|m| m.route.direction as u8 != TO_SESSION),
+            Wrong::AbortsUnseen => messages
+                .retain(|m| m.route.session == session || !matches!(m.body, Body::Abort { .. })),
+            Wrong::LastItemUnseen => records.items[items - 1] = Item::fresh(),
+            Wrong::LastSessionUnseen if usize::from(session) != sessions => {
+                records.sessions[sessions - 1] = Session::fresh();
+            }
+            Wrong::ClearsStored => {
+                for record in &mut records.sessions {
+                    record.juniors[usize::from(session) - 1] = 0;
+                    let juniors = record.juniors.iter_mut();
+                    juniors.filter(|j| **j == session).for_each(|j| *j = 0);
+                }
+            }
+            _ => {}
+        }
+        let mut seen = Buffers {
+            table: table.to_vec(),
+            mail: mail.to_vec(),
+        };
+        records.encode(&mut seen.table);
+        mailbox.encode(&mut seen.mail);
+        let refusal = model::reopen(session.into(), &mut seen.table, &seen.mail);
+        if refusal == ACCEPTED && *self == Wrong::ClearsStored {
+            table.copy_from_slice(&seen.table);
+        } else if refusal == ACCEPTED {
+            let record = session_at(session.into());
+            table[record.clone()].copy_from_slice(&seen.table[record]);
+        }
+        refusal
+    }
+
     /// A delivery whose search is wrong: it takes another message, or none.
     fn search(&self, v: u64, s: u64, i: u64, table: &mut [u8], mail: &mut [u8]) -> Option<Answer> {
         let seen: &[usize] = match self {
@@ -408,6 +526,21 @@ fn every_wrong_byte_is_found() {
         Wrong::RanksUnseenByDrain,
         Wrong::RanksUnseenByReport,
         Wrong::RanksUnseenByText,
+        Wrong::RanksUnseenByReopen,
+        Wrong::NarrowReopen,
+        Wrong::TraceOfRefusedReopen,
+        Wrong::TraceOfReopen,
+        Wrong::NextReopened,
+        Wrong::FirstMessageUnseen,
+        Wrong::LastMessageUnseen,
+        Wrong::ToItemsUnseen,
+        Wrong::ToSessionsUnseen,
+        Wrong::AbortsUnseen,
+        Wrong::ItemTaken,
+        Wrong::LastItemUnseen,
+        Wrong::LastSessionUnseen,
+        Wrong::ClearsStored,
+        Wrong::MailLengthUnseen,
     ] {
         let found = difference(wrong);
         println!("{wrong:?}: {found:?}");

@@ -1,4 +1,4 @@
-//! The five calls on numbers and byte buffers.
+//! The six calls on numbers and byte buffers.
 
 use crate::config::Config;
 use crate::item::ToSessions;
@@ -89,10 +89,12 @@ pub enum Refusal {
     ShortBuffer = 11,
     /// F-6: "A bad list gives 14 at start, after 2". No call gives 12 and 13.
     BadRanks = 14,
+    /// F-7: "Where it is not allowed the answer is 15, after 2 to 5"
+    InUse = 15,
 }
 
 impl Refusal {
-    pub const ALL: [Refusal; 12] = [
+    pub const ALL: [Refusal; 13] = [
         Refusal::BadVerb,
         Refusal::BadSize,
         Refusal::BadTable,
@@ -105,6 +107,7 @@ impl Refusal {
         Refusal::NoCycle,
         Refusal::ShortBuffer,
         Refusal::BadRanks,
+        Refusal::InUse,
     ];
 }
 
@@ -483,6 +486,60 @@ fn places_tried(misreading: Misreading, count: usize) -> Range<usize> {
         Misreading::PassesOverFull => 0..count,
         _ => 0..1,
     }
+}
+
+/// F-7: "a call that reopens a session: stage 1, nothing held, no probes". The
+/// mail is only read.
+pub fn reopen(session: u64, table: &mut [u8], mail: &[u8]) -> u8 {
+    reopen_as(Misreading::None, session, table, mail)
+}
+
+/// A reopening by the rules, or by one misreading of them.
+pub fn reopen_as(misreading: Misreading, session: u64, table: &mut [u8], mail: &[u8]) -> u8 {
+    match try_reopen(misreading, session, table, mail) {
+        Ok(()) => ACCEPTED,
+        Err(refusal) => refusal as u8,
+    }
+}
+
+/// F-7: "allowed exactly when the session is at stage 3 holding nothing, or at
+/// stage 6, and no entry of the mail [..], no line, no holder and no stored probe
+/// [..] names it". 15 comes "after 2 to 5, with only the session number checked
+/// under 5".
+fn try_reopen(
+    misreading: Misreading,
+    session: u64,
+    table: &mut [u8],
+    mail: &[u8],
+) -> Result<(), Refusal> {
+    let (mut records, mailbox) = match judge(table, mail) {
+        Err(Refusal::BadMail) if misreading == Misreading::MailFormUnseen => {
+            let records = Table::decode(table).ok_or(Refusal::BadTable)?;
+            (records, Mailbox::empty(MAX_CAPACITY))
+        }
+        judged => judged?,
+    };
+    let last = match misreading {
+        Misreading::ChecksItem => records.sessions.len().min(records.items.len()),
+        _ => records.sessions.len(),
+    };
+    let session = number(session, last).map_err(|refusal| match misreading {
+        Misreading::InUseFirst => Refusal::InUse,
+        _ => refusal,
+    })?;
+    let before = records.session(session).clone();
+    if !before.may_reopen(misreading)
+        || mailbox.names(session, misreading)
+        || records.names(session, misreading)
+    {
+        return Err(Refusal::InUse);
+    }
+    *records.session_mut(session) = before.reopened(misreading);
+    if misreading == Misreading::ResetsRank {
+        records.ranks.reset(session);
+    }
+    records.encode(table);
+    Ok(())
 }
 
 /// The step that delivers the message at a place of well-formed mail, 0 being

@@ -6,22 +6,24 @@ use crate::misreading::Misreading;
 use crate::table::{rolled_back, Table};
 use crate::waits::{cycle_members, standing_cycles};
 
-/// What the list of steps has counted so far.
+/// What the list has counted so far.
 #[derive(Clone, Copy, PartialEq, Eq, Debug, Default)]
 pub struct Demand3 {
     /// "Rings closed: the sum of the closed fields that the steps of the list
     /// answer."
     pub closed: u64,
     /// "Sessions rolled back: the number of deliveries in the list that bring a
-    /// session from another stage to stage 6."
+    /// session from another stage to stage 6." F-7: "counted each time".
     pub rolled_back: u64,
     /// Declarations seen, each of them checked.
     pub declared: u64,
     /// Those of them that name another victim than the greatest session number
     /// of the cycle.
     pub declared_by_rank: u64,
-    /// Times the mail was empty after a step, each of them checked.
+    /// Times the mail was empty after a call, each of them checked.
     pub empty: u64,
+    /// Sessions reopened.
+    pub reopened: u64,
 }
 
 impl Demand3 {
@@ -36,23 +38,57 @@ impl Demand3 {
         if answer.refusal != ACCEPTED {
             return check_refused(answer, before, after);
         }
-        let (table, mail) = after;
-        let well_formed = |table| Table::decode(table).ok_or("the table is not well-formed");
-        let records = well_formed(table)?;
-        Mailbox::decode(mail, records.sessions.len(), records.items.len())
-            .ok_or("the mail is not well-formed")?;
         self.closed += u64::from(answer.closed);
-        self.rolled_back += rolled_back(&well_formed(before.0)?, &records);
+        let records = self.after_accepted(before, after)?;
         if answer.victim != 0 && answer.initiator != 0 {
             self.declared += 1;
             let members = check_declaration(answer, &records)?;
             self.declared_by_rank += u64::from(members.iter().max() != Some(&answer.victim));
         }
-        if count(mail) == 0 {
-            self.empty += 1;
-            self.check_empty(&records, table)?;
+        self.if_empty(&records, after)
+    }
+
+    /// Takes a reopening of the list: its refusal and both buffers before and
+    /// after it.
+    pub fn after_reopen(
+        &mut self,
+        refusal: u8,
+        before: (&[u8], &[u8]),
+        after: (&[u8], &[u8]),
+    ) -> Result<(), String> {
+        if refusal != ACCEPTED {
+            return check_untouched(refusal, before, after);
         }
-        Ok(())
+        if before.1 != after.1 {
+            return Err("a reopening changed the mail".to_string());
+        }
+        self.reopened += 1;
+        let records = self.after_accepted(before, after)?;
+        self.if_empty(&records, after)
+    }
+
+    /// Both buffers after an accepted call are well-formed, and the sessions that
+    /// it rolled back are counted. The records after it.
+    fn after_accepted(
+        &mut self,
+        before: (&[u8], &[u8]),
+        (table, mail): (&[u8], &[u8]),
+    ) -> Result<Table, String> {
+        let well_formed = |table| Table::decode(table).ok_or("the table is not well-formed");
+        let records = well_formed(table)?;
+        Mailbox::decode(mail, records.sessions.len(), records.items.len())
+            .ok_or("the mail is not well-formed")?;
+        self.rolled_back += rolled_back(&well_formed(before.0)?, &records);
+        Ok(records)
+    }
+
+    /// The check of empty mail, if it is empty.
+    fn if_empty(&mut self, records: &Table, (table, mail): (&[u8], &[u8])) -> Result<(), String> {
+        if count(mail) != 0 {
+            return Ok(());
+        }
+        self.empty += 1;
+        self.check_empty(records, table)
     }
 
     /// Takes a drain of the list, with its limit and both buffers before and
@@ -170,8 +206,7 @@ fn check_declaration(answer: Answer, records: &Table) -> Result<Vec<u8>, String>
     Ok(members)
 }
 
-/// A refused step answers "number, zeros", leaves table and mail as they were,
-/// and after an accepted start finds both well-formed.
+/// A refused step answers "number, zeros".
 fn check_refused(
     answer: Answer,
     before: (&[u8], &[u8]),
@@ -185,8 +220,18 @@ fn check_refused(
     if answer != bare {
         return Err(format!("a refused step answers {answer:?}"));
     }
+    check_untouched(refusal, before, after)
+}
+
+/// A refused call leaves table and mail as they were, and after an accepted start
+/// finds both well-formed.
+fn check_untouched(
+    refusal: u8,
+    before: (&[u8], &[u8]),
+    after: (&[u8], &[u8]),
+) -> Result<(), String> {
     if before != after {
-        return Err(format!("a step refused with {refusal} changed a buffer"));
+        return Err(format!("a call refused with {refusal} changed a buffer"));
     }
     if refusal == Refusal::BadTable as u8 || refusal == Refusal::BadMail as u8 {
         return Err(format!("refused with {refusal} after an accepted start"));

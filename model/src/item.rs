@@ -225,4 +225,10 @@ impl Item {
         self.queue.retain(|&waiting| waiting != from);
         self.gives(vec![(from, Body::Withdrawn)])
     }
+
+    /// F-7: whether the holder or the queue names a session.
+    pub fn names(&self, session: u8, misreading: Misreading) -> bool {
+        self.holder == session && misreading != Misreading::HolderUnseen
+            || self.queue.contains(&session) && misreading != Misreading::QueueUnseen
+    }
 }

@@ -22,8 +22,8 @@ pub mod table;
 pub mod waits;
 
 pub use calls::{
-    cycle_text, cycle_text_as, drain, drain_as, report, start, start_as, step, step_as, Answer,
-    Cycle, Drained, Ending, Refusal, Text, Verb, ACCEPTED,
+    cycle_text, cycle_text_as, drain, drain_as, reopen, reopen_as, report, start, start_as, step,
+    step_as, Answer, Cycle, Drained, Ending, Refusal, Text, Verb, ACCEPTED,
 };
 pub use config::Config;
 pub use misreading::Misreading;

@@ -6,6 +6,7 @@ use crate::layout::{
     BODY_SIZE, DIRECTION, KIND, MAIL_CAPACITY, MAIL_COUNT, MAIL_HEADER, MAX_CAPACITY, MAX_ITEMS,
     MAX_SESSIONS, ROUTE_ITEM, ROUTE_SESSION, ROUTE_SIZE,
 };
+use crate::misreading::Misreading;
 
 /// "Direction 1 runs session to item, 2 item to session."
 #[derive(Clone, Copy, PartialEq, Eq, Debug)]
@@ -101,6 +102,17 @@ impl Body {
         in_bounds.then_some(body)
     }
 
+    /// The a and b of the kinds in which they are sessions.
+    fn sessions(self) -> Option<(u8, u8)> {
+        match self {
+            Body::Probe { initiator, junior } => Some((initiator, junior)),
+            Body::Clean { victim, initiator } | Body::Abort { victim, initiator } => {
+                Some((victim, initiator))
+            }
+            _ => None,
+        }
+    }
+
     /// "Direction 1 carries 1 to 6; direction 2 carries 3, 4, 7 to 10." and
     /// "In an abort, a is the session addressed."
     fn may_travel(self, route: Route) -> bool {
@@ -142,6 +154,19 @@ impl Route {
 pub struct Message {
     pub route: Route,
     pub body: Body,
+}
+
+impl Message {
+    /// F-7: whether it names a session, "in its route, a or b, where a and b are
+    /// sessions".
+    fn names(self, session: u8, misreading: Misreading) -> bool {
+        let in_route = self.route.session == session;
+        let in_body = self.body.sessions().is_some_and(|(a, b)| {
+            a == session && misreading != Misreading::UnseenAsA
+                || b == session && misreading != Misreading::UnseenAsB
+        });
+        in_route || in_body
+    }
 }
 
 /// The number of messages in the mail; "Mail is empty when its count is 0."
@@ -222,5 +247,11 @@ impl Mailbox {
     pub fn take(&mut self, route: Route) -> Option<Body> {
         let place = self.messages.iter().position(|m| m.route == route)?;
         Some(self.messages.remove(place).body)
+    }
+
+    /// Whether a message names a session.
+    pub fn names(&self, session: u8, misreading: Misreading) -> bool {
+        let mut messages = self.messages.iter();
+        misreading != Misreading::MailUnseen && messages.any(|m| m.names(session, misreading))
     }
 }

@@ -65,6 +65,40 @@ pub enum Misreading {
     AcceptsRank0,
     /// F-6 with rank S + 1 accepted at start.
     AcceptsRankAbove,
+    /// F-7 with the mail not looked at.
+    MailUnseen,
+    /// F-7 allowed with an entry that names the session as a alone.
+    UnseenAsA,
+    /// F-7 allowed with an entry that names the session as b alone.
+    UnseenAsB,
+    /// F-7 with the session's rank set to its number.
+    ResetsRank,
+    /// F-7 with the lines not looked at.
+    QueueUnseen,
+    /// F-7 with the holders not looked at.
+    HolderUnseen,
+    /// F-7 allowed with the session as initiator of another's stored probe.
+    StoredInitiatorUnseen,
+    /// F-7 allowed with the session as junior of another's stored probe.
+    StoredJuniorUnseen,
+    /// F-7 allowed with a stored probe of the session's own that names it.
+    OwnProbesUnseen,
+    /// F-7 allowed at stage 3 with an item held.
+    ReopensHolder,
+    /// F-7 allowed at stage 5.
+    ReopensWithdrawing,
+    /// F-7 with 15 for an item in the mask at stage 6.
+    RefusesMask,
+    /// F-7 with the mask kept.
+    KeepsMask,
+    /// F-7 with the session's stored probes kept.
+    KeepsProbes,
+    /// F-7 with the number checked as an item's too.
+    ChecksItem,
+    /// F-7 with 15 for a number that is no session.
+    InUseFirst,
+    /// F-7 with mail not in form taken for empty mail.
+    MailFormUnseen,
 }
 
 impl Misreading {
@@ -111,6 +145,30 @@ impl Misreading {
         Misreading::FirstInLine,
         Misreading::NextHolderByNumber,
         Misreading::ProbesByRank,
+    ];
+
+    /// Those of F-7 that spoil a list from a start. The check of demand 3 catches
+    /// each.
+    pub const OF_F7: [Misreading; 2] = [Misreading::MailUnseen, Misreading::ResetsRank];
+
+    /// Those of F-7 under which demand 3 holds too; answers or bytes differ, mostly
+    /// on forged buffers alone.
+    pub const OF_F7_IN_BYTES: [Misreading; 15] = [
+        Misreading::UnseenAsA,
+        Misreading::UnseenAsB,
+        Misreading::QueueUnseen,
+        Misreading::HolderUnseen,
+        Misreading::StoredInitiatorUnseen,
+        Misreading::StoredJuniorUnseen,
+        Misreading::OwnProbesUnseen,
+        Misreading::ReopensHolder,
+        Misreading::ReopensWithdrawing,
+        Misreading::RefusesMask,
+        Misreading::KeepsMask,
+        Misreading::KeepsProbes,
+        Misreading::ChecksItem,
+        Misreading::InUseFirst,
+        Misreading::MailFormUnseen,
     ];
 
     /// Those of F-6 in a text and at a start, which no step shows.

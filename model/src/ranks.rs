@@ -77,6 +77,11 @@ impl Ranks {
         ranks
     }
 
+    /// A session's rank becomes its number, which only a misreading asks for.
+    pub fn reset(&mut self, session: u8) {
+        self.0[usize::from(session) - 1] = session;
+    }
+
     /// These ranks, or the plain ones where a rule is misread.
     pub fn unless(&self, misread: bool) -> Ranks {
         if misread {

@@ -1,7 +1,8 @@
 //! Random runs of the lock manager from its start, each settled by a seed,
-//! with demand 3 checked after every step and for every step of a drain.
+//! with demand 3 checked after every step and for every step of a drain. In some
+//! of them sessions are reopened, again and again.
 
-use crate::calls::{drain_as, start, step_as, Answer, Ending, Refusal, Verb, ACCEPTED};
+use crate::calls::{drain_as, reopen_as, start, step_as, Answer, Ending, Refusal, Verb, ACCEPTED};
 use crate::config::Config;
 use crate::demand3::Demand3;
 use crate::mailbox::{count, Body, Mailbox, Message, Route};
@@ -130,6 +131,14 @@ pub struct Counts {
     pub full: u64,
     /// Accepted steps with ranks that are not plain.
     pub by_rank: u64,
+    /// Accepted steps after a session was reopened.
+    pub after_reopening: u64,
+    /// Reopenings refused with 15.
+    pub in_use: u64,
+    /// Reopenings of a session while there was mail.
+    pub reopened_beside_mail: u64,
+    /// Most reopenings of one session in a run.
+    pub most_reopened: u64,
     pub demand3: Demand3,
     /// Most deliveries alone until the mail was empty.
     pub most_deliveries: u64,
@@ -146,11 +155,16 @@ impl Counts {
         self.refused += other.refused;
         self.full += other.full;
         self.by_rank += other.by_rank;
+        self.after_reopening += other.after_reopening;
+        self.in_use += other.in_use;
+        self.reopened_beside_mail += other.reopened_beside_mail;
+        self.most_reopened = self.most_reopened.max(other.most_reopened);
         self.demand3.closed += other.demand3.closed;
         self.demand3.rolled_back += other.demand3.rolled_back;
         self.demand3.declared += other.demand3.declared;
         self.demand3.declared_by_rank += other.demand3.declared_by_rank;
         self.demand3.empty += other.demand3.empty;
+        self.demand3.reopened += other.demand3.reopened;
         self.most_deliveries = self.most_deliveries.max(other.most_deliveries);
         for (sum, count) in self.endings.iter_mut().zip(other.endings) {
             *sum += count;
@@ -173,66 +187,98 @@ const NARROW: u64 = 16;
 /// proved one.
 pub const DELIVERIES_BOUND: u64 = 5_000;
 
-/// One lock manager with its two buffers and the check of its list of steps.
+/// One lock manager with its two buffers and the check of its list of calls.
 struct Desk {
     misreading: Misreading,
     config: Config,
     wide: bool,
+    plain: bool,
+    /// How often each session was reopened, where the run reopens sessions.
+    reopened: Option<Vec<u64>>,
     table: Vec<u8>,
     mail: Vec<u8>,
     random: Random,
     counts: Counts,
 }
 
-/// One random run. It fails with the first thing that breaks demand 3, or with
-/// mail that deliveries alone do not empty.
+/// One random run in which no session is reopened. It fails with the first thing
+/// that breaks demand 3, or with mail that deliveries alone do not empty.
 pub fn run(seed: u64, misreading: Misreading) -> Result<Counts, String> {
-    let mut random = Random::new(seed);
-    let sessions = random.between(SMALLEST, LARGEST);
-    let items = random.between(SMALLEST, LARGEST);
-    let wide = !random.one_in(8);
-    let capacity = if wide {
-        WIDE
-    } else {
-        random.between(1, NARROW)
-    };
-    let config = Config::new(sessions, items, capacity);
-    let ranks = if random.one_in(8) {
-        Ranks::plain(sessions as usize)
-    } else {
-        Ranks::decode(&random.order(sessions)).ok_or("no ranks")?
-    };
-    let mut table = vec![0; config.table_length()];
-    let mut mail = vec![0; config.mail_length()];
-    if start(config, ranks.bytes(), &mut table, &mut mail) != ACCEPTED {
-        return Err("start is refused".to_string());
-    }
-    let mut desk = Desk {
-        misreading,
-        config,
-        wide,
-        table,
-        mail,
-        random,
-        counts: Counts {
-            runs: 1,
-            ..Counts::default()
-        },
-    };
+    let mut desk = Desk::draw(seed, misreading)?;
     desk.play()?;
-    if !Ranks::is_plain(ranks.bytes()) {
-        desk.counts.by_rank = desk.counts.steps - desk.counts.refused;
+    desk.deliver_all()?;
+    Ok(desk.counted())
+}
+
+/// One random run in which sessions are reopened, of so many steps or more unless
+/// its small mail can take no delivery any more.
+pub fn run_reopening(seed: u64, misreading: Misreading, steps: u64) -> Result<Counts, String> {
+    let mut desk = Desk::draw(seed, misreading)?;
+    desk.reopened = Some(vec![0; desk.config.sessions as usize]);
+    while desk.counts.steps < steps && desk.counts.stuck == 0 {
+        desk.play()?;
     }
-    Ok(desk.counts)
+    desk.deliver_all()?;
+    Ok(desk.counted())
 }
 
 impl Desk {
-    /// Bursts of mixed steps and drains, now and then all mail delivered, and so
-    /// at the end.
+    /// A lock manager after its start, of any size and with any ranks.
+    fn draw(seed: u64, misreading: Misreading) -> Result<Desk, String> {
+        let mut random = Random::new(seed);
+        let sessions = random.between(SMALLEST, LARGEST);
+        let items = random.between(SMALLEST, LARGEST);
+        let wide = !random.one_in(8);
+        let capacity = if wide {
+            WIDE
+        } else {
+            random.between(1, NARROW)
+        };
+        let config = Config::new(sessions, items, capacity);
+        let ranks = if random.one_in(8) {
+            Ranks::plain(sessions as usize)
+        } else {
+            Ranks::decode(&random.order(sessions)).ok_or("no ranks")?
+        };
+        let mut table = vec![0; config.table_length()];
+        let mut mail = vec![0; config.mail_length()];
+        if start(config, ranks.bytes(), &mut table, &mut mail) != ACCEPTED {
+            return Err("start is refused".to_string());
+        }
+        Ok(Desk {
+            misreading,
+            config,
+            wide,
+            plain: Ranks::is_plain(ranks.bytes()),
+            reopened: None,
+            table,
+            mail,
+            random,
+            counts: Counts {
+                runs: 1,
+                ..Counts::default()
+            },
+        })
+    }
+
+    /// What the run came to.
+    fn counted(mut self) -> Counts {
+        if !self.plain {
+            self.counts.by_rank = self.counts.steps - self.counts.refused;
+        }
+        let reopened = self.reopened.unwrap_or_default();
+        self.counts.most_reopened = reopened.into_iter().max().unwrap_or(0);
+        self.counts
+    }
+
+    /// Bursts of mixed calls, now and then all mail delivered.
     fn play(&mut self) -> Result<(), String> {
         let bursts = self.random.between(3, 12);
         let deliver_in_ten = self.random.between(2, 9);
-        let release_one_in = self.random.between(3, 40);
+        // A session that is to be reopened has to give up its items first.
+        let reopens = self.reopened.is_some();
+        let seldom = if reopens { 8 } else { 40 };
+        let release_one_in = self.random.between(3, seldom);
         let deliver_all_one_in = self.random.between(1, 6);
         let drain_one_in = self.random.between(40, 200);
         for _ in 0..bursts {
@@ -242,6 +288,8 @@ impl Desk {
                     self.any_step()?;
                 } else if self.random.one_in(drain_one_in) {
                     self.drain()?;
+                } else if reopens && self.random.one_in(8) {
+                    self.reopen()?;
                 } else if self.random.between(1, 10) <= deliver_in_ten {
                     self.delivery(schedule)?;
                 } else if self.random.one_in(release_one_in) {
@@ -254,7 +302,7 @@ impl Desk {
                 self.deliver_all()?;
             }
         }
-        self.deliver_all()
+        Ok(())
     }
 
     /// One step, then the check.
@@ -270,6 +318,7 @@ impl Desk {
         );
         self.counts.steps += 1;
         self.counts.refused += u64::from(answer.refusal != ACCEPTED);
+        self.count_reused(u64::from(answer.refusal == ACCEPTED));
         self.counts.full += u64::from(answer.refusal == Refusal::MailFull as u8);
         self.counts.demand3.after_step(
             answer,
@@ -277,6 +326,13 @@ impl Desk {
             (&self.table, &self.mail),
         )?;
         Ok(answer)
+    }
+
+    /// Counts so many accepted steps, if a session was reopened before them.
+    fn count_reused(&mut self, steps: u64) {
+        if self.counts.demand3.reopened > 0 {
+            self.counts.after_reopening += steps;
+        }
     }
 
     fn records(&self) -> Result<Table, String> {
@@ -370,6 +426,7 @@ impl Desk {
             (&self.table, &self.mail),
         )?;
         self.counts.steps += drained.made;
+        self.count_reused(drained.made);
         self.counts.endings[usize::from(drained.ending) - 1] += 1;
         if drained.made == DELIVERIES_BOUND {
             return Err(format!(
@@ -378,6 +435,35 @@ impl Desk {
         }
         if self.wide && drained.ending == Ending::Full as u8 {
             return Err("a wide mail filled up".to_string());
+        }
+        Ok(())
+    }
+
+    /// A reopening, mostly of a session that is done, if there is one, then the
+    /// check.
+    fn reopen(&mut self) -> Result<(), String> {
+        let records = self.records()?;
+        let done = |&session: &u64| {
+            let record = records.session(session as u8);
+            matches!(record.stage, Stage::Shrinking | Stage::RolledBack) && record.held == 0
+        };
+        let choices: Vec<u64> = (1..=self.config.sessions).filter(done).collect();
+        let session = match self.random.pick(&choices) {
+            _ if self.random.one_in(10) => self.random.between(0, self.config.sessions + 1),
+            Some(&session) => session,
+            None => return Ok(()),
+        };
+        let before = self.table.clone();
+        let refusal = reopen_as(self.misreading, session, &mut self.table, &self.mail);
+        self.counts.demand3.after_reopen(
+            refusal,
+            (&before, &self.mail),
+            (&self.table, &self.mail),
+        )?;
+        self.counts.in_use += u64::from(refusal == Refusal::InUse as u8);
+        if let (ACCEPTED, Some(reopened)) = (refusal, &mut self.reopened) {
+            reopened[session as usize - 1] += 1;
+            self.counts.reopened_beside_mail += u64::from(count(&self.mail) != 0);
         }
         Ok(())
     }

@@ -286,4 +286,35 @@ impl Session {
         };
         (after, sends)
     }
+
+    /// F-7: "at stage 3 holding nothing, or at stage 6".
+    pub fn may_reopen(&self, misreading: Misreading) -> bool {
+        match self.stage {
+            Stage::Shrinking => self.held == 0 || misreading == Misreading::ReopensHolder,
+            Stage::RolledBack => self.held == 0 || misreading != Misreading::RefusesMask,
+            Stage::Withdrawing => misreading == Misreading::ReopensWithdrawing,
+            Stage::Growing | Stage::Waiting | Stage::Cleaning => false,
+        }
+    }
+
+    /// Whether a stored probe names a session as initiator.
+    pub fn stores_initiator(&self, session: u8) -> bool {
+        self.juniors[usize::from(session) - 1] != 0
+    }
+
+    /// Whether a stored probe names a session as junior.
+    pub fn stores_junior(&self, session: u8) -> bool {
+        self.juniors.contains(&session)
+    }
+
+    /// F-7: "stage 1, nothing held, no probes".
+    pub fn reopened(self, misreading: Misreading) -> Session {
+        let mut after = Session::fresh();
+        match misreading {
+            Misreading::KeepsMask => after.held = self.held,
+            Misreading::KeepsProbes => after.juniors = self.juniors,
+            _ => {}
+        }
+        after
+    }
 }

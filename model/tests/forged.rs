@@ -10,7 +10,7 @@ use model::scenario::Random;
 use model::session::{Session, Stage};
 use model::table::Table;
 use model::waits::{cycle_members, standing_cycles, waits_for};
-use model::{report, start, step, Config, Misreading, Ranks, Refusal, Verb};
+use model::{reopen, report, start, step, Config, Misreading, Ranks, Refusal, Verb};
 
 fn item(holder: u8, queue: &[u8]) -> Item {
     Item {
@@ -335,6 +335,21 @@ fn session_withdrawn() {
     session_does(withdrawing, 5, Body::Withdrawn, ends, &sends);
 }
 
+/// Of a reopened session nothing is left but its number, whatever was stored or
+/// held; what it may be at that point is the rule of `may_reopen`.
+#[test]
+fn session_reopened() {
+    for before in all_stages() {
+        let (stage, mut nothing_held) = (before.stage, before.clone());
+        nothing_held.held = 0;
+        let may = |session: &Session| session.may_reopen(Misreading::None);
+        assert_eq!(may(&before), stage == Stage::RolledBack);
+        let done = matches!(stage, Stage::Shrinking | Stage::RolledBack);
+        assert_eq!(may(&nothing_held), done);
+        assert_eq!(before.reopened(Misreading::None), Session::fresh());
+    }
+}
+
 #[test]
 fn waits_are_read_from_queues_and_holders() {
     let mut table = Table::fresh(Ranks::plain(5), 4);
@@ -434,6 +449,7 @@ fn decoding_keeps_every_byte() {
         let mailbox = Mailbox::decode(&mail, sessions, items);
         // Session 0 is refused with 5 if nothing comes before it.
         let refusal = step(Verb::Request as u64, 0, 1, &mut table, &mut mail).refusal;
+        assert_eq!(reopen(0, &mut table, &mail), refusal);
         match (records, mailbox) {
             (None, _) => {
                 assert_eq!(refusal, Refusal::BadTable as u8);

@@ -1,8 +1,9 @@
-//! Each of 01's plausible misreadings, each of F-2's and those of F-6 that name
-//! other sessions in a declaration are caught by the check. The rules themselves
-//! pass it on the same seeds, and so do those that change bytes alone.
+//! Each of 01's plausible misreadings, each of F-2's, those of F-6 that name other
+//! sessions in a declaration and those of F-7 that spoil a list are caught by the
+//! check. The rules themselves pass it on the same seeds, and so do those that
+//! change answers and bytes alone.
 
-use model::scenario::run;
+use model::scenario::{run, run_reopening, Counts};
 use model::Misreading;
 
 /// A misreading, a seed whose run catches it, and what the check then says.
@@ -53,30 +54,62 @@ const CAUGHT: [(Misreading, u64, &str); 28] = [
     (Misreading::JuniorByNumber, 17, "not the most junior"),
 ];
 
+/// The same for those of F-7, in runs in which sessions are reopened.
+const CAUGHT_REOPENING: [(Misreading, u64, &str); 5] = [
+    (Misreading::MailUnseen, 0, "who lies on no cycle"),
+    (Misreading::MailUnseen, 32, "not the most junior"),
+    (Misreading::MailUnseen, 2, "not the most senior"),
+    (Misreading::ResetsRank, 0, "table is not well-formed"),
+    (Misreading::ResetsRank, 1, "table is not well-formed"),
+];
+
+/// The steps of such a run.
+const STEPS: u64 = 2_000;
+
+fn reopening(seed: u64, misreading: Misreading) -> Result<Counts, String> {
+    run_reopening(seed, misreading, STEPS)
+}
+
 /// Those that the check of the model catches.
 fn misreadings() -> impl Iterator<Item = Misreading> {
     let (of_01, of_f2) = (Misreading::OF_01, Misreading::OF_F2);
     of_01.into_iter().chain(of_f2).chain(Misreading::OF_F6)
 }
 
-#[test]
-fn each_is_caught() {
-    for (misreading, seed, expected) in CAUGHT {
+type Run = fn(u64, Misreading) -> Result<Counts, String>;
+
+/// The run of each seed catches its misreading and passes the rules.
+fn catches(run: Run, caught: &[(Misreading, u64, &str)]) {
+    for &(misreading, seed, expected) in caught {
         let reason = run(seed, misreading).expect_err("the misreading passes the check");
         println!("{misreading:?}, seed {seed}: {reason}");
         assert!(reason.contains(expected), "{misreading:?}: {reason}");
         assert!(run(seed, Misreading::None).is_ok());
     }
-    for misreading in misreadings() {
-        assert!(CAUGHT.iter().any(|&(caught, _, _)| caught == misreading));
+}
+
+#[test]
+fn each_is_caught() {
+    catches(run, &CAUGHT);
+    catches(reopening, &CAUGHT_REOPENING);
+    for misreading in misreadings().chain(Misreading::OF_F7) {
+        let mut all = CAUGHT.iter().chain(&CAUGHT_REOPENING);
+        assert!(all.any(|&(caught, _, _)| caught == misreading));
     }
 }
 
 const SEEDS: u64 = 2_000;
+const REOPENING_SEEDS: u64 = 10;
 
 /// How many of the runs fail the check.
 fn failures(misreading: Misreading) -> usize {
     (0..SEEDS).filter(|&s| run(s, misreading).is_err()).count()
+}
+
+fn reopening_failures(misreading: Misreading) -> usize {
+    (0..REOPENING_SEEDS)
+        .filter(|&s| reopening(s, misreading).is_err())
+        .count()
 }
 
 #[test]
@@ -87,6 +120,12 @@ fn on_the_same_seeds_only_the_rules_pass() {
         println!("{misreading:?}: caught by {failures} of {SEEDS} runs");
         assert!(failures > 0);
     }
+    assert_eq!(reopening_failures(Misreading::None), 0);
+    for misreading in Misreading::OF_F7 {
+        let failures = reopening_failures(misreading);
+        println!("{misreading:?}: caught by {failures} of {REOPENING_SEEDS} runs");
+        assert!(failures > 0);
+    }
 }
 
 /// So the comparison of bytes has to find it: compare/tests/comparison.rs.
@@ -94,5 +133,8 @@ fn on_the_same_seeds_only_the_rules_pass() {
 fn those_in_bytes_alone_pass_too() {
     for passes in Misreading::IN_BYTES {
         assert_eq!(failures(passes), 0, "{passes:?}");
+    }
+    for passes in Misreading::OF_F7_IN_BYTES {
+        assert_eq!(reopening_failures(passes), 0, "{passes:?}");
     }
 }

@@ -6,10 +6,10 @@
 
 use compare::calls::{Calls, Fast, Library, Model};
 use compare::comparison::Buffers;
-use compare::forge::{clear_route, full_mail, set_item, well_formed, Routes};
+use compare::forge::{clear_route, full_mail, reopenable, set_item, well_formed, Routes};
 use compare::numbers::{
-    kind, DELIVER_TO_ITEM, DELIVER_TO_SESSION, GROWING, RELEASE, REQUEST, SHRINKING, TO_ITEM,
-    TO_SESSION, WAITING,
+    kind, DELIVER_TO_ITEM, DELIVER_TO_SESSION, GROWING, RELEASE, REQUEST, ROLLED_BACK, SHRINKING,
+    TO_ITEM, TO_SESSION, WAITING,
 };
 use model::layout::{
     route_at, AWAITED, HELD, HOLDER, JUNIORS, MAX_TEXT, QUEUE, QUEUE_LENGTH, ROUTE_ITEM, STAGE,
@@ -46,6 +46,7 @@ enum Call {
     Report(u64),
     /// The text is written over the bytes of the mail, which the call does not get.
     CycleText(u64),
+    Reopen(u64),
 }
 
 struct Row {
@@ -266,6 +267,38 @@ fn text_rows(config: Config) -> Vec<Row> {
     ]
 }
 
+/// Two sessions and two items.
+const SMALL: Config = Config {
+    sessions: 2,
+    items: 2,
+    capacity: 16,
+};
+
+/// Reopenings of the last session in buffers drawn at random, which do not name it.
+/// With a full mail also one that is refused: the last message is a probe of which
+/// the session is the junior.
+fn reopen_rows(config: Config, count: u64) -> Vec<Row> {
+    let session = config.sessions as u8;
+    let row = |name, stage| Row {
+        name,
+        call: Call::Reopen(session.into()),
+        buffers: reopenable(&mut Random::new(7), config, count, session, stage),
+        floor_target: None,
+    };
+    let mut rows = vec![
+        row("reopen, shrinking", SHRINKING),
+        row("reopen, rolled back", ROLLED_BACK),
+    ];
+    if count == config.capacity {
+        let mut late = row("reopen, named by the last message", SHRINKING);
+        let last = count as usize - 1;
+        let probe = [kind::PROBE, 1, session];
+        late.buffers.set_message(last, [TO_ITEM, 1, 1], probe);
+        rows.push(late);
+    }
+    rows
+}
+
 fn rows(config: Config, count: u64) -> Vec<Row> {
     let n = config.sessions;
     let full = count == config.capacity;
@@ -331,6 +364,10 @@ fn refusal(subject: &dyn Calls, call: Call, buffers: &mut Buffers) -> u8 {
             let written = subject.cycle_text(black_box(session), table, text);
             black_box(written).refusal
         }
+        Call::Reopen(session) => {
+            let Buffers { table, mail } = buffers;
+            black_box(subject.reopen(black_box(session), table, mail))
+        }
     }
 }
 
@@ -354,7 +391,7 @@ fn sum(bytes: &[u8]) -> u8 {
 fn floor(call: Call, buffers: &Buffers) -> u8 {
     let table = sum(black_box(&buffers.table));
     match call {
-        Call::Step(..) => table ^ sum(black_box(&buffers.mail)),
+        Call::Step(..) | Call::Reopen(_) => table ^ sum(black_box(&buffers.mail)),
         Call::Report(_) | Call::CycleText(_) => table,
     }
 }
@@ -369,7 +406,7 @@ struct Libraries {
 }
 
 /// Nanoseconds of one call by library, model, floor, fast and an earlier library,
-/// if it has the call and takes the ranks.
+/// if it has the call.
 fn measure_call(row: &Row, libraries: &Libraries) -> Vec<f64> {
     fn by<'a>(subject: &'a dyn Calls, call: Call) -> Subject<'a> {
         Box::new(move |copy| {
@@ -385,15 +422,11 @@ fn measure_call(row: &Row, libraries: &Libraries) -> Vec<f64> {
         }),
         by(&Fast, call),
     ];
-    let plain = Ranks::is_plain(row.buffers.ranks());
-    let answers = |before: &&Library| {
-        let has_call = match call {
-            Call::CycleText(_) => before.has_cycle_text(),
-            Call::Step(..) | Call::Report(_) => true,
-        };
-        has_call && (plain || before.takes_ranks())
+    let has_call = |before: &&Library| match call {
+        Call::Reopen(_) => before.has_reopen(),
+        Call::Step(..) | Call::Report(_) | Call::CycleText(_) => true,
     };
-    let before = libraries.before.as_ref().filter(answers);
+    let before = libraries.before.as_ref().filter(has_call);
     subjects.extend(before.map(|before| by(before, call)));
     measure(&row.buffers, TURNS, &subjects)
 }
@@ -627,10 +660,12 @@ fn bench(libraries: &Libraries) {
     println!("Other direction: all are of the session and the item, in the other direction.");
     println!("A cycle text is asked for in a full table, or in a cycle of all sessions; on no");
     println!("cycle it is refused with 10.");
-    println!("Session k has rank k, but where any ranks are named: these are drawn at random.");
+    println!("Where a session is reopened all else is drawn at random. Nothing names it but, in");
+    println!("one row, the last message: then it is refused with 15.");
+    println!("Elsewhere session k has rank k, but where any ranks are named: these are drawn");
+    println!("at random.");
     if libraries.before.is_some() {
-        println!("before: an earlier library; one that knows no ranks gets the table without");
-        println!("them, and rows with plain ranks alone.");
+        println!("before: an earlier library; it has no time where it lacks the call.");
     }
 
     let mut missed = 0;
@@ -651,6 +686,12 @@ fn bench(libraries: &Libraries) {
     print(1, long_queue_rows(), libraries, &mut missed);
     header(LARGEST, libraries);
     print(LARGEST.capacity, search_rows(), libraries, &mut missed);
+    for (config, count) in [(SMALL, 0), (LARGEST, 0), (LARGEST, LARGEST.capacity)] {
+        if config == SMALL {
+            header(SMALL, libraries);
+        }
+        print(count, reopen_rows(config, count), libraries, &mut missed);
+    }
     print_drains(libraries, &mut missed);
     println!("\n{missed} targets missed.");
 }

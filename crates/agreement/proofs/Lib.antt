@@ -4,6 +4,7 @@ pub mod ReadingSession
 pub mod SessionAgrees
 pub mod MailboxAgrees
 pub mod MoveAgrees
+pub mod ReopenAgrees
 pub mod EventAgrees
 pub mod WaitsAgree
 pub mod RulesLaws

@@ -9,7 +9,7 @@ use lib.ListN.{length}
 use Rattle.lists.proofs.Searches.{sum-changed}
 use Rattle.lists.proofs.Tests.{eqb-self}
 use Rattle.deadlock.specs.Lists.{bit, updated}
-use Rattle.deadlock.specs.Machine.{afterItem, afterSession, clean, deliverToItem, deliverToSession, Entry, itemReceives, itemTakes, Laws, Message, move, noEntry, ofMachine, releaseCall, requestCall, route, Rules, Session, sessionReceives, sessionTakes, State, take, Taken, taken, waitsFor}
+use Rattle.deadlock.specs.Machine.{afterItem, afterSession, clean, deliverToItem, deliverToSession, Entry, itemReceives, itemTakes, Laws, Message, move, noEntry, ofMachine, releaseCall, reopen, requestCall, route, Rules, Session, sessionReceives, sessionTakes, State, take, Taken, taken, waitsFor}
 use Rattle.deadlock.specs.Counts.{cleansOf}
 use Rattle.deadlock.specs.Invariant.{Invariant, upRoute}
 use Rattle.deadlock.proofs.Laws.Lists.{updated-other, updated-same}
@@ -102,6 +102,7 @@ falls : (R : Rules) → Laws R → Falls R
 unfolding move ofMachine delivers
 falls R L s k (requestCall t x) e h = absurd (false≢true h)
 falls R L s k (releaseCall t x) e h = absurd (false≢true h)
+falls R L s k (reopen t) e h = absurd (false≢true h)
 falls R L s k (deliverToItem t x) e h =
     item-delivery R L s k t x (item-low R t x e) (item-high R t x e) (take true t x (s .mailbox)) refl h (invariant-move R L s k (deliverToItem t x) e)
 falls R L s k (deliverToSession t x) e h =

@@ -11,17 +11,19 @@ use Rattle.mailbox.specs.Layout as Mail
 use Rattle.waits.specs.Waits
 use Rattle.waits.specs.OnTable.{waitsFor, cycleLength}
 use Rattle.step.specs.Step.{Stepped}
+use Rattle.reopen.specs.Reopening.{Reopened}
 use Rattle.deadlock.specs.Machine
 use Rattle.deadlock.specs.Statement as MachineStatement
 use Rattle.deadlock.proofs.Theorem as MachineTheorem
 use Rattle.lockmgr.specs.Calls.{Config}
 use Rattle.lockmgr.specs.Run.{Step, Buffers, buffers, Done, doneOn, leftBy, done, left}
-use Rattle.lockmgr.specs.History.{Call, stepsOf, steps}
+use Rattle.lockmgr.specs.History.{Call, step, report, drain, reopen, stepsOf, leaves, steps}
 use Rattle.clause.specs.Statement.{TrueDeclaration, DeclarationsTrue}
 use Rattle.clause.proofs.State.{machineOf, machine-laws, stateOf, Good}
 use Rattle.clause.proofs.Cycles.{reached-of, on-cycle-of}
 use Rattle.clause.proofs.Moves.{Moved}
 use Rattle.clause.proofs.Step.{by-step}
+use Rattle.clause.proofs.Reopening.{by-reopen}
 use Rattle.clause.proofs.Follow.{anything, ran, step-is}
 
 -- what is guaranteed of the machine with the lock manager's seniority and next holder
@@ -93,6 +95,12 @@ module _ (conf : Config) where
   true-steps more then (c ∷ steps) table l g = true-step (λ b. done b steps ++ more (left b steps)) (true-steps more then steps) c table l g
 
   pub declarations : (calls : List Call) (table : List ℕ) (l : List Entry) → Good conf table l → TrueFrom (λ b. steps b calls) table l
-  unfolding steps
+  unfolding steps leaves stepsOf done
   declarations [] table l g = λ _ _. tt
-  declarations (c ∷ calls) table l g = true-steps (λ b. steps b calls) (declarations calls) (stepsOf (buffers table (Mail.mailBytes (conf .capacity) l)) c) table l g
+  declarations (step verb t x ∷ calls) table l g = true-steps (λ b. steps b calls) (declarations calls) (stepsOf (buffers table (Mail.mailBytes (conf .capacity) l)) (step verb t x)) table l g
+  declarations (report t ∷ calls) table l g = declarations calls table l g
+  declarations (drain limit ∷ calls) table l g = true-steps (λ b. steps b calls) (declarations calls) (stepsOf (buffers table (Mail.mailBytes (conf .capacity) l)) (drain limit)) table l g
+  declarations (reopen t ∷ calls) table l g = λ cs e.
+      by-reopen conf table l g t (λ (r : Reopened). DeclarationsTrue (steps (buffers (r .table) (Mail.mailBytes (conf .capacity) l)) calls))
+      (λ _. declarations calls table l g cs e)
+      (λ m. rw (m .moved .mail) (declarations calls _ (m .moved .entries) (m .moved .good) (cs ++ (m .moved .call ∷ [])) (run-on table l _ (m .moved) cs e)))

@@ -21,7 +21,7 @@ use Rattle.lockmgr.specs.Run as Run
 use Rattle.lockmgr.specs.Run.{Buffers, buffers, doneOn, leftBy, done, left}
 use Rattle.lockmgr.specs.Drain.{oldest, limited, ending, deliveries, drainRefusal, drainSteps, drain}
 use Rattle.lockmgr.specs.History
-use Rattle.lockmgr.specs.History.{stepsOf, after, steps}
+use Rattle.lockmgr.specs.History.{stepsOf, leaves, after, steps}
 use Rattle.lockmgr.proofs.Judging.{formed-zero, buffers-zero, start-zero}
 use Rattle.lockmgr.proofs.Form.{step-keeps-form}
 use Rattle.lockmgr.proofs.Draining.{next-accepted}
@@ -60,11 +60,11 @@ all-accepted (suc n) b f =
 
 -- the steps of a single call
 one-call : (limit : ℕ) (b : Buffers) → steps b (History.drain limit ∷ []) ≡ done b (drainSteps limit b)
-unfolding steps stepsOf
+unfolding steps leaves stepsOf
 one-call limit b = append-nil (done b (drainSteps limit b))
 
 pub drain-is-steps : DrainIsSteps
-unfolding drain drainSteps done all after stepsOf
+unfolding drain drainSteps done all after leaves stepsOf
 drain-is-steps limit b = record {
   made = refl;
   left = rw (steps-left b (drainSteps limit b)) refl;

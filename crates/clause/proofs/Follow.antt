@@ -7,6 +7,7 @@ use native.Mathlib.Omega.{arith}
 use lib.Dec.{eqb}
 use Rattle.lists.specs.Lists.{between}
 use Rattle.session.specs.Stage
+use Rattle.session.specs.Record as SessionRecord
 use Rattle.mailbox.specs.Entry.{Entry}
 use Rattle.mailbox.specs.Layout as Mail
 use Rattle.table.specs.Layout as Table
@@ -15,12 +16,15 @@ use Rattle.lockmgr.specs.Calls.{Config}
 use Rattle.step.specs.Step.{Stepped, stepped, refusedAnswer}
 use Rattle.lockmgr.specs.Run as Run
 use Rattle.lockmgr.specs.Run.{Buffers, buffers, Done, doneOn, leftBy, done, left, rollsBack, one}
-use Rattle.lockmgr.specs.History.{Call, stepsOf, after, steps}
+use Rattle.lockmgr.specs.History.{Call, step, report, drain, reopen, stepsOf, leaves, after, steps}
+use Rattle.reopen.specs.Reopening.{Reopened}
+use Rattle.deadlock.specs.Lists.{bit}
 use Rattle.deadlock.specs.Machine
 use Rattle.clause.specs.Statement.{closed, rolledBack}
 use Rattle.clause.proofs.State.{machineOf, stateOf, Good}
 use Rattle.clause.proofs.Moves.{Moved, StepMoved, one-is-bit, never-both}
 use Rattle.clause.proofs.Step.{by-step}
+use Rattle.clause.proofs.Reopening.{by-reopen}
 
 -- the policy that refuses nothing: a refused step is no call of the machine
 abbrev pub anything : Machine.State → Machine.Call → Bool
@@ -59,6 +63,22 @@ pub none-followed : (conf : Config) (table : List ℕ) (l : List Entry) → Good
 unfolding closed rolledBack Machine.run Machine.countClosed Machine.countRolledBack
 none-followed conf table l g = record { run = []; entries = l; mail = refl; good = g; state = refl; closes = refl; rolls = refl }
 
+-- a move, and what is done behind it
+moved-on : (conf : Config) (table : List ℕ) (l : List Entry) (b : Buffers) (m : Moved conf table l b) (end : Buffers) (steps : List Done) (k j : ℕ)
+    → k ≡ bit (m .event .closed) → j ≡ bit (m .event .rolledBack)
+    → Followed conf (stateOf conf (b .table) (m .entries)) end steps 0 0 → Followed conf (stateOf conf table l) end steps k j
+unfolding Machine.countClosed Machine.countRolledBack
+moved-on conf table l b m end steps k j closes rolls h =
+    let at = run-more conf (stateOf conf table l) (m .call) (h .run) _ (step-is conf table l b m) in record {
+      run = m .call ∷ h .run;
+      entries = h .entries;
+      mail = h .mail;
+      good = h .good;
+      state = rw (at) (h .state);
+      closes = rw (at) (omega (arith, closes, h .closes));
+      rolls = rw (at) (omega (arith, rolls, h .rolls));
+    }
+
 -- what is done behind a step: what it leaves in the end, and its single steps
 module _ (conf : Config) (end : Buffers → Buffers) (more : Buffers → List Done) where
   -- it is followed from a table and entries
@@ -89,19 +109,10 @@ module _ (conf : Config) (end : Buffers → Buffers) (more : Buffers → List Do
     }
 
     moved-after : (r : Stepped) (m : StepMoved conf table l verb t r) → FollowedFrom (r .table) (m .moved .entries) → After r
-    unfolding Machine.countClosed Machine.countRolledBack
-    moved-after r m f =
+    moved-after r m h =
         let b = buffers (r .table) (r .mail) in
-        let h : Followed conf (stateOf conf (r .table) (m .moved .entries)) (end b) (more b) 0 0 = rw (m .moved .mail) f in
-        let at = run-more conf (stateOf conf table l) (m .moved .call) (h .run) _ (step-is conf table l b (m .moved)) in record {
-          run = m .moved .call ∷ h .run;
-          entries = h .entries;
-          mail = h .mail;
-          good = h .good;
-          state = rw (at) (h .state);
-          closes = rw (at) (omega (arith, m .closes, h .closes));
-          rolls = rw (at, m .delivered, m .rolls, one-is-bit (m .moved .event .rolledBack)) (omega (arith, h .rolls));
-        }
+        moved-on conf table l b (m .moved) (end b) (more b) (r .answer .closed) (one (delivery && rollsBack t table (r .table))) (m .closes)
+        (rw (m .delivered, m .rolls) (one-is-bit (m .moved .event .rolledBack))) (rw (m .moved .mail) h)
 
   -- a step, if what is done behind it is followed from wherever it leads
   follow-step : ((table : List ℕ) (l : List Entry) → Good conf table l → FollowedFrom table l)
@@ -128,7 +139,15 @@ follow-steps conf end more then (c ∷ steps) table l g =
 -- a list of calls
 pub follow : (conf : Config) (calls : List Call) (table : List ℕ) (l : List Entry) → Good conf table l
     → FollowedFrom conf (λ b. after b calls) (λ b. steps b calls) table l
-unfolding after steps
+unfolding after steps leaves stepsOf done
 follow conf [] table l g = none-followed conf table l g
-follow conf (c ∷ calls) table l g =
-    follow-steps conf (λ b. after b calls) (λ b. steps b calls) (follow conf calls) (stepsOf (buffers table (Mail.mailBytes (conf .capacity) l)) c) table l g
+follow conf (step verb t x ∷ calls) table l g = follow-steps conf (λ b. after b calls) (λ b. steps b calls) (follow conf calls) (stepsOf (buffers table (Mail.mailBytes (conf .capacity) l)) (step verb t x)) table l g
+follow conf (report t ∷ calls) table l g = follow conf calls table l g
+follow conf (drain limit ∷ calls) table l g = follow-steps conf (λ b. after b calls) (λ b. steps b calls) (follow conf calls) (stepsOf (buffers table (Mail.mailBytes (conf .capacity) l)) (drain limit)) table l g
+follow conf (reopen t ∷ calls) table l g =
+    let mail = Mail.mailBytes (conf .capacity) l in
+    by-reopen conf table l g t (λ (r : Reopened). let b = buffers (r .table) mail in Followed conf (stateOf conf table l) (after b calls) (steps b calls) 0 0)
+    (λ _. follow conf calls table l g)
+    (λ m. let b = buffers (Table.withSession table t SessionRecord.fresh) mail in
+    moved-on conf table l b (m .moved) (after b calls) (steps b calls) 0 0 (rw (m .nothing) refl) (rw (m .nothing) refl)
+    (rw (m .moved .mail) (follow conf calls _ (m .moved .entries) (m .moved .good))))

@@ -2,6 +2,7 @@ pub mod State
 pub mod Cycles
 pub mod Moves
 pub mod Step
+pub mod Reopening
 pub mod Follow
 pub mod Declarations
 pub mod Theorem

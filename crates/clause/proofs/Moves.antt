@@ -103,6 +103,10 @@ module _ (conf : Config) (table : List ℕ) (l : List Entry) (g : Good conf tabl
         happens = ap (Machine.eventOf (machineOf conf) before call) state ∙ happens (Table.session table-after) put (kept (Table.session table-after) put);
       }
 
+      pub session-call : session-moved .call ≡ call
+      unfolding session-moved
+      session-call = refl
+
       -- by a step with this verb
       pub session-stepped : (verb : ℕ)
           → between Step.deliverToItem Step.deliverToSession verb && eqb (r .session .stage) Stage.rolledBack ≡ eqb (r .session .stage) Stage.rolledBack

@@ -17,7 +17,7 @@ use Rattle.lockmgr.specs.Calls.{Config}
 use Rattle.lockmgr.proofs.Judging.{start-zero}
 use Rattle.lockmgr.specs.Run as Run
 use Rattle.lockmgr.specs.Run.{Buffers, buffers, Done, doneOn, leftBy, done, left, tallied, rollsBack}
-use Rattle.lockmgr.specs.History.{stepsOf, after, steps}
+use Rattle.lockmgr.specs.History.{stepsOf, leaves, after, steps}
 use Rattle.clause.specs.Statement.{opened, closed, rollback, rolledBack}
 use Rattle.clause.specs.Drains.{callOf}
 use Rattle.clause.proofs.State.{Good}
@@ -69,12 +69,12 @@ replay conf (c ∷ l) table mail k g e y =
 
 -- a list of steps, as calls
 pub steps-left : (b : Buffers) (l : List Run.Step) → after b (map callOf l) ≡ left b l
-unfolding after stepsOf left
+unfolding after leaves stepsOf left
 steps-left b [] = refl
 steps-left b (c ∷ l) = steps-left (leftBy (doneOn b c)) l
 
 pub steps-done : (b : Buffers) (l : List Run.Step) → steps b (map callOf l) ≡ done b l
-unfolding steps stepsOf left done
+unfolding steps leaves stepsOf left done
 steps-done b [] = refl
 steps-done b (c ∷ l) = ap (λ (k : List Done). doneOn b c ∷ k) (steps-done (leftBy (doneOn b c)) l)
 

@@ -39,7 +39,7 @@ use Rattle.clause.proofs.State.{seniorOf, nextOf, machineOf, Good}
 use Rattle.clause.proofs.Moves.{StepMoved, session-stepped, item-stepped}
 
 -- nothing happens, for no test and another is passed
-quiet : (b : Bool) → Machine.nothing ≡ record { closed = false; declared = none; rolledBack = b && false }
+pub quiet : (b : Bool) → Machine.nothing ≡ record { closed = false; declared = none; rolledBack = b && false }
 quiet true = refl
 quiet false = refl
 

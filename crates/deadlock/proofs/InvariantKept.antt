@@ -9,7 +9,7 @@ use lib.Dec.{eqb}
 use Rattle.lists.specs.Lists.{member}
 use Rattle.lists.proofs.Tests.{and-both, by-test}
 use Rattle.deadlock.specs.Lists.{occurs, without}
-use Rattle.deadlock.specs.Machine.{abort, accepted, afterAnswer, afterItem, afterSession, Answer, Call, clean, deliverToItem, deliverToSession, down, grantOrQueue, handOver, heldBy, itemDrops, itemReceives, ItemStep, itemTakes, Laws, Message, move, noEntry, ofMachine, onRelease, onRequest, probe, rebroadcast, refused, release, releaseCall, request, requestCall, route, Rules, run, sessionReceives, sessionTakes, start, State, step, Stepped, take, Taken, taken, up, withdraw}
+use Rattle.deadlock.specs.Machine.{abort, accepted, afterAnswer, afterItem, afterSession, Answer, Call, clean, deliverToItem, deliverToSession, down, grantOrQueue, handOver, heldBy, itemDrops, itemReceives, ItemStep, itemTakes, Laws, Message, move, noEntry, ofMachine, onRelease, onRequest, probe, rebroadcast, refused, release, releaseCall, reopen, request, requestCall, route, Rules, run, sessionReceives, sessionTakes, start, State, step, Stepped, take, Taken, taken, up, withdraw}
 use Rattle.message.specs.Kind
 use Rattle.deadlock.specs.Counts.{countKind, kindOf, probeOf}
 use Rattle.deadlock.proofs.Laws.Counts.{down-kinds}
@@ -24,6 +24,7 @@ use Rattle.deadlock.proofs.Core.Kept.{core-move, core-start, delivered,
 use Rattle.deadlock.proofs.Coverage.KeptAtItem.{clean-coverage, drop-coverage, empty-coverage, hand-over-coverage, probe-coverage, queued-coverage, rebroadcast-coverage, withdraw-coverage}
 use Rattle.deadlock.proofs.Coverage.KeptAtSession.{RangeIn, session-covered}
 use Rattle.deadlock.proofs.Coverage.KeptByCalls.{CallCovered, release-call-covered, request-call-covered}
+use Rattle.deadlock.proofs.Reopening.{reopen-call-covered}
 use Rattle.deadlock.proofs.Coverage.DeclaredStays.{granted-declared, probe-declares, queued-declared, released-declared, unchanged-declared, withdraw-declared}
 
 module _ (R : Rules) (L : Laws R) (s : State) (k : Invariant R s) where
@@ -101,6 +102,7 @@ module _ (R : Rules) (L : Laws R) (s : State) (k : Invariant R s) where
   coverage-after-move (releaseCall t x) e = coverage-after-call t _ (release-call-covered L (known-of R L s (k .core)) (k .core .probes) (k .coverage) range-of t _ x (s .session t .stage) refl)
   coverage-after-move (deliverToItem t x) e = coverage-after-item t x (item-low R t x e) (item-high R t x e) (take true t x (s .mailbox)) refl
   coverage-after-move (deliverToSession t x) e = coverage-after-session t x (item-low R t x e) (item-high R t x e) (take false t x (s .mailbox)) refl
+  coverage-after-move (reopen t) e = coverage-after-call t _ (reopen-call-covered L s (known-of R L s (k .core)) (k .core .probes) (k .coverage) range-of t _)
 
   pub invariant-move : (c : Call) → ofMachine R c ≡ true → Invariant R (move R s c)
   invariant-move c e = record {

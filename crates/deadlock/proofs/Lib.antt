@@ -5,6 +5,7 @@ pub mod StateWaits
 pub mod Probes
 pub mod Core
 pub mod Coverage
+pub mod Reopening
 pub mod InvariantKept
 pub mod Count
 pub mod Settled

@@ -2,5 +2,6 @@
 pub mod NeutralMessages
 pub mod KeptAtItem
 pub mod KeptAtSession
+pub mod Unnamed
 pub mod Kept
 pub mod EachItemKept

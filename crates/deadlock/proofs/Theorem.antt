@@ -10,7 +10,7 @@ use lib.Dec.{eqb}
 use Rattle.lists.specs.Lists.{member}
 use Rattle.lists.proofs.Tests.{and-both, by-test}
 use Rattle.item.specs.declared.Event.{Event as ItemEvent}
-use Rattle.deadlock.specs.Machine.{abort, afterItem, Call, clean, Declaration, declares, deliverToItem, deliverToSession, down, Entry, eventOf, grantOrQueue, handOver, heldBy, inQueue, itemEvent, itemReceives, ItemStep, itemTakes, Laws, Message, move, noEntry, ofMachine, onRelease, onRequest, probe, reached, rebroadcast, release, releaseCall, request, requestCall, Rules, run, sessionEvent, start, State, step, Stepped, take, Taken, taken, takenEvent, up, withdraw}
+use Rattle.deadlock.specs.Machine.{abort, afterItem, Call, clean, Declaration, declares, deliverToItem, deliverToSession, down, Entry, eventOf, grantOrQueue, handOver, heldBy, inQueue, itemEvent, itemReceives, ItemStep, itemTakes, Laws, Message, move, noEntry, ofMachine, onRelease, onRequest, probe, reached, rebroadcast, release, releaseCall, reopen, request, requestCall, Rules, run, sessionEvent, start, State, step, Stepped, take, Taken, taken, takenEvent, up, withdraw}
 use Rattle.deadlock.specs.Walks.{FirstApart, Walk}
 use Rattle.deadlock.specs.World.{Edge}
 use Rattle.deadlock.specs.Invariant.{Invariant, worldOf}
@@ -121,6 +121,7 @@ module _ (R : Rules) (L : Laws R) where
     move-true (releaseCall t x) e kr = none-declared _
     move-true (deliverToItem t x) e kr = taken-true t x (item-low R t x e) (item-high R t x e) (take true t x (s .mailbox)) refl kr
     move-true (deliverToSession t x) e kr = none-declared _
+    move-true (reopen t) e kr = none-declared _
 
     step-true : (admits : State → Call → Bool) (c : Call) → True (step R admits s c .state) (step R admits s c .event .declared)
     unfolding step

@@ -5,7 +5,7 @@ use mathlib.Core.List.{[], _++_, _∷_, List, map}
 use mathlib.Core.Option.{none, Option, some}
 use Prim.Native.Nat.{_+_, ℕ}
 use lib.Dec.{eqb, leb}
-use Rattle.lists.specs.Lists.{member, filter}
+use Rattle.lists.specs.Lists.{all, every, member, filter}
 use Rattle.deadlock.specs.Lists.{bit, oneTo, updated, without}
 use Rattle.item.specs.Record.{lock}
 use Rattle.item.specs.declared.Event.{Event as ItemEvent}
@@ -59,6 +59,10 @@ pub record Session : Type 0 where
   pub stage : Stage
   pub held : ℕ → Bool
   pub stored : ℕ → ℕ
+
+-- a session that grows, holds nothing and stores no probe
+abbrev pub fresh : Session
+fresh = record { stage = growing; held = λ (_ : ℕ). false; stored = λ (_ : ℕ). 0 }
 
 pub record Item : Type 0 where
   pub holder : Option ℕ
@@ -139,6 +143,17 @@ isLive growing = true
 isLive (waiting y) = true
 isLive (victim p y) = false
 isLive (releasing p) = false
+
+-- the stages in which a session requests no more
+abbrev pub isOver : Stage → Bool
+isOver growing = false
+isOver (waiting y) = false
+isOver (victim p y) = false
+isOver (releasing p) = true
+
+-- session t holds the item or stands in its queue
+unfoldable pub itemNames : ℕ → Item → Bool
+itemNames t i = heldBy (i .holder) t || member t (i .queue)
 
 module _ (R : Rules) where
   -- ---- what an item does on a message of session t
@@ -314,6 +329,17 @@ module _ (R : Rules) where
   onReleaseCall x r (releasing shrinking) = releaseHeld x r
   onReleaseCall x r (releasing rolledBack) = refused
 
+  -- ---- when a session may be reopened
+  -- it requests no more, no message is on its way to it or from it, and no item names it; a policy may ask for more
+  unfoldable pub mayReopen : State → ℕ → Bool
+  mayReopen s t =
+      isOver (s .session t .stage)
+      && (all (λ (e : Entry). not (eqb t (e .session))) (s .mailbox) && every (R .M) (λ (x : ℕ). not (itemNames t (s .item x))))
+
+  -- it begins anew
+  unfoldable pub onReopenCall : State → ℕ → Answer
+  onReopenCall s t = cond (mayReopen s t) (accepted (record { after = fresh; sends = [] })) refused
+
 -- ---- the mailbox
 unfoldable pub isOnRoute : Bool → ℕ → ℕ → Entry → Bool
 isOnRoute d t x e = Bool·beq d (e .toItem) && (eqb t (e .session) && eqb x (e .item))
@@ -345,9 +371,10 @@ fromItem x [] = []
 fromItem x (p ∷ l) = record { toItem = false; session = p .0; item = x; message = p .1 } ∷ fromItem x l
 
 -- ---- the step
--- session, item: a request, a release, delivery of the earliest message to the item or to the session
+-- session, item: a request, a release, delivery of the earliest message to the item or to the session; session: it is reopened
 pub data Call : Type 0 where
   requestCall releaseCall deliverToItem deliverToSession : ℕ → ℕ → Call
+  reopen : ℕ → Call
 
 unfoldable pub afterSession : State → ℕ → List Entry → SessionStep → State
 afterSession s t m o = record { session = updated (s .session) t (o .after); item = s .item; mailbox = m ++ fromSession t (o .sends) }
@@ -374,21 +401,26 @@ module _ (R : Rules) where
   move s (releaseCall t x) = afterAnswer s t (onReleaseCall R x (s .session t) (s .session t .stage))
   move s (deliverToItem t x) = itemTakes s t x (take true t x (s .mailbox))
   move s (deliverToSession t x) = sessionTakes s t x (take false t x (s .mailbox))
+  move s (reopen t) = afterAnswer s t (onReopenCall R s t)
 
-  -- a session and an item of the machine
+  -- a session of the machine, and a session and an item
+  abbrev pub isSession : ℕ → Bool
+  isSession t = leb 1 t && leb t (R .S)
+
   unfoldable pub inRange : ℕ → ℕ → Bool
-  inRange t x = (leb 1 t && leb t (R .S)) && (leb 1 x && leb x (R .M))
+  inRange t x = isSession t && (leb 1 x && leb x (R .M))
 
   unfoldable pub ofMachine : Call → Bool
   ofMachine (requestCall t x) = inRange t x
   ofMachine (releaseCall t x) = inRange t x
   ofMachine (deliverToItem t x) = inRange t x
   ofMachine (deliverToSession t x) = inRange t x
+  ofMachine (reopen t) = isSession t
 
   -- every session grows and holds nothing, every item is free, the mailbox is empty
   unfoldable pub start : State
   start = record {
-    session = λ (_ : ℕ). record { stage = growing; held = λ (_ : ℕ). false; stored = λ (_ : ℕ). 0 };
+    session = λ (_ : ℕ). fresh;
     item = λ (_ : ℕ). record { holder = none; queue = [] };
     mailbox = [];
   }
@@ -448,6 +480,7 @@ module _ (R : Rules) where
   eventOf s (releaseCall t x) after = nothing
   eventOf s (deliverToItem t x) after = takenEvent t (s .item x) after (take true t x (s .mailbox))
   eventOf s (deliverToSession t x) after = sessionEvent (s .session t .stage) (after .session t .stage)
+  eventOf s (reopen t) after = nothing
 
 -- the state after a call, and what happened
 pub record Stepped : Type 0 where

@@ -19,8 +19,10 @@ use Rattle.refusal.specs.Refusal.{Cause, cause, first}
 use Rattle.step.specs.Step.{acted, stepped, refusedAnswer, Formed}
 use Rattle.step.specs.Parts.{Judged}
 use Rattle.refusal.proofs.Causes.{first-stops, first-goes-on, unmet-not}
+use Rattle.reopen.specs.Reopening as Reopening
+use Rattle.reopen.specs.Reopening.{mayReopen, reopenCauses, reopened}
 use Rattle.cycletext.specs.OnTable.{text, textCauses, textAnswer, described, unlessRefused}
-use Rattle.lockmgr.specs.Calls.{Config, bufferCauses, judged, sizesFit, startRefusal, step, reportCauses, reportRefusal, cycleText}
+use Rattle.lockmgr.specs.Calls.{Config, bufferCauses, judged, sizesFit, startRefusal, step, reportCauses, reportRefusal, sessionCauses, reopenRefusal, reopen, cycleText}
 
 -- a step by what judging answers
 module _ (verb t x : ℕ) (table mail : List ℕ) where
@@ -229,3 +231,35 @@ module _ (t : ℕ) (table : List ℕ) where
     pub text-judged : reportRefusal t table ≡ 0 → cycleText t table buffer ≡ unlessRefused (first (textCauses t table buffer)) (text table t) buffer
     unfolding reportRefusal cycleText all
     text-judged e = rw (first-goes-on (reportCauses t table) (textCauses t table buffer) refl e) refl
+
+-- a reopening: the causes of the buffers, that of the number, and its own
+module _ (t : ℕ) (table mail : List ℕ) where
+  abbrev number : Bool
+  number = between 1 (Table.sessionsOf table) t
+
+  pub reopen-buffers : (first (bufferCauses table mail) ≡ 0 → ⊥) → reopen t table mail ≡ reopened (first (bufferCauses table mail)) table
+  unfolding reopen
+  reopen-buffers h = rw (first-stops (bufferCauses table mail) (sessionCauses t table mail) h, ne-eqb (first (bufferCauses table mail)) 0 h) refl
+
+  module _ (none : first (bufferCauses table mail) ≡ 0) where
+    reopen-later : reopen t table mail ≡ Reopening.unlessRefused (first (sessionCauses t table mail)) t table
+    unfolding reopen all
+    reopen-later = rw (first-goes-on (bufferCauses table mail) (sessionCauses t table mail) refl none) refl
+
+    pub reopen-number : (1 ≤ t → t ≤ Table.sessionsOf table → ⊥) → reopen t table mail ≡ reopened Refusal.badNumber table
+    unfolding first
+    reopen-number h = reopen-later ∙ rw (fails number (λ e. let p = within 1 (Table.sessionsOf table) t e in h (p .0) (p .1))) refl
+
+    pub reopen-judged : 1 ≤ t → t ≤ Table.sessionsOf table → reopen t table mail ≡ Reopening.unlessRefused (first (reopenCauses t table mail)) t table
+    unfolding first
+    reopen-judged low high = reopen-later ∙ rw (between-intro 1 (Table.sessionsOf table) t low high) refl
+
+  -- what one knows that is not refused
+  pub reopen-zero : reopenRefusal t table mail ≡ 0 → (number ≡ true) × (mayReopen t table mail ≡ true)
+  reopen-zero e =
+      let s = unmet-not (Table.sized table && Mail.sized mail) 1 _ e in
+      let f = unmet-not (Table.wellFormed table) 2 _ (s .1) in
+      let g = unmet-not (Mail.wellFormed (Table.sessionsOf table) (Table.itemsOf table) mail) 3 _ (f .1) in
+      let n = unmet-not number 4 _ (g .1) in
+      let m = unmet-not (mayReopen t table mail) 14 _ (n .1) in
+      (n .0, m .0)

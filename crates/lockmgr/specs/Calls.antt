@@ -14,6 +14,8 @@ use Rattle.waits.specs.OnTable.{cycleLength}
 use Rattle.refusal.specs.Refusal
 use Rattle.refusal.specs.Refusal.{Cause, cause, first}
 use Rattle.step.specs.Step.{Stepped, request, deliverToSession, unless, acted}
+use Rattle.reopen.specs.Reopening as Reopening
+use Rattle.reopen.specs.Reopening.{Reopened, reopenCauses}
 use Rattle.cycletext.specs.OnTable.{Described, text, textCauses, unlessRefused}
 use Rattle.lockmgr.specs.declared.Cycle.{Cycle}
 
@@ -95,6 +97,18 @@ report t table =
     cond (eqb (reportRefusal t table) 0)
     (record { refusal = 0; length = cycleLength table t })
     (record { refusal = reportRefusal t table; length = 0 })
+
+-- ---- reopen
+-- the causes behind those of the buffers: the session's number, then what names it
+abbrev pub sessionCauses : ℕ → List ℕ → List ℕ → List Cause
+sessionCauses t table mail = cause (not (between 1 (Table.sessionsOf table) t)) Refusal.badNumber ∷ reopenCauses t table mail
+
+abbrev pub reopenRefusal : ℕ → List ℕ → List ℕ → ℕ
+reopenRefusal t table mail = first (bufferCauses table mail ++ sessionCauses t table mail)
+
+-- it reads the mail and leaves it: RULES 4.12
+unfoldable pub reopen : ℕ → List ℕ → List ℕ → Reopened
+reopen t table mail = Reopening.unlessRefused (reopenRefusal t table mail) t table
 
 -- ---- cycle text
 -- the causes of a report, and those of the text: RULES 4.11

@@ -1,12 +1,13 @@
-// The lock manager (01: the desk): start, step, report, cycle text and drain on lent bytes, exported to C.
+// The lock manager (01: the desk): start, step, report, reopen, cycle text and drain on lent bytes, exported to C.
 use message::MAX_ITEMS;
 use message::MAX_SESSIONS;
 ghost use mathlib.Core.Path.{_≡_};
 ghost use Rattle.refusal.specs.Refusal.{first};
 ghost use Rattle.step.specs.Step.{stepped, Formed};
 ghost use Rattle.drain.specs.Parts.{pending, Spent};
+ghost use Rattle.reopen.specs.Reopening.{reopened};
 ghost use Rattle.cycletext.specs.OnTable.{described};
-ghost use Rattle.lockmgr.specs.Calls.{config, startRefusal, startResult, start, bufferCauses, judged, step, reportRefusal, report, cycleText};
+ghost use Rattle.lockmgr.specs.Calls.{config, startRefusal, startResult, start, bufferCauses, judged, step, reportRefusal, report, reopen, cycleText};
 ghost use Rattle.lockmgr.specs.Run.{buffers};
 ghost use Rattle.lockmgr.specs.Drain.{drainRefusal, drainAnswer, drainResult, drain};
 ghost use Rattle.lockmgr.specs.Parts.{turned, turnOf};
@@ -186,6 +187,24 @@ pub extern "C" fn lockmgr_report(session: u64, table: &[u8]) -> Cycle
         refusal: 0,
         length: waits::cycle_length(table, session as u8),
     }
+}
+
+// Reopens a session whose work is over and that nothing names: it begins anew. The mail is read, never written.
+#[no_mangle]
+pub extern "C" fn lockmgr_reopen(session: u64, table: &mut [u8], mail: &[u8]) -> u8
+    ensures { λ r. ⌜ reopened r (now (table .exit)) ≡ reopen session (now (table .entry)) (now (mail .entry)) ⌝ }
+{
+    let cause = buffers_refusal(table, mail);
+    if cause != 0 {
+        return cause;
+    }
+    if session < 1 {
+        return refusal::BAD_NUMBER;
+    }
+    if (table::sessions(table) as u64) < session {
+        return refusal::BAD_NUMBER;
+    }
+    reopen::reopen(session as u8, table, mail)
 }
 
 // The text of the cycle on which a session lies, a line for each member, at the start of a lent buffer.

@@ -59,6 +59,10 @@ nobody = 13
 abbrev pub badRanks : ℕ
 badRanks = 14
 
+-- RULES 8.15
+abbrev pub inUse : ℕ
+inUse = 15
+
 -- a cause that holds or not
 pub record Cause : Type 0 where
   pub holds : Bool

@@ -26,3 +26,5 @@ pub const BAD_LIST: u8 = 12;
 pub const NOBODY: u8 = 13;
 
 pub const BAD_RANKS: u8 = 14;
+
+pub const IN_USE: u8 = 15;

@@ -1,7 +1,7 @@
 //! What the tests of the calls share.
 
 use model::table::Table;
-use model::{drain, start, step, Answer, Config, Drained, Ranks, Refusal, Verb, ACCEPTED};
+use model::{drain, reopen, start, step, Answer, Config, Drained, Ranks, Refusal, Verb, ACCEPTED};
 
 pub const REQUEST: u64 = Verb::Request as u64;
 pub const RELEASE: u64 = Verb::Release as u64;
@@ -40,6 +40,10 @@ impl Desk {
         drain(limit, &mut self.table, &mut self.mail)
     }
 
+    pub fn reopen(&mut self, session: u64) -> u8 {
+        reopen(session, &mut self.table, &self.mail)
+    }
+
     /// A step that must be accepted, with so many messages sent.
     pub fn sends(&mut self, verb: u64, session: u64, item: u64, sent: u8) {
         let expected = Answer {
@@ -58,11 +62,12 @@ impl Desk {
         };
         assert_eq!(self.step(verb, session, item), expected);
         assert_eq!(*self, before);
-        self.judges_drains(refusal);
+        self.judges_buffers(refusal);
     }
 
-    /// A drain is refused for the same buffers as a step, and for nothing else.
-    fn judges_drains(&mut self, refusal: Refusal) {
+    /// A drain is refused for the same buffers as a step, and for nothing else. A
+    /// reopening is refused for them before it looks at the session.
+    fn judges_buffers(&mut self, refusal: Refusal) {
         match refusal {
             Refusal::BadVerb => {}
             Refusal::BadSize | Refusal::BadTable | Refusal::BadMail => {
@@ -71,12 +76,16 @@ impl Desk {
                     refusal: refusal as u8,
                     ..Drained::default()
                 };
-                for limit in [0, 1, u64::MAX] {
-                    assert_eq!(self.drain(limit), expected);
+                for number in [0, 1, u64::MAX] {
+                    assert_eq!(self.drain(number), expected);
+                    assert_eq!(self.reopen(number), refusal as u8);
                     assert_eq!(*self, before);
                 }
             }
-            _ => assert_eq!(self.clone().drain(1).refusal, ACCEPTED),
+            _ => {
+                assert_eq!(self.clone().drain(1).refusal, ACCEPTED);
+                assert_eq!(self.reopen(0), Refusal::BadNumber as u8);
+            }
         }
     }
 

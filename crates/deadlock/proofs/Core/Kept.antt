@@ -9,7 +9,7 @@ use native.Mathlib.Omega.{arith}
 use lib.Dec.{eqb}
 use Rattle.lists.proofs.Tests.{by-test}
 use Rattle.deadlock.specs.Lists.{occurs}
-use Rattle.deadlock.specs.Machine.{abort, accepted, afterAnswer, afterItem, afterSession, Answer, Call, clean, deliverToItem, deliverToSession, down, Entry, fromItem, fromSession, isOnRoute, itemDrops, itemReceives, ItemStep, itemTakes, Laws, Message, move, noEntry, ofMachine, probe, putBack, rebroadcast, refused, release, releaseCall, request, requestCall, route, Rules, Sends, sessionReceives, SessionStep, sessionTakes, start, State, take, Taken, taken, up, withdraw}
+use Rattle.deadlock.specs.Machine.{abort, accepted, afterAnswer, afterItem, afterSession, Answer, Call, clean, deliverToItem, deliverToSession, down, Entry, fromItem, fromSession, isOnRoute, itemDrops, itemReceives, ItemStep, itemTakes, Laws, Message, move, noEntry, ofMachine, probe, putBack, rebroadcast, refused, release, releaseCall, reopen, request, requestCall, route, Rules, Sends, sessionReceives, SessionStep, sessionTakes, start, State, take, Taken, taken, up, withdraw}
 use Rattle.message.specs.Kind
 use Rattle.deadlock.specs.Counts.{behind-nil, behindRequest, cleanOf, cleansOf, cleansSent, EachBehind, every-nil, kindOf, sentTo}
 use Rattle.deadlock.specs.World.{FreeIsEmpty, Known, Links, Mail, MailCounts, Probes, TellsUp, Victims, World}
@@ -27,6 +27,7 @@ use Rattle.deadlock.proofs.Victims.KeptByWithdraw.{withdraw-victims}
 use Rattle.deadlock.proofs.Core.KeptByRequestAndRelease.{release-item, request-item}
 use Rattle.deadlock.proofs.Probes.OthersStay.{SessionSends, SessionTakes}
 use Rattle.deadlock.proofs.Core.KeptAtSession.{CallDone, release-call, request-call, session-heard}
+use Rattle.deadlock.proofs.Reopening.{reopen-call}
 
 cleansIn-append : (v : ℕ) (l k : List Entry) → cleansIn v (l ++ k) ≡ cleansIn v l + cleansIn v k
 unfolding cleansIn
@@ -186,6 +187,7 @@ module _ (R : Rules) (L : Laws R) (s : State) (k : Core R s) where
   both-after-move (releaseCall t x) e = both-after-call t _ (release-call L known-of t _ x (s .session t .stage) refl)
   both-after-move (deliverToItem t x) e = both-after-item t x (item-low R t x e) (item-high R t x e) (take true t x (s .mailbox)) refl
   both-after-move (deliverToSession t x) e = both-after-session t x (item-low R t x e) (item-high R t x e) (take false t x (s .mailbox)) refl
+  both-after-move (reopen t) e = both-after-call t _ (reopen-call L s known-of t _)
 
   pub core-move : (c : Call) → ofMachine R c ≡ true → Core R (move R s c)
   core-move c e =

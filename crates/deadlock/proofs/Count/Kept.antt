@@ -7,14 +7,15 @@ use native.Mathlib.Omega.{arith}
 use lib.Dec.{eqb}
 use Rattle.lists.proofs.Tests.{and-both, by-test}
 use Rattle.deadlock.specs.Lists.{bit}
-use Rattle.deadlock.specs.Machine.{accepted, afterAnswer, afterItem, afterSession, Answer, Call, countClosed, countRolledBack, deliverToItem, deliverToSession, down, Entry, eventOf, isRolledBack, itemReceives, itemTakes, Laws, Message, move, noEntry, ofMachine, onCycle, refused, releaseCall, request, requestCall, Rules, run, sessionEvent, sessionReceives, SessionStep, sessionTakes, Stage, start, State, step, Stepped, take, Taken, taken, takenEvent, up, victim, withdrawing, withdrawn}
+use Rattle.deadlock.specs.Machine.{accepted, afterAnswer, afterItem, afterSession, Answer, Call, countClosed, countRolledBack, deliverToItem, deliverToSession, down, Entry, eventOf, isRolledBack, itemReceives, itemTakes, Laws, Message, move, noEntry, ofMachine, onCycle, refused, releaseCall, reopen, request, requestCall, Rules, run, sessionEvent, sessionReceives, SessionStep, sessionTakes, Stage, start, State, step, Stepped, take, Taken, taken, takenEvent, up, victim, withdrawing, withdrawn}
 use Rattle.message.specs.Kind
 use Rattle.deadlock.specs.Counts.{countKind, kindOf}
 use Rattle.deadlock.specs.Invariant.{Balance, downRoute, Invariant}
 use Rattle.deadlock.proofs.Laws.Lists.{updated-same}
 use Rattle.deadlock.proofs.Laws.Routes.{take-same}
-use Rattle.deadlock.proofs.Links.Kept.{item-high, item-low, session-high, session-low}
+use Rattle.deadlock.proofs.Links.Kept.{isSession-high, isSession-low, item-high, item-low, session-high, session-low}
 use Rattle.deadlock.proofs.InvariantKept.{invariant, invariant-move, invariant-step}
+use Rattle.deadlock.proofs.Reopening.{reopen-call-moves}
 use Rattle.deadlock.proofs.Count.LeavingSessions.{CallMoves, message-moves, not-and, release-call-moves, request-call-moves, rolled-is}
 use Rattle.deadlock.proofs.Count.KeptAtItem.{item-balanced, item-rolls-none}
 use Rattle.deadlock.proofs.Count.KeptAtSession.{session-balance}
@@ -29,13 +30,14 @@ unfolding afterSession
 stage-after s t l o = rw updated-same
 
 module _ (R : Rules) (L : Laws R) (s : State) (k : Invariant R s) (closed gone : ℕ) (b : Balance R s closed gone) where
-  module _ (t x : ℕ) (lo : 1 ≤ x) (hi : x ≤ R .M) (low : 1 ≤ t) (high : t ≤ R .S) where
+  module _ (t x : ℕ) (low : 1 ≤ t) (high : t ≤ R .S) where
     balance-call : (a : Answer) → CallMoves R t x (s .session t) (s .session t .stage) a → Invariant R (afterAnswer R s t a) → Balance R (afterAnswer R s t a) (closed + 0) (gone + 0)
     unfolding afterAnswer
     balance-call refused v kr = same-balance b (omega arith) (omega arith)
     balance-call (accepted o) v kr =
         same-balance (session-balance R L s k t low high (up request) (λ e. let z : _≡_ {A = ℕ} 0 1 = cc in absurd (omega arith)) (s .mailbox) o kr false v closed gone b) (omega arith) (omega arith)
 
+  module _ (t x : ℕ) (lo : 1 ≤ x) (hi : x ≤ R .M) (low : 1 ≤ t) (high : t ≤ R .S) where
     balance-item : (p : Taken) → take true t x (s .mailbox) ≡ p → Invariant R (itemTakes R s t x p)
         → Balance R (itemTakes R s t x p) (closed + bit (takenEvent R t (s .item x) (itemTakes R s t x p) p .closed)) (gone + bit (takenEvent R t (s .item x) (itemTakes R s t x p) p .rolledBack))
     unfolding itemTakes takenEvent afterItem
@@ -69,10 +71,11 @@ module _ (R : Rules) (L : Laws R) (s : State) (k : Invariant R s) (closed gone :
   balance-move : (c : Call) → ofMachine R c ≡ true → Invariant R (move R s c)
       → Balance R (move R s c) (closed + bit (eventOf R s c (move R s c) .closed)) (gone + bit (eventOf R s c (move R s c) .rolledBack))
   unfolding move ofMachine eventOf sessionEvent
-  balance-move (requestCall t x) e kr = balance-call t x (item-low R t x e) (item-high R t x e) (session-low R t x e) (session-high R t x e) _ (request-call-moves R t x (s .session t) (s .session t .stage)) kr
-  balance-move (releaseCall t x) e kr = balance-call t x (item-low R t x e) (item-high R t x e) (session-low R t x e) (session-high R t x e) _ (release-call-moves R t x (s .session t) (s .session t .stage)) kr
+  balance-move (requestCall t x) e kr = balance-call t x (session-low R t x e) (session-high R t x e) _ (request-call-moves R t x (s .session t) (s .session t .stage)) kr
+  balance-move (releaseCall t x) e kr = balance-call t x (session-low R t x e) (session-high R t x e) _ (release-call-moves R t x (s .session t) (s .session t .stage)) kr
   balance-move (deliverToItem t x) e kr = balance-item t x (item-low R t x e) (item-high R t x e) (session-low R t x e) (session-high R t x e) (take true t x (s .mailbox)) refl kr
   balance-move (deliverToSession t x) e kr = balance-session t x (item-low R t x e) (item-high R t x e) (session-low R t x e) (session-high R t x e) (take false t x (s .mailbox)) refl kr
+  balance-move (reopen t) e kr = balance-call t 0 (isSession-low R t e) (isSession-high R t e) _ (reopen-call-moves R s t) kr
 
   balance-step : (admits : State → Call → Bool) (c : Call)
       → Balance R (step R admits s c .state) (closed + bit (step R admits s c .event .closed)) (gone + bit (step R admits s c .event .rolledBack))

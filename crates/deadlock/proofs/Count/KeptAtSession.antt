@@ -17,7 +17,7 @@ use Rattle.deadlock.specs.Invariant.{Balance, downRoute, Invariant, isLe
 use Rattle.deadlock.proofs.Laws.Lists.{bit-eqb, member-occurs, occurs-member, updated-other, updated-same}
 use Rattle.deadlock.proofs.Laws.Stages.{awaits-item, awaits-one, awaitsVictim}
 use Rattle.deadlock.proofs.Count.StandingCycles.{standing-same}
-use Rattle.deadlock.proofs.Count.LeavingSessions.{aborted, count-changed, granted, releases-first, requests, rolls-back, StageMove, stays, withdraws-now}
+use Rattle.deadlock.proofs.Count.LeavingSessions.{aborted, count-changed, granted, releases-first, reopens, requests, rolls-back, StageMove, stays, withdraws-now}
 
 module _ (R : Rules) (L : Laws R) (s : State) (k : Invariant R s) (t : ℕ) (lo : 1 ≤ t) (hi : t ≤ R .S) where
   -- a victim whose clean is on its way stands in the queue of the item that it awaits
@@ -50,6 +50,7 @@ module _ (R : Rules) (L : Laws R) (s : State) (k : Invariant R s) (t : ℕ) (lo 
     moved-leaving b c (rolls-back y z e f) =
         let x = here z in
         omega (arith, ap now e, ap now f, ap (λ (d : Bool). bit (not d)) (answered-leaving (x .0) y (x .1) (x .2) (x .3) e))
+    moved-leaving b c (reopens p e f) = omega (arith, ap now e, ap now f)
 
     moved-in-range : ((y : ℕ) → s .session t .stage ≡ victim withdrawing y → (1 ≤ y) × (y ≤ R .M)) → (b : Stage) (c : Bool) → StageMove m (s .session t .stage) b c
         → (y : ℕ) → b ≡ victim withdrawing y → (1 ≤ y) × (y ≤ R .M)
@@ -60,6 +61,7 @@ module _ (R : Rules) (L : Laws R) (s : State) (k : Invariant R s) (t : ℕ) (lo 
     moved-in-range old b c (aborted z e f) y q = let n : _≡_ {A = ℕ} 0 1 = cc in absurd (omega arith)
     moved-in-range old b c (withdraws-now z e f) y q = let n : z ≡ y = cc in let p = victim-queued z e .0 in rw (← n) p
     moved-in-range old b c (rolls-back z n e f) y q = let n : _≡_ {A = ℕ} 0 1 = cc in absurd (omega arith)
+    moved-in-range old b c (reopens p e f) y q = let n : _≡_ {A = ℕ} 0 1 = cc in absurd (omega arith)
 
     pub session-balance : (l : List Entry) (o : SessionStep) → Invariant R (afterSession s t l o) → (c : Bool) → StageMove m (s .session t .stage) (o .after .stage) c
         → (closed gone : ℕ) → Balance R s closed gone → Balance R (afterSession s t l o) closed (gone + bit c)

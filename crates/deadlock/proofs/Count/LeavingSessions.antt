@@ -1,6 +1,6 @@
 -- How the number of sessions that leave changes: a step of a session moves its stage, a step of an item its queue.
 use mathlib.Core.Path.{_∙_, _≡_, ap, refl, sym}
-use mathlib.Core.Bool.{_&&_, Bool, false, not, true}
+use mathlib.Core.Bool.{_&&_, and-false, Bool, false, not, true}
 use mathlib.Core.List.{List}
 use mathlib.Core.Logic.{_≢_}
 use Prim.Native.Nat.{_+_, _≤_, ℕ}
@@ -10,7 +10,7 @@ use Rattle.lists.specs.Lists.{count, member}
 use Rattle.lists.proofs.Searches.{count-one-more, count-same}
 use Rattle.lists.proofs.Tests.{by-test, same?}
 use Rattle.deadlock.specs.Lists.{bit, occurs}
-use Rattle.deadlock.specs.Machine.{abort, accepted, Answer, clean, cleaning, cleared, down, grant, growing, isLive, isNews, isRolledBack, Item, Message, onAbort, onClean, onGrant, onProbe, onReleaseCall, onRequestCall, onResend, onWithdrawn, probe, refused, releaseHeld, releasing, request, resend, rolledBack, Rules, Session, sessionReceives, SessionStep, shrinking, Stage, State, storeProbe, up, victim, waiting, withdrawing, withdrawn}
+use Rattle.deadlock.specs.Machine.{abort, accepted, Answer, clean, cleaning, cleared, down, grant, growing, isLive, isNews, isRolledBack, Item, Message, onAbort, onClean, onGrant, onProbe, onReleaseCall, onRequestCall, onResend, onWithdrawn, probe, refused, releaseHeld, ReleasePhase, releasing, request, resend, rolledBack, Rules, Session, sessionReceives, SessionStep, shrinking, Stage, State, storeProbe, up, victim, waiting, withdrawing, withdrawn}
 use Rattle.deadlock.specs.Invariant.{isLeaving, leaving}
 use Rattle.deadlock.proofs.Laws.Lists.{member-same}
 
@@ -63,6 +63,7 @@ pub data StageMove (m : Message) (a b : Stage) : Bool → Type 0 where
   aborted : (y : ℕ) → a ≡ waiting y → b ≡ victim cleaning y → StageMove m a b false
   withdraws-now : (y : ℕ) → a ≡ victim cleaning y → b ≡ victim withdrawing y → StageMove m a b false
   rolls-back : (y : ℕ) → m ≡ (down withdrawn) → a ≡ victim withdrawing y → b ≡ releasing rolledBack → StageMove m a b true
+  reopens : (p : ReleasePhase) → a ≡ releasing p → b ≡ growing → StageMove m a b false
 
 -- some such move
 pub record Moved (m : Message) (a b : Stage) : Type 0 where
@@ -85,6 +86,7 @@ rolled-is (granted y e f) = rw (e, f)
 rolled-is (aborted y e f) = rw (e, f)
 rolled-is (withdraws-now y e f) = rw (e, f)
 rolled-is (rolls-back y z e f) = rw (e, f)
+rolled-is (reopens p e f) = rw (f, and-false)
 
 module _ (R : Rules) (t x : ℕ) (r : Session) where
   grant-moves : (a : Stage) → r .stage ≡ a → Moved (down grant) a (onGrant R x r a .after .stage)

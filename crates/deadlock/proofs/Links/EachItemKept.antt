@@ -9,7 +9,7 @@ use Rattle.lists.specs.Lists.{member}
 use Rattle.lists.proofs.Tests.{by-test, same?}
 use borrow.Author.Tests.{ne-eqb}
 use Rattle.deadlock.specs.Lists.{bit, occurs, without}
-use Rattle.deadlock.specs.Machine.{abort, accepted, afterAnswer, afterItem, afterSession, Answer, Call, clean, deliverToItem, deliverToSession, down, grantOrQueue, handOver, heldBy, Item, itemReceives, ItemStep, itemTakes, Laws, Message, move, noEntry, ofMachine, onRelease, onRequest, probe, rebroadcast, refused, release, releaseCall, request, requestCall, Rules, sessionTakes, State, Taken, taken, up, withdraw}
+use Rattle.deadlock.specs.Machine.{abort, accepted, afterAnswer, afterItem, afterSession, Answer, Call, clean, deliverToItem, deliverToSession, down, grantOrQueue, handOver, heldBy, Item, itemReceives, ItemStep, itemTakes, Laws, Message, move, noEntry, ofMachine, onRelease, onRequest, probe, rebroadcast, refused, release, releaseCall, reopen, request, requestCall, Rules, sessionTakes, State, Taken, taken, up, withdraw}
 use Rattle.deadlock.specs.World.{FreeIsEmpty}
 use Rattle.deadlock.specs.Invariant.{InRange}
 use Rattle.deadlock.proofs.Laws.Lists.{member-occurs, occurs-append, occurs-without-le, updated-other, updated-same}
@@ -41,6 +41,7 @@ module _ (R : Rules) (P : Item → Type 0) (keep : (t : ℕ) (i : Item) (m : Mes
   each-item-move s (releaseCall t x) e h z = each-item-answer s t _ z (h z)
   each-item-move s (deliverToItem t x) e h z = each-item-item s t x (session-low R t x e) (session-high R t x e) _ z h
   each-item-move s (deliverToSession t x) e h z = each-item-session s t x _ z (h z)
+  each-item-move s (reopen t) e h z = each-item-answer s t _ z (h z)
 
 free-granted-or-queued : (R : Rules) (t : ℕ) (l : List ℕ) (o : Option ℕ) → FreeIsEmpty (grantOrQueue R t l o .after)
 unfolding FreeIsEmpty grantOrQueue

@@ -7,9 +7,9 @@ use Prim.Native.Nat.{_≤_, ℕ}
 use native.Mathlib.Omega.{arith}
 use lib.Dec.{leb}
 use borrow.Author.Tests.{leb-true}
-use Rattle.lists.proofs.Tests.{and-both, same?}
+use Rattle.lists.proofs.Tests.{and-both, same?, within}
 use Rattle.deadlock.specs.Lists.{occurs}
-use Rattle.deadlock.specs.Machine.{accepted, afterAnswer, afterItem, afterSession, Answer, Call, deliverToItem, deliverToSession, Entry, heldBy, inRange, itemReceives, ItemStep, itemTakes, Laws, move, noEntry, ofMachine, refused, releaseCall, requestCall, route, Rules, sessionReceives, SessionStep, sessionTakes, start, State, take, Taken, taken}
+use Rattle.deadlock.specs.Machine.{accepted, afterAnswer, afterItem, afterSession, Answer, Call, deliverToItem, deliverToSession, Entry, heldBy, inRange, isSession, itemReceives, ItemStep, itemTakes, Laws, move, noEntry, ofMachine, refused, releaseCall, reopen, requestCall, route, Rules, sessionReceives, SessionStep, sessionTakes, start, State, take, Taken, taken}
 use Rattle.message.specs.Kind
 use Rattle.deadlock.specs.Counts.{countBehind, countKind, sentTo}
 use Rattle.deadlock.specs.Links.{Linked, viewOf}
@@ -18,6 +18,7 @@ use Rattle.deadlock.proofs.Laws.Lists.{updated-other, updated-same}
 use Rattle.deadlock.proofs.Laws.Routes.{apart-direction, apart-item, apart-session, countKind-append, fromItem-other, fromItem-own, fromItem-up, fromSession-down, fromSession-other, fromSession-own, route-append, take-other, take-same}
 use Rattle.deadlock.proofs.Links.KeptAtItem.{other-linked, sender-linked}
 use Rattle.deadlock.proofs.Links.KeptAtSession.{LinkedAnswer, receives-linked, receives-linked-elsewhere, release-call-linked, request-call-linked}
+use Rattle.deadlock.proofs.Links.Unnamed.{reopen-linked}
 
 -- ---- what each pair sees of a step of session t
 module _ (s : State) (t : ℕ) (l : List Entry) (o : SessionStep) where
@@ -85,6 +86,13 @@ module _ (s : State) (x : ℕ) (l : List Entry) (o : ItemStep) where
   view-other-item : (t z : ℕ) → x ≢ z → pairView (afterItem s x l o) t z ≡ viewOf t z (s .session t) (s .item z) (route true t z l) (route false t z l)
   view-other-item t z ne = rw (item-up, item-down-other s x l o t z (λ q. ne (sym q)), item-other s x l o z ne, item-sessions)
 
+module _ (R : Rules) (t : ℕ) where
+  pub isSession-low : isSession R t ≡ true → 1 ≤ t
+  isSession-low e = within 1 (R .S) t e .0
+
+  pub isSession-high : isSession R t ≡ true → t ≤ R .S
+  isSession-high e = within 1 (R .S) t e .1
+
 module _ (R : Rules) (t x : ℕ) where
   pub item-low : inRange R t x ≡ true → 1 ≤ x
   unfolding inRange
@@ -92,11 +100,11 @@ module _ (R : Rules) (t x : ℕ) where
 
   pub session-low : inRange R t x ≡ true → 1 ≤ t
   unfolding inRange
-  session-low e = leb-true 1 t (and-both (leb 1 t) (leb t (R .S)) (and-both _ (leb 1 x && leb x (R .M)) e .0) .0)
+  session-low e = isSession-low R t (and-both (isSession R t) _ e .0)
 
   pub session-high : inRange R t x ≡ true → t ≤ R .S
   unfolding inRange
-  session-high e = leb-true t (R .S) (and-both (leb 1 t) (leb t (R .S)) (and-both _ (leb 1 x && leb x (R .M)) e .0) .1)
+  session-high e = isSession-high R t (and-both (isSession R t) _ e .0)
 
   pub item-high : inRange R t x ≡ true → x ≤ R .M
   unfolding inRange
@@ -168,6 +176,7 @@ module _ (R : Rules) (L : Laws R) (s : State) (g : AllLinked R s) where
   linked-move (releaseCall t x) e = linked-answer t _ (λ z lo hi. release-call-linked R t z (s .item z) (upRoute s t z) (downRoute s t z) x (s .session t) (g .linked t z lo hi))
   linked-move (deliverToItem t x) e = linked-item t x (item-low R t x e) (item-high R t x e) (take true t x (s .mailbox)) refl
   linked-move (deliverToSession t x) e = linked-session t x (item-low R t x e) (item-high R t x e) (take false t x (s .mailbox)) refl
+  linked-move (reopen t) e = linked-answer t _ (λ z lo hi. reopen-linked R s t z lo hi (g .linked t z lo hi))
 
 module _ (R : Rules) (L : Laws R) where
   pub linked-start : AllLinked R (start R)

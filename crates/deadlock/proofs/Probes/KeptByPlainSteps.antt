@@ -96,7 +96,7 @@ module _ {R : Rules} (L : Laws R) {w : World} (known : Known R w) {t : ℕ} (o :
   plain-clear-back : (v a b : ℕ) → ClearEdge R after v a b → ClearEdge R w v a b
   plain-clear-back v a b = clear-edge-back R o acts v a b (λ _. cvd v)
 
-  plain-passed-back : (v a : ℕ) → Passed R after v a → Passed R w v a
+  pub plain-passed-back : (v a : ℕ) → Passed R after v a → Passed R w v a
   plain-passed-back v a p = record { is-victim = victim-before (same? t v); past = record { from = p .past .from; walk = walk-map (plain-clear-back v) (p .past .walk); last = plain-clear-back v (p .past .from) a (p .past .last) } }
     where
       victim-before : Dec (t ≡ v) → VictimIn w v

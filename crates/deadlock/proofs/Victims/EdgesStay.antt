@@ -25,6 +25,21 @@ module _ {R : Rules} (L : Laws R) {w : World} (known : Known R w) {t : ℕ} (o :
   abbrev pub after : World
   after = worldAfterSession w t (o .after) mail
 
+  cycle : {v : ℕ} {P Q : ℕ → Type 0} → ((u : ℕ) → Walk (Edge R w) v u → P u → Q u) → CycleOf R w v P → CycleOf R after v Q
+  cycle {v} {P} {Q} f r = record { cycle = r .cycle; others = λ u y. cases u y (r .others u y) }
+    where
+      cases : (u : ℕ) → Walk (Edge R w) v u → (u ≡ v) ⊎ P u → (u ≡ v) ⊎ Q u
+      cases u y (inl q) = inl q
+      cases u y (inr p) = inr (f u y p)
+
+  abort-after : (a : ℕ) (s : Stage) → AbortTo R w a s → AbortTo R after a s
+  abort-after a s = abortTo-map R w after a s (λ _. cycle (λ u y p. p))
+
+  -- the aborts on their way to the session, if its new stage is as good for one as its old stage
+  pub own-aborts-kept : (AbortTo R w t (stageOf w t) → AbortTo R w t (o .after .stage))
+      → ((z : ℕ) → Every (OfAbort R after t) (w .down t z) → Every (OfAbort R after t) (mail .down t z)) → (z : ℕ) → Every (OfAbort R after t) (mail .down t z)
+  own-aborts-kept f each z = each z (every-map (ofAbort-map R w after t (λ b. subst (AbortTo R after t) (sym (stage-own R o acts)) (abort-after t (o .after .stage) (f b)))) (known .victims .aborts t z))
+
   -- what a session's step has to keep: its part in the cycles of victims, the count of cleans, where a new clean goes, aborts on their way, and its own messages
   pub record VictimsMove : Type 0 where
     pub mate-waits : (v h : ℕ) → t ≢ v → VictimIn w v → Edge R w v h → Walk (Edge R w) v t → 1 ≤ isWaiting (stageOf w t)
@@ -35,8 +50,7 @@ module _ {R : Rules} (L : Laws R) {w : World} (known : Known R w) {t : ℕ} (o :
     pub total-other : (v : ℕ) → t ≢ v → mail .total v ≡ w .total v
     pub new-clean : (v z : ℕ) → 1 ≤ cleansOf v (sentTo z (o .sends)) → CleanGoesUp R w v t z
     pub down-le : (v z : ℕ) → cleansOf v (mail .down t z) ≤ cleansOf v (w .down t z)
-    pub own-abort : AbortTo R w t (stageOf w t) → AbortTo R w t (o .after .stage)
-    pub down-each : (z : ℕ) → Every (OfAbort R after t) (w .down t z) → Every (OfAbort R after t) (mail .down t z)
+    pub own-aborts : (z : ℕ) → Every (OfAbort R after t) (mail .down t z)
     pub own-no-request : 1 ≤ isVictim (o .after .stage) → (z : ℕ) → 1 ≤ z → z ≤ R .M → countKind Kind.request (w .up t z ++ sentTo z (o .sends)) ≡ 0
     pub own-clean-behind : 1 ≤ isVictim (o .after .stage) → (z : ℕ) → 1 ≤ z → z ≤ R .M → Queued w t z
         → EachBehind CleanBehind (w .up t z ++ sentTo z (o .sends))
@@ -61,13 +75,6 @@ module _ {R : Rules} (L : Laws R) {w : World} (known : Known R w) {t : ℕ} (o :
 
       stage-at : (f : Stage → ℕ) (a : ℕ) → t ≡ a → f (stageOf after a) ≡ f (o .after .stage)
       stage-at f a q = ap (λ (z : ℕ). f (stageOf after z)) (sym q) ∙ own f
-
-      cycle : {v : ℕ} {P Q : ℕ → Type 0} → ((u : ℕ) → Walk (Edge R w) v u → P u → Q u) → CycleOf R w v P → CycleOf R after v Q
-      cycle {v} {P} {Q} f r = record { cycle = r .cycle; others = λ u y. cases u y (r .others u y) }
-        where
-          cases : (u : ℕ) → Walk (Edge R w) v u → (u ≡ v) ⊎ P u → (u ≡ v) ⊎ Q u
-          cases u y (inl q) = inl q
-          cases u y (inr p) = inr (f u y p)
 
       clean-count : (v : ℕ) → Dec (t ≡ v) → mail .total v ≡ isCleaning (stageOf after v)
       clean-count v (yes q) = omega (arith, k .total-own, stage-at isCleaning v q, ap (mail .total) q)
@@ -112,14 +119,10 @@ module _ {R : Rules} (L : Laws R) {w : World} (known : Known R w) {t : ℕ} (o :
       clean-down-of v a z p (no q) = down-of (known .victims .clean-down-on-cycle v a z (omega (arith, p, ap (cleansOf v) (acts .down-off a z q))))
       clean-down-of v a z p (yes q) = rw (← q) (let p2 : 1 ≤ cleansOf v (mail .down t z) = rw q p in down-of (known .victims .clean-down-on-cycle v t z (omega (arith, p2, k .down-le v z))))
 
-      abort-after : (a : ℕ) (s : Stage) → AbortTo R w a s → AbortTo R after a s
-      abort-after a s = abortTo-map R w after a s (λ _. cycle (λ u y p. p))
-
       aborts-of : (a z : ℕ) → Dec (t ≡ a) → Every (OfAbort R after a) (mail .down a z)
       aborts-of a z (no q) =
           rw (acts .down-off a z q) (every-map (ofAbort-map R w after a (λ b. subst (AbortTo R after a) (sym (stage-other R o acts a q)) (abort-after a (stageOf w a) b))) (known .victims .aborts a z))
-      aborts-of a z (yes q) =
-          rw (← q) (k .down-each z (every-map (ofAbort-map R w after t (λ b. subst (AbortTo R after t) (sym (stage-own R o acts)) (abort-after t (o .after .stage) (k .own-abort b)))) (known .victims .aborts t z)))
+      aborts-of a z (yes q) = rw (← q) (k .own-aborts z)
 
       no-request-of : (v z : ℕ) → 1 ≤ z → z ≤ R .M → VictimIn after v → Dec (t ≡ v) → countKind Kind.request (mail .up v z) ≡ 0
       no-request-of v z lo hi s (yes q) = rw (← q) (omega (arith, ap (countKind Kind.request) (acts .up-at z), k .own-no-request (omega (arith, s, stage-at isVictim v q)) z lo hi))
@@ -150,8 +153,7 @@ module _ {R : Rules} (L : Laws R) {w : World} (known : Known R w) {t : ℕ} (o :
     total-other = λ v _. tots v;
     new-clean = λ v y p. absurd (omega (arith, p, cleansOf-sentTo v y (o .sends), z v));
     down-le = λ v y. omega (arith, cvd v y);
-    own-abort = ab;
-    down-each = de;
+    own-aborts = own-aborts-kept L known o acts ab de;
     own-no-request = λ s y lo hi. rw (nil s, append-nil) (known .victims .no-request t y lo hi (omega (arith, s, vc)));
     own-clean-behind = λ s y lo hi p. rw (nil s, append-nil) (known .victims .clean-behind-probes t y lo hi (omega (arith, s, vc)) p);
   })

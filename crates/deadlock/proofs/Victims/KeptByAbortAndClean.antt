@@ -22,7 +22,7 @@ use Rattle.deadlock.proofs.Laws.Walks.{cycle-back, cycle-next, firstApa
 use Rattle.deadlock.proofs.Victims.OneOnCycle.{one-edge, victim-of-down}
 use Rattle.deadlock.proofs.Probes.OthersStay.{cleansOf-taken, every-taken, SessionSends, SessionTakes, worldAfterSession}
 use Rattle.deadlock.proofs.Probes.KeptByAbortAndClean.{in-awaited-queue, no-probe-behind, NoProbe, queued-no-request}
-use Rattle.deadlock.proofs.Victims.EdgesStay.{CleanBehind, session-victims}
+use Rattle.deadlock.proofs.Victims.EdgesStay.{CleanBehind, own-aborts-kept, session-victims}
 
 -- one clean among what is sent
 clean-sent-is : (v c i y z : ℕ) → 1 ≤ cleansOf v (sentTo z ((y, clean c i) ∷ [])) → (z ≡ y) × (c ≡ v)
@@ -88,8 +88,7 @@ module _ {R : Rules} (L : Laws R) {w : World} (known : Known R w) (t x : ℕ) (m
       total-other = λ v ne. omega (arith, tots v, ap bit (ne-eqb t v ne));
       new-clean = λ v z p. new v z (clean-sent-is v t i0 y z p);
       down-le = cleansOf-taken hr;
-      own-abort = λ _. unit;
-      down-each = every-taken hr;
+      own-aborts = own-aborts-kept L known abortStep acts (λ _. unit) (every-taken hr);
       own-no-request = λ _ z lo hi. omega (arith, countKind-append Kind.request (w .up t z) (sentTo z (abortStep .sends)), abort-no-request z, queued-no-request R w (known .links) t (r .cycle .next) z (r .cycle .out) lo hi);
       own-clean-behind = λ _ z lo hi s. clean-behind z lo hi s;
     })
@@ -164,8 +163,7 @@ module _ {R : Rules} (L : Laws R) {w : World} (known : Known R w) (t x : ℕ) (m
       total-other = λ u _. member-total-same u;
       new-clean = member-new-clean;
       down-le = cleansOf-taken hr;
-      own-abort = λ k. subst (AbortTo R w t) e k;
-      down-each = every-taken hr;
+      own-aborts = own-aborts-kept L known memberStep acts (λ k. subst (AbortTo R w t) e k) (every-taken hr);
       own-no-request = λ s. absurd (omega arith);
       own-clean-behind = λ s. absurd (omega arith);
     })
@@ -203,8 +201,7 @@ module _ {R : Rules} (L : Laws R) {w : World} (known : Known R w) (t x : ℕ) (m
       total-other = λ v ne. omega (arith, tots v, ap bit (ne-eqb t v ne));
       new-clean = λ v z p. absurd (omega (arith, p, cleansOf-sentTo v z (returnStep .sends)));
       down-le = cleansOf-taken hr;
-      own-abort = λ _. return-abort;
-      down-each = every-taken hr;
+      own-aborts = own-aborts-kept L known returnStep acts (λ _. return-abort) (every-taken hr);
       own-no-request = λ _ z lo hi. omega (arith, countKind-append Kind.request (w .up t z) (sentTo z (returnStep .sends)), return-no-request z, known .victims .no-request t z lo hi return-is-victim);
       own-clean-behind = λ _ z lo hi s. behind-map (countKind Kind.clean (w .up t z)) (sentTo z (returnStep .sends))
           (λ m r _. ofProbe-map (λ i j k. omega (arith, k, countKind-append Kind.clean r (sentTo z (returnStep .sends)))) m)

@@ -1,0 +1,106 @@
+-- A reopening: refused, with the table as it was, or one of the machine's moves at which nothing happens.
+use mathlib.Core.Path.{_≡_, sym, ap, subst, _∙_}
+use mathlib.Core.Bool.{true, false, not, _&&_}
+use mathlib.Core.List.{List, _++_, map, append-nil}
+use mathlib.Core.Option.{none}
+use Prim.Native.Nat.{ℕ, _≤_}
+use lib.Dec.{eqb}
+use lib.ListN.{length}
+use borrow.Author.Tests.{eqb-true}
+use Rattle.lists.specs.Lists.{between, all}
+use Rattle.lists.proofs.Searches.{every-at}
+use Rattle.lists.proofs.Tests.{and-both, by-test}
+use Rattle.session.specs.Stage
+use Rattle.session.specs.declared.Session.{Session}
+use Rattle.session.specs.Record as SessionRecord
+use Rattle.mailbox.specs.Entry.{Entry, fromSession}
+use Rattle.mailbox.specs.Layout as Mail
+use Rattle.mailbox.proofs.Laws as MailLaws
+use Rattle.table.specs.Layout as Table
+use Rattle.waits.specs.OnTable.{locks}
+use Rattle.reopen.specs.Reopening.{isOver, itemNames, entryNames, noProbeNames, noItemNames, noEntryNames, mayReopen, Reopened, reopened}
+use Rattle.lockmgr.specs.Calls.{Config, reopenRefusal, reopen}
+use Rattle.lockmgr.specs.Run.{Buffers, buffers}
+use Rattle.lockmgr.proofs.Judging.{reopen-zero}
+use Rattle.deadlock.specs.Machine
+use Rattle.agreement.specs.Reading.{readState}
+use Rattle.agreement.proofs.MoveAgrees.{Replaced, StateWellFormed}
+use Rattle.agreement.proofs.ReopenAgrees as Agrees
+use Rattle.agreement.proofs.ReopenAgrees.{begun}
+use Rattle.clause.proofs.State
+use Rattle.clause.proofs.State.{seniorOf, nextOf, machineOf, stateOf, Good}
+use Rattle.clause.proofs.Moves.{Moved, session-moved, session-call}
+use Rattle.clause.proofs.Step.{quiet}
+
+-- what a session knows that may be reopened
+record May (t : ℕ) (table mail : List ℕ) : Type 0 where
+  pub over : isOver (Table.session table t) ≡ true
+  pub items : (x : ℕ) → 1 ≤ x → x ≤ Table.itemsOf table → not (itemNames t (Table.item table x)) ≡ true
+  pub entries : all (λ e. not (entryNames t e)) (Mail.entriesOf mail) ≡ true
+
+may : (t : ℕ) (table mail : List ℕ) → mayReopen t table mail ≡ true → May t table mail
+unfolding mayReopen noItemNames noEntryNames
+may t table mail e =
+    let last = and-both (isOver (Table.session table t) && noProbeNames t table && noItemNames t table) (noEntryNames t mail) e in
+    let third = and-both (isOver (Table.session table t) && noProbeNames t table) (noItemNames t table) (last .0) in
+    let first = and-both (isOver (Table.session table t)) (noProbeNames t table) (third .0) in
+    record { over = first .0; items = every-at (Table.itemsOf table) _ (third .1); entries = last .1 }
+
+module _ (conf : Config) (table : List ℕ) (l : List Entry) (g : Good conf table l) (t : ℕ) where
+  abbrev mail : List ℕ
+  mail = Mail.mailBytes (conf .capacity) l
+
+  -- the table after
+  abbrev after : List ℕ
+  after = Table.withSession table t SessionRecord.fresh
+
+  -- a move at which nothing happens, to these entries
+  pub record ReopenMoved (k : List Entry) : Type 0 where
+    pub moved : Moved conf table l (buffers after (Mail.mailBytes (conf .capacity) k))
+    pub nothing : moved .event ≡ Machine.nothing
+
+  module _ (r : between 1 (conf .sessions) t ≡ true) (p : May t table mail) where
+    items : (x : ℕ) → 1 ≤ x → x ≤ conf .items → Agrees.Free t (locks table x)
+    unfolding locks itemNames
+    items x low high = p .items x low (rw (g .items) high)
+
+    entries : all (λ e. not (entryNames t e)) l ≡ true
+    entries = rw (MailLaws.entries-mail (conf .capacity) l (g .low) (g .high) (g .room)) at (p .entries)
+
+    -- nothing is sent
+    abbrev sent : List Entry
+    sent = l ++ map (fromSession t) (begun .sends)
+
+    abbrev Put : (ℕ → Session) → Type 0
+    Put f = Replaced (conf .sessions) (Table.session table) f t SessionRecord.fresh
+
+    fits : length sent ≤ conf .capacity
+    fits = rw (append-nil l) (g .room)
+
+    kept : (f : ℕ → Session) → Put f → StateWellFormed (conf .sessions) (conf .items) f (locks table) sent
+    kept = Agrees.reopen-move-kept (seniorOf conf) (nextOf conf) (conf .sessions) (conf .items) (Table.session table) (locks table) l (State.all-formed conf table l g) t r
+
+    moves : (f : ℕ → Session) → Put f → readState (conf .sessions) (conf .items) f (locks table) sent ≡ Machine.move (machineOf conf) (stateOf conf table l) (Machine.reopen t)
+    moves = Agrees.reopen-move (seniorOf conf) (nextOf conf) (conf .sessions) (conf .items) (Table.session table) (locks table) l (State.all-formed conf table l g) t r (p .over) entries items
+
+    happens : (f : ℕ → Session) → Put f → StateWellFormed (conf .sessions) (conf .items) f (locks table) sent
+        → Machine.eventOf (machineOf conf) (stateOf conf table l) (Machine.reopen t) (readState (conf .sessions) (conf .items) f (locks table) sent)
+        ≡ record { closed = false; declared = none; rolledBack = not (eqb (Table.session table t .stage) Stage.rolledBack) && eqb (f t .stage) Stage.rolledBack }
+    unfolding Machine.eventOf
+    happens f h _ = rw (h .here) (quiet (not (eqb (Table.session table t .stage) Stage.rolledBack)))
+
+    done : ReopenMoved sent
+    unfolding Machine.ofMachine Machine.eventOf
+    done =
+        let m = session-moved conf table l g t r (Machine.reopen t) r l begun fits kept moves happens in
+        let call = session-call conf table l g t r (Machine.reopen t) r l begun fits kept moves happens in
+        record { moved = m; nothing = sym (m .happens) ∙ ap (λ (c : Machine.Call). Machine.eventOf (machineOf conf) (stateOf conf table l) c (stateOf conf after (m .entries))) call }
+
+  -- whatever holds of a refused reopening, and of one that is a move of the machine, holds of a reopening
+  pub by-reopen : (P : Reopened → Type 0) → ((n : ℕ) → P (reopened n table)) → (ReopenMoved l → P (reopened 0 after)) → P (reopen t table mail)
+  unfolding reopen
+  by-reopen P refused moved =
+      by-test P (eqb (reopenRefusal t table mail) 0)
+      (λ e. let z = reopen-zero t table mail (eqb-true (reopenRefusal t table mail) 0 e) in
+      moved (subst ReopenMoved (append-nil l) (done (rw (g .sessions) at (z .0)) (may t table mail (z .1)))))
+      (λ _. refused (reopenRefusal t table mail))

@@ -1,0 +1,85 @@
+-- `no_entry_names` meets its contract. The loop's invariant: no entry that was passed names the session.
+use mathlib.Core.Path.{_≡_, refl, sym, ap, _∙_}
+use mathlib.Core.Bool.{Bool, true, not}
+use mathlib.Core.List.{List}
+use Prim.Native.Nat.{ℕ, _-_, _≤_}
+use native.Mathlib.Omega.{arith}
+use borrow.Author.Needs.{needs}
+use Rattle.lists.specs.Lists.{everyBelow}
+use Rattle.lists.proofs.Laws.{below-false, below-more, all-tabulate}
+use Rattle.mailbox.specs.Layout.{countOf, entryAt, entriesOf}
+use Rattle.mailbox.proofs.Laws.{kept-length}
+use Rattle.reopen.specs.Reopening.{entryNames, noEntryNames}
+use Rattle.reopen.proofs.no_entry_names.Statement.{statement}
+use Rattle.reopen.proofs.no_entry_names.Tie as tie
+
+-- entry k does not name session t
+abbrev free : ℕ → List ℕ → ℕ → Bool
+free t mail k = not (entryNames t (entryAt mail k))
+
+no-entry : (t : ℕ) (mail : List ℕ) → noEntryNames t mail ≡ everyBelow (countOf mail) (free t mail)
+unfolding noEntryNames entriesOf
+no-entry t mail = all-tabulate (λ e. not (entryNames t e)) (countOf mail) (entryAt mail)
+
+abbrev Inv-loop : tie.InvT-loop
+Inv-loop t mail n k₀ k = (n ≡ countOf mail) × (k ≤ n) × (everyBelow k (free t mail) ≡ true)
+
+abbrev μ-loop : tie.MeasureT-loop
+μ-loop t mail n k₀ k = n - k
+
+count-requires : tie.Need-count-requires Inv-loop μ-loop
+count-requires c κs = let m = c .before .args .mail .now in omega (arith, kept-length m (c .before .pre), c .before .pre .low)
+
+loop-holds : tie.Need-loop-holds Inv-loop μ-loop
+unfolding everyBelow
+loop-holds c = (c .count .ensures, omega arith, refl)
+
+message-to-item-requires : tie.Need-message-to-item-requires Inv-loop μ-loop
+message-to-item-requires c κs = record { kept = c .before .before .before .before .pre; inside = omega arith }
+
+entry-names-requires : tie.Need-entry-names-requires Inv-loop μ-loop
+entry-names-requires c κs = search needs
+
+returns : tie.Need-returns Inv-loop μ-loop
+returns c =
+    let a = c .before .before .before .before .before .before .before .args in
+    let l = c .before .before .before .before .loop in
+    let named : entryNames (a .t) (entryAt (a .mail .now) (l .k)) ≡ true = sym (c .before .entry-names .ensures _ (c .before .before .message-to-item .ensures)) ∙ c .if1 .taken in
+    sym (no-entry (a .t) (a .mail .now) ∙ below-false (countOf (a .mail .now)) (l .k) (free (a .t) (a .mail .now)) (omega arith) (ap not named))
+
+add-k : tie.Need-add-k Inv-loop μ-loop
+add-k c = search needs
+
+loop-less : tie.Need-loop-less Inv-loop μ-loop
+loop-less c = search needs
+
+loop-again : tie.Need-loop-again Inv-loop μ-loop
+loop-again c =
+    let a = c .before .before .before .before .before .before .before .args in
+    let l = c .before .before .before .before .loop in
+    let v = l .inv in
+    let named = c .before .entry-names .ensures (entryAt (a .mail .now) (l .k)) (c .before .before .message-to-item .ensures) in
+    (v .0, omega arith, rw (below-more, v .2, ← named, c .if1 .left) refl)
+
+returns-2 : tie.Need-returns-2 Inv-loop μ-loop
+returns-2 c =
+    let a = c .before .before .before .before .args in
+    let v = c .before .loop .inv in
+    let all : c .before .loop .k ≡ countOf (a .mail .now) = omega arith in
+    sym (no-entry (a .t) (a .mail .now) ∙ rw (all) at (v .2))
+
+pub no-entry-names-spec : {M : Type 1} → statement M
+no-entry-names-spec =
+    tie.close
+    (tie.spec
+    Inv-loop
+    μ-loop
+    count-requires
+    loop-holds
+    message-to-item-requires
+    entry-names-requires
+    returns
+    add-k
+    loop-less
+    loop-again
+    returns-2)
