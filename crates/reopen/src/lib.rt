@@ -10,10 +10,10 @@ ghost use Rattle.refusal.specs.Refusal.{first};
 ghost use Rattle.message.specs.Limits.{IsSession};
 ghost use Rattle.item.specs.Record.{Packed};
 ghost use Rattle.mailbox.specs.Entry.{Entry, seenByItem};
-ghost use Rattle.mailbox.specs.Layout.{Kept};
 ghost use Rattle.table.specs.Layout as Table;
 ghost use Rattle.step.specs.Step.{Formed};
 ghost use Rattle.reopen.specs.Reopening.{isOver, storedNames, itemNames, entryNames, noProbeNames, noItemNames, noEntryNames, mayReopen, reopenCauses, reopened, unlessRefused};
+ghost use Rattle.reopen.specs.Parts.{Plain, Searchable};
 
 // Whether the session's work is over: stage 3 with nothing held, or stage 6.
 fn is_over(s: Session) -> bool
@@ -55,14 +55,12 @@ fn item_names(t: u8, i: Item) -> bool
     (i.holder == t) | row_has(queue, t)
 }
 
-// Whether an entry, as its item sees it, names session t.
+// Whether an entry, as its item sees it, names session t: where its kind carries no sessions there are zeros.
 fn entry_names(t: u8, m: Message) -> bool
-    ensures { λ r. ⌜ ((e : Entry) → m ≡ seenByItem e → r ≡ entryNames t e) ⌝ }
+    requires { ⌜ 1 ≤ t ⌝ }
+    ensures { λ r. ⌜ ((e : Entry) → Plain e → m ≡ seenByItem e → r ≡ entryNames t e) ⌝ }
 {
-    let carries = (m.kind == Message::PROBE)
-        | (m.kind == Message::CLEAN)
-        | (m.kind == Message::ABORT);
-    (m.peer == t) | (carries & ((m.a == t) | (m.b == t)))
+    (m.peer == t) | (m.a == t) | (m.b == t)
 }
 
 // Whether no stored probe names session t.
@@ -99,7 +97,7 @@ fn no_item_names(t: u8, table: &[u8]) -> bool
 
 // Whether no entry names session t.
 fn no_entry_names(t: u8, mail: &[u8]) -> bool
-    requires { ⌜ Kept (now mail) ⌝ }
+    requires { ⌜ Searchable t (now mail) ⌝ }
     ensures { λ r. ⌜ r ≡ noEntryNames t (now (mail .entry)) ⌝ }
 {
     let n = mailbox::count(mail);

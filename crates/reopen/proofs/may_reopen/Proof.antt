@@ -4,7 +4,9 @@ use mathlib.Core.Bool.{_&&_, and-false}
 use Prim.Native.Nat.{_≤_}
 use native.Mathlib.Omega.{arith}
 use borrow.Author.Tests.{not-true, not-false}
-use Rattle.mailbox.proofs.Laws.{formed-kept}
+use Rattle.mailbox.specs.Layout.{entryAt}
+use Rattle.mailbox.proofs.Laws.{formed-kept, formed-entry}
+use Rattle.mailbox.proofs.EntryLaws.{entry-facts}
 use Rattle.table.specs.Layout as Table
 use Rattle.table.proofs.Laws.{sized-facts}
 use Rattle.reopen.specs.Reopening.{isOver, noProbeNames, mayReopen}
@@ -49,8 +51,15 @@ returns-3 c =
 no-entry-names-requires : tie.Need-no-entry-names-requires
 no-entry-names-requires c κs =
     let s = c .before .before .before .before .before .before .before .before .before in
+    let S = Table.sessionsOf (s .args .table .now) in
+    let M = Table.itemsOf (s .args .table .now) in
+    let m = s .args .mail .now in
     let f = s .pre .0 in
-    formed-kept _ _ (s .args .mail .now) (f .mail-sized) (f .mail-formed) (λ i h. omega (arith, c .before .before .before .before .before .before .before .shared-slice-known2 .given i))
+    record {
+      low = s .pre .1 .low;
+      kept = formed-kept S M m (f .mail-sized) (f .mail-formed) (λ i h. omega (arith, c .before .before .before .before .before .before .before .shared-slice-known2 .given i));
+      plain = λ k h. entry-facts S M (entryAt m k) (formed-entry S M m (f .mail-formed) k h) .plain;
+    }
 
 returns-4 : tie.Need-returns-4
 unfolding mayReopen

@@ -28,24 +28,31 @@ abbrev μ-loop : tie.MeasureT-loop
 μ-loop t mail n k₀ k = n - k
 
 count-requires : tie.Need-count-requires Inv-loop μ-loop
-count-requires c κs = let m = c .before .args .mail .now in omega (arith, kept-length m (c .before .pre), c .before .pre .low)
+count-requires c κs = let m = c .before .args .mail .now in omega (arith, kept-length m (c .before .pre .kept), c .before .pre .kept .low)
 
 loop-holds : tie.Need-loop-holds Inv-loop μ-loop
 unfolding everyBelow
 loop-holds c = (c .count .ensures, omega arith, refl)
 
 message-to-item-requires : tie.Need-message-to-item-requires Inv-loop μ-loop
-message-to-item-requires c κs = record { kept = c .before .before .before .before .pre; inside = omega arith }
+message-to-item-requires c κs = record { kept = c .before .before .before .before .pre .kept; inside = omega arith }
 
 entry-names-requires : tie.Need-entry-names-requires Inv-loop μ-loop
-entry-names-requires c κs = search needs
+entry-names-requires c κs = c .before .before .before .before .before .pre .low
+
+-- whether the entry at which the loop stands names the session
+here : (c : tie.After-entry-names Inv-loop μ-loop)
+    → (let a = c .before .before .before .before .before .before .args in c .entry-names .result ≡ entryNames (a .t) (entryAt (a .mail .now) (c .before .before .before .loop .k)))
+here c =
+    let s = c .before .before .before .before .before .before in
+    let k = c .before .before .before .loop .k in
+    c .entry-names .ensures (entryAt (s .args .mail .now) k) (s .pre .plain k (omega arith)) (c .before .message-to-item .ensures)
 
 returns : tie.Need-returns Inv-loop μ-loop
 returns c =
     let a = c .before .before .before .before .before .before .before .args in
     let l = c .before .before .before .before .loop in
-    let named : entryNames (a .t) (entryAt (a .mail .now) (l .k)) ≡ true = sym (c .before .entry-names .ensures _ (c .before .before .message-to-item .ensures)) ∙ c .if1 .taken in
-    sym (no-entry (a .t) (a .mail .now) ∙ below-false (countOf (a .mail .now)) (l .k) (free (a .t) (a .mail .now)) (omega arith) (ap not named))
+    sym (no-entry (a .t) (a .mail .now) ∙ below-false (countOf (a .mail .now)) (l .k) (free (a .t) (a .mail .now)) (omega arith) (ap not (sym (here (c .before)) ∙ c .if1 .taken)))
 
 add-k : tie.Need-add-k Inv-loop μ-loop
 add-k c = search needs
@@ -54,12 +61,7 @@ loop-less : tie.Need-loop-less Inv-loop μ-loop
 loop-less c = search needs
 
 loop-again : tie.Need-loop-again Inv-loop μ-loop
-loop-again c =
-    let a = c .before .before .before .before .before .before .before .args in
-    let l = c .before .before .before .before .loop in
-    let v = l .inv in
-    let named = c .before .entry-names .ensures (entryAt (a .mail .now) (l .k)) (c .before .before .message-to-item .ensures) in
-    (v .0, omega arith, rw (below-more, v .2, ← named, c .if1 .left) refl)
+loop-again c = let v = c .before .before .before .before .loop .inv in (v .0, omega arith, rw (below-more, v .2, ← here (c .before), c .if1 .left) refl)
 
 returns-2 : tie.Need-returns-2 Inv-loop μ-loop
 returns-2 c =
