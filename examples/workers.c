@@ -172,7 +172,8 @@ static uint32_t seed;
 static time_t end;
 
 /* One piece of work after the other, each until it is committed, as long as
- * there is time. */
+ * there is time. A junior worker may be rolled back many times; at the latest it
+ * gets through when the others have stopped. */
 static void *work(void *unused)
 {
     unsigned items[ITEMS], session;

@@ -61,10 +61,10 @@
  * Seniority decides who is rolled back, and who of those in its wait queue holds
  * an item next when its release arrives; and the text of a cycle begins with the
  * most senior member. Who came first does not matter: a session in the queue can
- * be passed over by senior ones that come later, by each at most once until it
- * is reopened. Where senior sessions are reopened again and again, a junior one
- * may wait without end or be rolled back each time. Work that was rolled back
- * may go on under another number, a more senior one that is free.
+ * be passed over by senior ones that come later, and by the same one again only
+ * after that one was reopened. Where senior sessions are reopened again and
+ * again, a junior one may wait without end or be rolled back each time. Work that
+ * was rolled back may go on under another number, a more senior one that is free.
  *
  * Every session has a rank, and rank 1 is the most senior. By default session k
  * has rank k (lockmgr_default_options): session 1 is the most senior, the
@@ -170,19 +170,25 @@
  *   - no session stores a probe that has it as initiator or junior.
  *
  * Otherwise the call is refused with LOCKMGR_IN_USE; so it is for a session that
- * is growing, which needs no reopening. What you usually have to do: after the
- * last release deliver until the mail is empty, then reopen.
+ * is growing, which needs no reopening. A refusal changes nothing: deliver on and
+ * try again. What you usually do is to deliver until the mail is empty after the
+ * last release, and then to reopen:
  *
  *   answer = lockmgr_step(LOCKMGR_RELEASE, 1, 3,
  *                         table, sizeof table, mail, sizeof mail);
  *   drained = lockmgr_drain(UINT64_MAX, table, sizeof table, mail, sizeof mail);
- *   if (drained.ending == LOCKMGR_DRAIN_EMPTY && lockmgr_finished(table, 1))
- *       refusal = lockmgr_reopen(1, table, sizeof table, mail, sizeof mail);
+ *   if (drained.ending == LOCKMGR_DRAIN_EMPTY && lockmgr_finished(table, 1)) {
+ *       uint8_t refusal = lockmgr_reopen(1, table, sizeof table,
+ *                                        mail, sizeof mail);
+ *       if (refusal != LOCKMGR_ACCEPTED)
+ *           ...
+ *   }
  *
  * On a lock manager that was started the last two conditions have always held
  * where the first two did. So with an empty mail every session whose work is
- * over can be reopened. This was tried in all states of small lock managers; it
- * is not proved.
+ * over can be reopened. This was tried in all states of small lock managers,
+ * before there were ranks, and in long random runs with any ranks; it is not
+ * proved.
  *
  * What is guaranteed holds with reopening at any place among the calls. A
  * session counts as rolled back each time it comes to LOCKMGR_ROLLED_BACK.
@@ -256,7 +262,9 @@
  * 1 and 2 take turns on item 1 by release, reopening and request; each turn
  * leaves a resend for session 3, which is not delivered. Then both ask for item
  * 2, and each resend would send two messages. With these 3 sessions and 2 items
- * a mailbox of 4096 messages is jammed after 26,634 calls.
+ * a mailbox of 4096 messages is jammed after 26,634 calls. Both rules keep clear
+ * of this: under either the resend is delivered before the messages of the next
+ * turn.
  *
  * If every delivery is refused all the same, or a drain ends with
  * LOCKMGR_DRAIN_FULL, move the mail into a larger buffer with
@@ -1042,7 +1050,8 @@ static inline uint64_t lockmgr_drain_bound(uint64_t sessions, uint64_t items, ui
  * length of its capacity or has more messages than that, the new capacity is
  * below the old one or above LOCKMGR_MAX_CAPACITY, or
  *     larger_len != LOCKMGR_MAIL_SIZE(capacity).
- * Then nothing is written. The messages are not judged; the next step or drain does.
+ * Then nothing is written. The messages are not judged here; the next call that
+ * is lent the mail judges them.
  */
 static inline uint8_t lockmgr_enlarge_mail(const uint8_t *mail, size_t mail_len, uint64_t capacity,
                                            uint8_t *larger, size_t larger_len)

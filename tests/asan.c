@@ -778,7 +778,7 @@ static void test_in_use(config c, unsigned stage)
     };
     for (size_t k = 0; k < LENGTH(messages); k++) {
         lockmgr_message n = messages[k];
-        put_message(m, count - 1, n.direction, n.session, item, n.kind, n.a, n.b);
+        put_message(m, count - 1, n.direction, n.session, n.item, n.kind, n.a, n.b);
         CHECK(reopen(last, m) == LOCKMGR_IN_USE);
     }
     put_message(m, count - 1, LOCKMGR_TO_SESSION, 1, item, LOCKMGR_MSG_CLEAN, 2, 1);

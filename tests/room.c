@@ -509,10 +509,10 @@ static void test_long_drain(void)
 static unsigned reopened;
 
 /* A request or a release at random, of one of so many items, or a reopening. */
-static void random_call(unsigned items)
+static void random_call(unsigned sessions, unsigned items)
 {
     for (unsigned k = 0; k < 8; k++) {
-        unsigned session = between(1, S), item = between(1, items);
+        unsigned session = between(1, sessions), item = between(1, items);
         unsigned stage = lockmgr_stage(table, ranked(session));
         int held = lockmgr_holds(table, ranked(session), item);
         if (lockmgr_finished(table, ranked(session))) {
@@ -549,12 +549,12 @@ static void test_rule_1(void)
         static const order orders[] = {any, oldest, spreading_last};
         start(S, M, ENOUGH);
         for (unsigned k = 0; k < 400; k++) {
-            random_call(few_or_many(run));
+            random_call(S, few_or_many(run));
             CHECK(drain(orders[run % LENGTH(orders)]));
         }
         most = peak > most ? peak : most;
     }
-    CHECK(most <= 4 * S + M && reopened > 0);
+    CHECK(most <= 4 * S + M && reopened > 100);
     printf("rule 1, random runs: at most %u messages, %u reopenings\n", most, reopened);
 }
 
@@ -569,13 +569,35 @@ static void test_rule_2(void)
             if (count() > 0 && between(0, 11) > run)
                 CHECK(deliver(0) == LOCKMGR_ACCEPTED);
             else
-                random_call(few_or_many(run));
+                random_call(S, few_or_many(run));
         }
         CHECK(drain(oldest));
         most = peak > most ? peak : most;
     }
-    CHECK(most <= 4 * S + M && reopened > 0);
+    CHECK(most <= 4 * S + M && reopened > 30);
     printf("rule 2, random runs: at most %u messages, %u reopenings\n", most, reopened);
+}
+
+/* Few sessions, which are reopened again and again, with 4 S + M messages. */
+static void test_small(unsigned rule)
+{
+    random_state = 9;
+    reopened = 0;
+    for (unsigned run = 0; run < 60; run++) {
+        unsigned sessions = between(2, 12), items = between(1, 8);
+        start(sessions, items, 4 * sessions + items);
+        for (unsigned k = 0; k < 1500; k++) {
+            random_call(sessions, items);
+            if (rule == 1)
+                CHECK(drain(any));
+            else
+                while (count() > 0 && between(1, 5) > 1)
+                    CHECK(deliver(0) == LOCKMGR_ACCEPTED);
+        }
+        CHECK(drain(oldest));
+    }
+    CHECK(reopened > 1000);
+    printf("rule %u, small: 4 S + M messages, %u reopenings\n", rule, reopened);
 }
 
 int main(void)
@@ -596,6 +618,8 @@ int main(void)
         test_long_drain();
         test_rule_1();
         test_rule_2();
+        test_small(1);
+        test_small(2);
     }
     return verdict();
 }

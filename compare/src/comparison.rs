@@ -319,7 +319,9 @@ impl Comparison {
         };
         if !right {
             let sizes = sizes(buffers);
-            return Err(format!("{call} {sizes}: bytes beside its record"));
+            return Err(format!(
+                "{call} {sizes}: other bytes than a reopening leaves"
+            ));
         }
         self.coverage.reopen(session, buffers, expected);
         std::mem::swap(buffers, &mut self.after);

@@ -5,7 +5,7 @@
 //! then.
 
 use crate::comparison::{held, queue, Buffers};
-use crate::forge::{breaks, Named, Part, NAMED, RANK_BREAKS};
+use crate::forge::{breaks, named_by, Named, NAMED, RANK_BREAKS};
 use crate::numbers::{
     delivered_direction, kind, CLEANING, DELIVER_TO_ITEM, GROWING, RELEASE, REQUEST, ROLLED_BACK,
     SHRINKING, TO_ITEM, TO_SESSION, WAITING, WITHDRAWING,
@@ -25,6 +25,10 @@ pub const AT_LEAST: u64 = 1_000;
 /// Each rule that is settled by seniority must be met this often against the
 /// session numbers.
 const BY_RANK_AT_LEAST: u64 = 50;
+
+/// So often must one session be used again in a list from a start, and so often
+/// each of what happens in such lists be met.
+const REUSED_AT_LEAST: u64 = 2_000;
 
 /// The calls and the refusals that each can give.
 const CALLS: [(&str, &[Refusal]); 6] = [
@@ -388,7 +392,7 @@ const NOT_REOPENED: &[&str] = &[
 const REUSED: &[&str] = &[
     "reopened, shrinking",
     "reopened, rolled back",
-    "reopened again, rolled back again",
+    "reopened again, after a rollback",
     "reopened beside messages of others",
     "not reopened",
     REUSED_STEPS,
@@ -516,7 +520,7 @@ impl Coverage {
                 ..Group::new("Not reopened", NOT_REOPENED)
             },
             reused: Group {
-                at_least: AT_LEAST,
+                at_least: REUSED_AT_LEAST,
                 ..Group::new("Lists from a start with reopenings", REUSED)
             },
         }
@@ -584,7 +588,7 @@ impl Coverage {
             _ => "reopened, rolled back",
         });
         if stage == ROLLED_BACK && times > 0 {
-            reused.hit("reopened again, rolled back again");
+            reused.hit("reopened again, after a rollback");
         }
         if messages > 0 {
             reused.hit("reopened beside messages of others");
@@ -1295,25 +1299,6 @@ fn names_of(buffers: &Buffers, session: u8) -> Vec<Named> {
         }
     }
     names
-}
-
-/// Where a message names a session.
-fn named_by(buffers: &Buffers, place: usize, session: u8) -> Vec<Named> {
-    let (route, body) = (buffers.route(place), buffers.body(place));
-    let (direction, kind) = (route[DIRECTION], body[KIND]);
-    let in_route = route[ROUTE_SESSION] == session;
-    // An abort goes to its a.
-    let in_a = body[BODY_A] == session && !(in_route && kind == kind::ABORT);
-    let in_b = body[BODY_B] == session;
-    [(in_route, Part::Route), (in_a, Part::A), (in_b, Part::B)]
-        .into_iter()
-        .filter(|&(named, _)| named)
-        .map(|(_, part)| Named::Message {
-            part,
-            direction,
-            kind,
-        })
-        .collect()
 }
 
 /// Buffers of accepted calls, with S, M and C as large as can be.

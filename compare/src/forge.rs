@@ -383,9 +383,23 @@ pub const NAMED: [(&str, Named); 27] = [
     ("probe of its own: junior", probe(true, false)),
 ];
 
-/// Whether a message names a session: a and b are zeros where they are none.
-fn names(route: &[u8], body: &[u8], session: u8) -> bool {
-    [route[ROUTE_SESSION], body[BODY_A], body[BODY_B]].contains(&session)
+/// Where a message names a session: a and b are zeros where they are none.
+pub fn named_by(buffers: &Buffers, place: usize, session: u8) -> Vec<Named> {
+    let (route, body) = (buffers.route(place), buffers.body(place));
+    let (direction, kind) = (route[DIRECTION], body[KIND]);
+    let in_route = route[ROUTE_SESSION] == session;
+    // An abort goes to its a.
+    let in_a = body[BODY_A] == session && !(in_route && kind == kind::ABORT);
+    let in_b = body[BODY_B] == session;
+    [(in_route, Part::Route), (in_a, Part::A), (in_b, Part::B)]
+        .into_iter()
+        .filter(|&(named, _)| named)
+        .map(|(_, part)| Named::Message {
+            part,
+            direction,
+            kind,
+        })
+        .collect()
 }
 
 /// Well-formed buffers that do not name this session, which is shrinking and holds
@@ -418,7 +432,7 @@ pub fn reopenable(
         set_queue(record, &queue);
     }
     for place in 0..buffers.count() {
-        while names(buffers.route(place), buffers.body(place), session) {
+        while !named_by(&buffers, place, session).is_empty() {
             let (route, body) = message(random, config);
             buffers.set_message(place, route, body);
         }

@@ -151,8 +151,8 @@ impl Misreading {
     /// each.
     pub const OF_F7: [Misreading; 2] = [Misreading::MailUnseen, Misreading::ResetsRank];
 
-    /// Those of F-7 under which demand 3 holds too; answers or bytes differ, mostly
-    /// on forged buffers alone.
+    /// Those of F-7 that the check of demand 3 does not show; answers or bytes differ,
+    /// mostly on forged buffers alone.
     pub const OF_F7_IN_BYTES: [Misreading; 15] = [
         Misreading::UnseenAsA,
         Misreading::UnseenAsB,

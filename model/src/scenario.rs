@@ -218,7 +218,9 @@ pub fn run_reopening(seed: u64, misreading: Misreading, steps: u64) -> Result<Co
     while desk.counts.steps < steps && desk.counts.stuck == 0 {
         desk.play()?;
     }
-    desk.deliver_all()?;
+    if desk.counts.stuck == 0 {
+        desk.deliver_all()?;
+    }
     Ok(desk.counted())
 }
 
@@ -439,15 +441,13 @@ impl Desk {
         Ok(())
     }
 
-    /// A reopening, mostly of a session that is done, if there is one, then the
-    /// check.
+    /// A reopening, mostly of a session whose work is over, if there is one, then
+    /// the check. By the rules it is refused to such a session only where a message
+    /// names it.
     fn reopen(&mut self) -> Result<(), String> {
         let records = self.records()?;
-        let done = |&session: &u64| {
-            let record = records.session(session as u8);
-            matches!(record.stage, Stage::Shrinking | Stage::RolledBack) && record.held == 0
-        };
-        let choices: Vec<u64> = (1..=self.config.sessions).filter(done).collect();
+        let over = |&session: &u64| records.session(session as u8).may_reopen(Misreading::None);
+        let choices: Vec<u64> = (1..=self.config.sessions).filter(over).collect();
         let session = match self.random.pick(&choices) {
             _ if self.random.one_in(10) => self.random.between(0, self.config.sessions + 1),
             Some(&session) => session,
@@ -460,12 +460,31 @@ impl Desk {
             (&before, &self.mail),
             (&self.table, &self.mail),
         )?;
-        self.counts.in_use += u64::from(refusal == Refusal::InUse as u8);
+        let in_use = refusal == Refusal::InUse as u8;
+        self.counts.in_use += u64::from(in_use);
+        if in_use && choices.contains(&session) && self.misreading == Misreading::None {
+            self.check_named(session as u8)?;
+        }
         if let (ACCEPTED, Some(reopened)) = (refusal, &mut self.reopened) {
             reopened[session as usize - 1] += 1;
             self.counts.reopened_beside_mail += u64::from(count(&self.mail) != 0);
         }
         Ok(())
+    }
+
+    /// A message names the session.
+    fn check_named(&self, session: u8) -> Result<(), String> {
+        let Config {
+            sessions, items, ..
+        } = self.config;
+        let mailbox = Mailbox::decode(&self.mail, sessions as usize, items as usize)
+            .ok_or("the mail is not well-formed")?;
+        if mailbox.names(session, Misreading::None) {
+            return Ok(());
+        }
+        Err(format!(
+            "session {session}, which no message names, is in use"
+        ))
     }
 
     /// Deliveries alone, in the order of some schedule, until the mail is empty.

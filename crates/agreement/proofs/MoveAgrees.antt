@@ -26,7 +26,7 @@ use Rattle.deadlock.specs.Lists.{updated}
 use Rattle.deadlock.specs.Machine
 use Rattle.wellformed.specs.Records.{LockWellFormed}
 use Rattle.agreement.specs.Reading.{readStage, readHolder, readHeld, readSession, readItem, readMessage, readSessionStep, readItemStep, readEntries, readSessions, readItems, readState, directionOf, rules}
-use Rattle.agreement.proofs.ReadingSession.{held-none, stored-none}
+use Rattle.agreement.proofs.ReadingSession.{fresh-read}
 use Rattle.mailbox.proofs.EntryLaws.{entry-facts}
 use Rattle.agreement.proofs.ItemAgrees.{item-agrees}
 use Rattle.wellformed.proofs.Items.{ItemKept, item-kept}
@@ -43,14 +43,11 @@ pub sessions-replaced : (S : ℕ) (f g : ℕ → Session) (t : ℕ) (s : Session
 unfolding readSessions updated
 sessions-replaced S f g t s r h = fun-ext (λ k. go k (eqb t k) refl)
   where
-    start : Machine.Session
-    start = record { stage = Machine.growing; held = λ (_ : ℕ). false; stored = λ (_ : ℕ). 0 }
-
-    other : (k : ℕ) (b : Bool) → between 1 S k ≡ b → (t ≡ k → ⊥) → cond b (readSession (g k)) start ≡ cond b (readSession (f k)) start
+    other : (k : ℕ) (b : Bool) → between 1 S k ≡ b → (t ≡ k → ⊥) → cond b (readSession (g k)) Machine.fresh ≡ cond b (readSession (f k)) Machine.fresh
     other k false e n = refl
     other k true e n = ap readSession (h .elsewhere k e n)
 
-    go : (k : ℕ) (b : Bool) → eqb t k ≡ b → cond (between 1 S k) (readSession (g k)) start ≡ cond b (readSession s) (cond (between 1 S k) (readSession (f k)) start)
+    go : (k : ℕ) (b : Bool) → eqb t k ≡ b → cond (between 1 S k) (readSession (g k)) Machine.fresh ≡ cond b (readSession s) (cond (between 1 S k) (readSession (f k)) Machine.fresh)
     go k true e = rw (← eqb-true t k e, r, h .here) refl
     go k false e = other k (between 1 S k) refl (eqb-false t k e)
 
@@ -260,12 +257,9 @@ module _ (S M : ℕ) (sessions : ℕ → Session) (locks : ℕ → Lock) (fresh 
   unfolding Machine.start readSessions readItems readEntries readStage readHolder
   start-agrees senior next = λ i. record { session = fun-ext (λ t. one t (between 1 S t) refl) i; item = fun-ext (λ x. other x (between 1 M x) refl) i; mailbox = [] }
     where
-      start : Machine.Session
-      start = record { stage = Machine.growing; held = λ (_ : ℕ). false; stored = λ (_ : ℕ). 0 }
-
-      one : (t : ℕ) (b : Bool) → between 1 S t ≡ b → cond b (readSession (sessions t)) start ≡ start
+      one : (t : ℕ) (b : Bool) → between 1 S t ≡ b → cond b (readSession (sessions t)) Machine.fresh ≡ Machine.fresh
       one t false e = refl
-      one t true e = ap readSession (fresh t e) ∙ (λ i. record { stage = Machine.growing; held = held-none i; stored = stored-none i })
+      one t true e = ap readSession (fresh t e) ∙ fresh-read
 
       other : (x : ℕ) (b : Bool) → between 1 M x ≡ b → cond b (readItem (locks x)) (record { holder = none; queue = [] }) ≡ record { holder = none; queue = [] }
       other x false e = refl

@@ -23,7 +23,7 @@ use Rattle.session.specs.Record as SessionRecord
 use Rattle.session.specs.Rules as SessionRules
 use Rattle.deadlock.specs.Lists.{updated, oneTo}
 use Rattle.deadlock.specs.Machine
-use Rattle.agreement.specs.Reading.{readHeld, readStored, readMessage, readSends}
+use Rattle.agreement.specs.Reading.{readStage, readHeld, readStored, readSession, readMessage, readSends}
 
 module _ (x mask : ℕ) (low : 1 ≤ x) (high : x ≤ 64) where
   -- the mask with x in it
@@ -58,6 +58,11 @@ getD-zeros (suc n) (suc i) = getD-zeros n i
 pub stored-none : readStored SessionRecord.none ≡ (λ (_ : ℕ). 0)
 unfolding readStored
 stored-none = fun-ext (λ i. rw (getD-zeros 64 (i - 1)) (cond-same (between 1 64 i) 0))
+
+-- a session that was just started or reopened
+pub fresh-read : readSession SessionRecord.fresh ≡ Machine.fresh
+unfolding readStage
+fresh-read = λ i. record { stage = Machine.growing; held = held-none i; stored = stored-none i }
 
 module _ (js : List ℕ) (i : ℕ) (low : 1 ≤ i) (high : i ≤ 64) where
   pub stored-read : readStored js i ≡ getD js (i - 1) 0

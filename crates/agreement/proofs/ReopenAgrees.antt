@@ -15,20 +15,16 @@ use Rattle.session.specs.declared.Session.{Session}
 use Rattle.session.specs.Record as SessionRecord
 use Rattle.session.specs.Rules as SessionRules
 use Rattle.item.specs.Record.{Lock}
-use Rattle.reopen.specs.Reopening.{isOver, entryNames}
+use Rattle.reopen.specs.Reopening.{isOver, entryNames, noEntryNames}
 use Rattle.wellformed.proofs.Sessions.{fresh-formed}
 use Rattle.deadlock.specs.Machine
 use Rattle.agreement.specs.Reading.{readStage, readHolder, readSession, readItem, readSends, readSessions, readEntries, readItems, readState, rules}
-use Rattle.agreement.proofs.ReadingSession.{held-none, stored-none}
+use Rattle.agreement.proofs.ReadingSession.{fresh-read}
 use Rattle.agreement.proofs.MoveAgrees.{Replaced, StateWellFormed, session-at, session-state, session-state-kept}
 
 -- the record begins anew, and nothing is sent
-abbrev pub begun : SessionRules.After
-begun = SessionRules.after SessionRecord.fresh []
-
-begun-read : readSession SessionRecord.fresh ≡ Machine.fresh
-unfolding readStage
-begun-read = λ i. record { stage = Machine.growing; held = held-none i; stored = stored-none i }
+abbrev pub reopened : SessionRules.After
+reopened = SessionRules.after SessionRecord.fresh []
 
 over-read : (s : Session) → isOver s ≡ true → Machine.isOver (readSession s .stage) ≡ true
 unfolding isOver readStage
@@ -40,19 +36,19 @@ over-read s h = go (eqb (s .stage) Stage.rolledBack) refl h
         let shrinks = and-both (eqb (s .stage) Stage.shrinking) (eqb (s .held) 0) (sym (or-false (eqb (s .stage) Stage.shrinking && eqb (s .held) 0)) ∙ h) .0 in
         rw (eqb-true (s .stage) Stage.shrinking shrinks) refl
 
-entries-read : (t : ℕ) (l : List Entry) → all (λ e. not (entryNames t e)) l ≡ true → all (λ (e : Machine.Entry). not (eqb t (e .session))) (readEntries l) ≡ true
-unfolding all readEntries entryNames
+entries-read : (t : ℕ) (l : List Entry) → noEntryNames t l ≡ true → all (λ (e : Machine.Entry). not (Machine.ofSession t e)) (readEntries l) ≡ true
+unfolding all readEntries noEntryNames entryNames Machine.ofSession
 entries-read t [] h = refl
 entries-read t (e ∷ l) h =
     let p = and-both (not (entryNames t e)) (all (λ e. not (entryNames t e)) l) h in
     let other = or-neither (eqb (e .session) t) _ (not-true _ (p .0)) .0 in
     and-intro (ap not (ne-eqb t (e .session) (λ q. eqb-false (e .session) t other (sym q)))) (entries-read t l (p .1))
 
--- the item's holder is another session, and it does not stand in the queue
-abbrev pub Free : ℕ → Lock → Type 0
-Free t k = not (eqb (k .holder) t || member t (k .queue)) ≡ true
+-- session t is not the holder and does not stand in the queue
+abbrev pub Unnamed : ℕ → Lock → Type 0
+Unnamed t k = not (eqb (k .holder) t || member t (k .queue)) ≡ true
 
-item-read : (t : ℕ) (k : Lock) → Free t k → not (Machine.itemNames t (readItem k)) ≡ true
+item-read : (t : ℕ) (k : Lock) → Unnamed t k → not (Machine.itemNames t (readItem k)) ≡ true
 unfolding Machine.itemNames readHolder Machine.heldBy
 item-read t k h =
     let n = or-neither (eqb (k .holder) t) (member t (k .queue)) (not-true _ h) in
@@ -67,23 +63,23 @@ module _ (senior : ℕ → ℕ → Bool) (next : List ℕ → ℕ) (S M : ℕ)
   abbrev before : Machine.State
   before = readState S M sessions locks l
 
-  items-read : ((x : ℕ) → 1 ≤ x → x ≤ M → Free t (locks x)) → every M (λ (x : ℕ). not (Machine.itemNames t (readItems M locks x))) ≡ true
+  items-read : ((x : ℕ) → 1 ≤ x → x ≤ M → Unnamed t (locks x)) → every M (λ (x : ℕ). not (Machine.itemNames t (readItems M locks x))) ≡ true
   unfolding readItems
   items-read h = every-intro M _ (λ x low high. rw (between-intro 1 M x low high) (item-read t (locks x) (h x low high)))
 
   -- what the records allow, the machine allows
-  allowed : isOver (sessions t) ≡ true → all (λ e. not (entryNames t e)) l ≡ true → ((x : ℕ) → 1 ≤ x → x ≤ M → Free t (locks x)) → Machine.mayReopen R before t ≡ true
+  allowed : isOver (sessions t) ≡ true → noEntryNames t l ≡ true → ((x : ℕ) → 1 ≤ x → x ≤ M → Unnamed t (locks x)) → Machine.mayReopen R before t ≡ true
   unfolding Machine.mayReopen
   allowed over entries items =
       let stage : Machine.isOver (readSessions S sessions t .stage) ≡ true = rw (session-at S sessions t t-range) (over-read (sessions t) over) in
       and-intro stage (and-intro (entries-read t l entries) (items-read items))
 
-  pub reopen-move : isOver (sessions t) ≡ true → all (λ e. not (entryNames t e)) l ≡ true → ((x : ℕ) → 1 ≤ x → x ≤ M → Free t (locks x))
+  pub reopen-move : isOver (sessions t) ≡ true → noEntryNames t l ≡ true → ((x : ℕ) → 1 ≤ x → x ≤ M → Unnamed t (locks x))
       → (g : ℕ → Session) → Replaced S sessions g t SessionRecord.fresh
-      → readState S M g locks (l ++ map (fromSession t) (begun .sends)) ≡ Machine.move R before (Machine.reopen t)
+      → readState S M g locks (l ++ map (fromSession t) (reopened .sends)) ≡ Machine.move R before (Machine.reopen t)
   unfolding Machine.move Machine.afterAnswer Machine.onReopenCall readSends
-  reopen-move over entries items g h = rw (allowed over entries items, ← begun-read) (session-state S M sessions locks l w t t-range l begun g h)
+  reopen-move over entries items g h = rw (allowed over entries items, ← fresh-read) (session-state S M sessions locks l w t t-range l reopened g h)
 
-  pub reopen-move-kept : (g : ℕ → Session) → Replaced S sessions g t SessionRecord.fresh → StateWellFormed S M g locks (l ++ map (fromSession t) (begun .sends))
+  pub reopen-move-kept : (g : ℕ → Session) → Replaced S sessions g t SessionRecord.fresh → StateWellFormed S M g locks (l ++ map (fromSession t) (reopened .sends))
   reopen-move-kept g h =
-      session-state-kept S M sessions locks l w t t-range l (w .entries) begun (record { session = fresh-formed S M; juniors = refl; sends = all-none _ }) g h
+      session-state-kept S M sessions locks l w t t-range l (w .entries) reopened (record { session = fresh-formed S M; juniors = refl; sends = all-none _ }) g h

@@ -1,5 +1,5 @@
 -- How a record of the lock manager is read as the abstract machine's.
-use mathlib.Core.Bool.{Bool, false, cond, _&&_}
+use mathlib.Core.Bool.{Bool, cond, _&&_}
 use mathlib.Core.List.{List, [], _∷_}
 use mathlib.Core.Option.{Option, none, some}
 use Prim.Native.Nat.{ℕ, _-_}
@@ -92,7 +92,7 @@ directionOf d = cond d toItem toSession
 -- of S sessions and M items: the others are as at the start
 unfoldable pub readSessions : ℕ → (ℕ → Session) → ℕ → Machine.Session
 readSessions S sessions t =
-    cond (between 1 S t) (readSession (sessions t)) (record { stage = Machine.growing; held = λ (_ : ℕ). false; stored = λ (_ : ℕ). 0 })
+    cond (between 1 S t) (readSession (sessions t)) Machine.fresh
 
 unfoldable pub readItems : ℕ → (ℕ → Lock) → ℕ → Machine.Item
 readItems M locks x = cond (between 1 M x) (readItem (locks x)) (record { holder = none; queue = [] })

@@ -1,4 +1,4 @@
--- A list of calls is a run of the machine: its single steps that are not refused, in order. The counts agree.
+-- A list of calls is a run of the machine: its single steps and reopenings that are not refused, in order. The counts agree.
 use mathlib.Core.Path.{_≡_, refl, ap}
 use mathlib.Core.Bool.{Bool, true, _&&_, and-false}
 use mathlib.Core.List.{List, [], _∷_, _++_}
@@ -58,7 +58,7 @@ pub record Followed (conf : Config) (s : Machine.State) (end : Buffers) (steps :
   pub rolls : j + rolledBack steps ≡ Machine.countRolledBack (ran conf s run .events)
 
 -- nothing is done
-pub none-followed : (conf : Config) (table : List ℕ) (l : List Entry) → Good conf table l
+none-followed : (conf : Config) (table : List ℕ) (l : List Entry) → Good conf table l
     → Followed conf (stateOf conf table l) (buffers table (Mail.mailBytes (conf .capacity) l)) [] 0 0
 unfolding closed rolledBack Machine.run Machine.countClosed Machine.countRolledBack
 none-followed conf table l g = record { run = []; entries = l; mail = refl; good = g; state = refl; closes = refl; rolls = refl }

@@ -7,7 +7,7 @@ use Prim.Native.Nat.{ℕ, _≤_}
 use lib.Dec.{eqb}
 use lib.ListN.{length}
 use borrow.Author.Tests.{eqb-true}
-use Rattle.lists.specs.Lists.{between, all}
+use Rattle.lists.specs.Lists.{between}
 use Rattle.lists.proofs.Searches.{every-at}
 use Rattle.lists.proofs.Tests.{and-both, by-test}
 use Rattle.session.specs.Stage
@@ -18,30 +18,29 @@ use Rattle.mailbox.specs.Layout as Mail
 use Rattle.mailbox.proofs.Laws as MailLaws
 use Rattle.table.specs.Layout as Table
 use Rattle.waits.specs.OnTable.{locks}
-use Rattle.reopen.specs.Reopening.{isOver, itemNames, entryNames, noProbeNames, noItemNames, noEntryNames, mayReopen, Reopened, reopened}
+use Rattle.reopen.specs.Reopening.{isOver, itemNames, noProbeNames, noItemNames, noEntryNames, mayReopen, Reopened, reopened}
 use Rattle.lockmgr.specs.Calls.{Config, reopenRefusal, reopen}
-use Rattle.lockmgr.specs.Run.{Buffers, buffers}
+use Rattle.lockmgr.specs.Run.{buffers}
 use Rattle.lockmgr.proofs.Judging.{reopen-zero}
 use Rattle.deadlock.specs.Machine
 use Rattle.agreement.specs.Reading.{readState}
 use Rattle.agreement.proofs.MoveAgrees.{Replaced, StateWellFormed}
 use Rattle.agreement.proofs.ReopenAgrees as Agrees
-use Rattle.agreement.proofs.ReopenAgrees.{begun}
 use Rattle.clause.proofs.State
 use Rattle.clause.proofs.State.{seniorOf, nextOf, machineOf, stateOf, Good}
 use Rattle.clause.proofs.Moves.{Moved, session-moved, session-call}
 use Rattle.clause.proofs.Step.{quiet}
 
--- what a session knows that may be reopened
-record May (t : ℕ) (table mail : List ℕ) : Type 0 where
+-- what is known of a session that may be reopened
+record Reopenable (t : ℕ) (table mail : List ℕ) : Type 0 where
   pub over : isOver (Table.session table t) ≡ true
   pub items : (x : ℕ) → 1 ≤ x → x ≤ Table.itemsOf table → not (itemNames t (Table.item table x)) ≡ true
-  pub entries : all (λ e. not (entryNames t e)) (Mail.entriesOf mail) ≡ true
+  pub entries : noEntryNames t (Mail.entriesOf mail) ≡ true
 
-may : (t : ℕ) (table mail : List ℕ) → mayReopen t table mail ≡ true → May t table mail
-unfolding mayReopen noItemNames noEntryNames
-may t table mail e =
-    let last = and-both (isOver (Table.session table t) && noProbeNames t table && noItemNames t table) (noEntryNames t mail) e in
+reopenable : (t : ℕ) (table mail : List ℕ) → mayReopen t table mail ≡ true → Reopenable t table mail
+unfolding mayReopen noItemNames
+reopenable t table mail e =
+    let last = and-both (isOver (Table.session table t) && noProbeNames t table && noItemNames t table) (noEntryNames t (Mail.entriesOf mail)) e in
     let third = and-both (isOver (Table.session table t) && noProbeNames t table) (noItemNames t table) (last .0) in
     let first = and-both (isOver (Table.session table t)) (noProbeNames t table) (third .0) in
     record { over = first .0; items = every-at (Table.itemsOf table) _ (third .1); entries = last .1 }
@@ -59,17 +58,17 @@ module _ (conf : Config) (table : List ℕ) (l : List Entry) (g : Good conf tabl
     pub moved : Moved conf table l (buffers after (Mail.mailBytes (conf .capacity) k))
     pub nothing : moved .event ≡ Machine.nothing
 
-  module _ (r : between 1 (conf .sessions) t ≡ true) (p : May t table mail) where
-    items : (x : ℕ) → 1 ≤ x → x ≤ conf .items → Agrees.Free t (locks table x)
+  module _ (r : between 1 (conf .sessions) t ≡ true) (p : Reopenable t table mail) where
+    items : (x : ℕ) → 1 ≤ x → x ≤ conf .items → Agrees.Unnamed t (locks table x)
     unfolding locks itemNames
     items x low high = p .items x low (rw (g .items) high)
 
-    entries : all (λ e. not (entryNames t e)) l ≡ true
+    entries : noEntryNames t l ≡ true
     entries = rw (MailLaws.entries-mail (conf .capacity) l (g .low) (g .high) (g .room)) at (p .entries)
 
     -- nothing is sent
     abbrev sent : List Entry
-    sent = l ++ map (fromSession t) (begun .sends)
+    sent = l ++ map (fromSession t) (Agrees.reopened .sends)
 
     abbrev Put : (ℕ → Session) → Type 0
     Put f = Replaced (conf .sessions) (Table.session table) f t SessionRecord.fresh
@@ -92,8 +91,8 @@ module _ (conf : Config) (table : List ℕ) (l : List Entry) (g : Good conf tabl
     done : ReopenMoved sent
     unfolding Machine.ofMachine Machine.eventOf
     done =
-        let m = session-moved conf table l g t r (Machine.reopen t) r l begun fits kept moves happens in
-        let call = session-call conf table l g t r (Machine.reopen t) r l begun fits kept moves happens in
+        let m = session-moved conf table l g t r (Machine.reopen t) r l Agrees.reopened fits kept moves happens in
+        let call = session-call conf table l g t r (Machine.reopen t) r l Agrees.reopened fits kept moves happens in
         record { moved = m; nothing = sym (m .happens) ∙ ap (λ (c : Machine.Call). Machine.eventOf (machineOf conf) (stateOf conf table l) c (stateOf conf after (m .entries))) call }
 
   -- whatever holds of a refused reopening, and of one that is a move of the machine, holds of a reopening
@@ -102,5 +101,5 @@ module _ (conf : Config) (table : List ℕ) (l : List Entry) (g : Good conf tabl
   by-reopen P refused moved =
       by-test P (eqb (reopenRefusal t table mail) 0)
       (λ e. let z = reopen-zero t table mail (eqb-true (reopenRefusal t table mail) 0 e) in
-      moved (subst ReopenMoved (append-nil l) (done (rw (g .sessions) at (z .0)) (may t table mail (z .1)))))
+      moved (subst ReopenMoved (append-nil l) (done (rw (g .sessions) at (z .0)) (reopenable t table mail (z .1)))))
       (λ _. refused (reopenRefusal t table mail))

@@ -183,10 +183,7 @@ module _ (conf : Config) (table : List ℕ) (l : List Entry) (g : Good conf tabl
     unfolding readSessions
     sessions-same = fun-ext (λ t. go t (between 1 (conf .sessions) t) refl)
       where
-        start : Machine.Session
-        start = record { stage = Machine.growing; held = λ (_ : ℕ). false; stored = λ (_ : ℕ). 0 }
-
-        go : (t : ℕ) (b : Bool) → between 1 (conf .sessions) t ≡ b → cond b (readSession (Table.session with-item t)) start ≡ cond b (readSession (Table.session table t)) start
+        go : (t : ℕ) (b : Bool) → between 1 (conf .sessions) t ≡ b → cond b (readSession (Table.session with-item t)) Machine.fresh ≡ cond b (readSession (Table.session table t)) Machine.fresh
         go t true e = ap readSession (session-same t e)
         go t false e = refl
 

@@ -83,6 +83,6 @@ reopen-call-covered {R} L s known tr cov rg t mail =
     by-test (CallCovered L known tr cov rg t mail) (mayReopen R s t) (λ e. unnamed-covered L known t (unnamed R s t e) tr cov rg mail) (λ _. tt)
 
 -- it is neither rolled back by the call nor leaving, before or after
-pub reopen-call-moves : (R : Rules) (s : State) (t : ℕ) → CallMoves R t 0 (s .session t) (s .session t .stage) (onReopenCall R s t)
+pub reopen-call-moves : (R : Rules) (s : State) (t : ℕ) → CallMoves (s .session t .stage) (onReopenCall R s t)
 unfolding onReopenCall
-reopen-call-moves R s t = by-test (CallMoves R t 0 (s .session t) (s .session t .stage)) (mayReopen R s t) (λ e. let o = unnamed R s t e .over in reopens (o .0) (o .1) refl) (λ _. tt)
+reopen-call-moves R s t = by-test (CallMoves (s .session t .stage)) (mayReopen R s t) (λ e. let o = unnamed R s t e .over in reopens (o .0) (o .1) refl) (λ _. tt)

@@ -43,7 +43,7 @@ pub data Message : Type 0 where
 pub data VictimPhase : Type 0 where
   cleaning withdrawing : VictimPhase
 
--- a session that requests no more: by its own release, or as a victim that was rolled back
+-- a session that requests no more until it is reopened: by its own release, or as a victim that was rolled back
 pub data ReleasePhase : Type 0 where
   shrinking rolledBack : ReleasePhase
 
@@ -144,12 +144,16 @@ isLive (waiting y) = true
 isLive (victim p y) = false
 isLive (releasing p) = false
 
--- the stages in which a session requests no more
+-- the stages of a session that releases, or was rolled back
 abbrev pub isOver : Stage → Bool
 isOver growing = false
 isOver (waiting y) = false
 isOver (victim p y) = false
 isOver (releasing p) = true
+
+-- a message comes from session t or goes to it
+unfoldable pub ofSession : ℕ → Entry → Bool
+ofSession t e = eqb t (e .session)
 
 -- session t holds the item or stands in its queue
 unfoldable pub itemNames : ℕ → Item → Bool
@@ -330,11 +334,11 @@ module _ (R : Rules) where
   onReleaseCall x r (releasing rolledBack) = refused
 
   -- ---- when a session may be reopened
-  -- it requests no more, no message is on its way to it or from it, and no item names it; a policy may ask for more
+  -- it releases or was rolled back, no message is on its way to it or from it, and no item names it; a policy may ask for more
   unfoldable pub mayReopen : State → ℕ → Bool
   mayReopen s t =
       isOver (s .session t .stage)
-      && (all (λ (e : Entry). not (eqb t (e .session))) (s .mailbox) && every (R .M) (λ (x : ℕ). not (itemNames t (s .item x))))
+      && (all (λ (e : Entry). not (ofSession t e)) (s .mailbox) && every (R .M) (λ (x : ℕ). not (itemNames t (s .item x))))
 
   -- it begins anew
   unfoldable pub onReopenCall : State → ℕ → Answer

@@ -34,16 +34,22 @@ module _ (verb t x : ℕ) (table mail : List ℕ) where
   unfolding step
   step-acts e = rw (e) refl
 
+-- where no cause lies in the buffers or behind them, the buffers are well-formed, and no cause lies behind
+buffers-then : (table mail : List ℕ) (behind : List Cause) → first (bufferCauses table mail ++ behind) ≡ 0 → Formed table mail × (first behind ≡ 0)
+buffers-then table mail behind e =
+    let s = unmet-not (Table.sized table && Mail.sized mail) 1 _ e in
+    let f = unmet-not (Table.wellFormed table) 2 _ (s .1) in
+    let g = unmet-not (Mail.wellFormed (Table.sessionsOf table) (Table.itemsOf table) mail) 3 _ (f .1) in
+    let sizes = and-both (Table.sized table) (Mail.sized mail) (s .0) in
+    (record { records = record { sized = sizes .0; formed = f .0 }; mail-sized = sizes .1; mail-formed = g .0 }, g .1)
+
 -- what a step knows that was judged
 pub judged-zero : (verb t x : ℕ) (table mail : List ℕ) → judged verb t x table mail ≡ 0 → (1 ≤ verb) × (verb ≤ 4) × Judged t x table mail
 unfolding judged
 judged-zero verb t x table mail e =
     let v = unmet-not (between 1 4 verb) 0 _ e in
-    let s = unmet-not (Table.sized table && Mail.sized mail) 1 _ (v .1) in
-    let f = unmet-not (Table.wellFormed table) 2 _ (s .1) in
-    let g = unmet-not (Mail.wellFormed (Table.sessionsOf table) (Table.itemsOf table) mail) 3 _ (f .1) in
-    let n = unmet-not (between 1 (Table.sessionsOf table) t && between 1 (Table.itemsOf table) x) 4 _ (g .1) in
-    let sizes = and-both (Table.sized table) (Mail.sized mail) (s .0) in
+    let f = buffers-then table mail _ (v .1) in
+    let n = unmet-not (between 1 (Table.sessionsOf table) t && between 1 (Table.itemsOf table) x) 4 _ (f .1) in
     let numbers = and-both (between 1 (Table.sessionsOf table) t) (between 1 (Table.itemsOf table) x) (n .0) in
     let verbs = within 1 4 verb (v .0) in
     let session = within 1 (Table.sessionsOf table) t (numbers .0) in
@@ -51,7 +57,7 @@ judged-zero verb t x table mail e =
       verbs .0,
       verbs .1,
       record {
-        formed = record { records = record { sized = sizes .0; formed = f .0 }; mail-sized = sizes .1; mail-formed = g .0 };
+        formed = f .0;
         session-low = session .0;
         session-high = session .1;
         item-low = item .0;
@@ -98,12 +104,7 @@ module _ (verb t x : ℕ) (table mail : List ℕ) where
 
 -- what the buffers are where no cause lies in them
 pub buffers-zero : (table mail : List ℕ) → first (bufferCauses table mail) ≡ 0 → Formed table mail
-buffers-zero table mail e =
-    let s = unmet-not (Table.sized table && Mail.sized mail) 1 _ e in
-    let f = unmet-not (Table.wellFormed table) 2 _ (s .1) in
-    let g = unmet-not (Mail.wellFormed (Table.sessionsOf table) (Table.itemsOf table) mail) 3 _ (f .1) in
-    let sizes = and-both (Table.sized table) (Mail.sized mail) (s .0) in
-    record { records = record { sized = sizes .0; formed = f .0 }; mail-sized = sizes .1; mail-formed = g .0 }
+buffers-zero table mail e = buffers-then table mail [] e .0
 
 -- well-formed buffers have no cause
 pub formed-zero : (table mail : List ℕ) → Formed table mail → first (bufferCauses table mail) ≡ 0
@@ -257,9 +258,6 @@ module _ (t : ℕ) (table mail : List ℕ) where
   -- what one knows that is not refused
   pub reopen-zero : reopenRefusal t table mail ≡ 0 → (number ≡ true) × (mayReopen t table mail ≡ true)
   reopen-zero e =
-      let s = unmet-not (Table.sized table && Mail.sized mail) 1 _ e in
-      let f = unmet-not (Table.wellFormed table) 2 _ (s .1) in
-      let g = unmet-not (Mail.wellFormed (Table.sessionsOf table) (Table.itemsOf table) mail) 3 _ (f .1) in
-      let n = unmet-not number 4 _ (g .1) in
+      let n = unmet-not number 4 _ (buffers-then table mail (sessionCauses t table mail) e .1) in
       let m = unmet-not (mayReopen t table mail) 14 _ (n .1) in
       (n .0, m .0)

@@ -99,7 +99,7 @@ report t table =
     (record { refusal = reportRefusal t table; length = 0 })
 
 -- ---- reopen
--- the causes behind those of the buffers: the session's number, then what names it
+-- the causes behind those of the buffers: the session's number, then whether it may be reopened
 abbrev pub sessionCauses : ℕ → List ℕ → List ℕ → List Cause
 sessionCauses t table mail = cause (not (between 1 (Table.sessionsOf table) t)) Refusal.badNumber ∷ reopenCauses t table mail
 

@@ -11,7 +11,7 @@ use Rattle.mailbox.specs.Layout.{Kept, countOf, entryAt}
 abbrev pub Plain : Entry → Type 0
 Plain e = Kind.carries (e .kind) ≡ false → (e .a ≡ 0) × (e .b ≡ 0)
 
--- so has every entry, and 0 is not what is searched for
+-- the mailbox is that of its entries, every entry is so, and t is not 0
 pub record Searchable (t : ℕ) (mail : List ℕ) : Type 0 where
   pub low : 1 ≤ t
   pub kept : Kept mail

@@ -33,19 +33,21 @@ itemNames t i = eqb (i .holder) t || member t (unpacked i .queue)
 unfoldable pub entryNames : ℕ → Entry → Bool
 entryNames t e = eqb (e .session) t || Kind.carries (e .kind) && (eqb (e .a) t || eqb (e .b) t)
 
--- no record, its own included, no item and no entry does
+-- no stored probe of any record, T's own included, names T
 unfoldable pub noProbeNames : ℕ → List ℕ → Bool
 noProbeNames t table = every (Table.sessionsOf table) (λ k. not (storedNames t (Table.session table k)))
 
+-- no item does
 unfoldable pub noItemNames : ℕ → List ℕ → Bool
 noItemNames t table = every (Table.itemsOf table) (λ x. not (itemNames t (Table.item table x)))
 
-unfoldable pub noEntryNames : ℕ → List ℕ → Bool
-noEntryNames t mail = all (λ e. not (entryNames t e)) (Mail.entriesOf mail)
+-- no entry does
+unfoldable pub noEntryNames : ℕ → List Entry → Bool
+noEntryNames t entries = all (λ e. not (entryNames t e)) entries
 
 -- T may be reopened: RULES 8.15
 unfoldable pub mayReopen : ℕ → List ℕ → List ℕ → Bool
-mayReopen t table mail = isOver (Table.session table t) && noProbeNames t table && noItemNames t table && noEntryNames t mail
+mayReopen t table mail = isOver (Table.session table t) && noProbeNames t table && noItemNames t table && noEntryNames t (Mail.entriesOf mail)
 
 -- what is judged once the buffers and the session's number are
 abbrev pub reopenCauses : ℕ → List ℕ → List ℕ → List Cause

@@ -10,6 +10,7 @@ ghost use Rattle.refusal.specs.Refusal.{first};
 ghost use Rattle.message.specs.Limits.{IsSession};
 ghost use Rattle.item.specs.Record.{Packed};
 ghost use Rattle.mailbox.specs.Entry.{Entry, seenByItem};
+ghost use Rattle.mailbox.specs.Layout.{entriesOf};
 ghost use Rattle.table.specs.Layout as Table;
 ghost use Rattle.step.specs.Step.{Formed};
 ghost use Rattle.reopen.specs.Reopening.{isOver, storedNames, itemNames, entryNames, noProbeNames, noItemNames, noEntryNames, mayReopen, reopenCauses, reopened, unlessRefused};
@@ -98,7 +99,7 @@ fn no_item_names(t: u8, table: &[u8]) -> bool
 // Whether no entry names session t.
 fn no_entry_names(t: u8, mail: &[u8]) -> bool
     requires { ⌜ Searchable t (now mail) ⌝ }
-    ensures { λ r. ⌜ r ≡ noEntryNames t (now (mail .entry)) ⌝ }
+    ensures { λ r. ⌜ r ≡ noEntryNames t (entriesOf (now (mail .entry))) ⌝ }
 {
     let n = mailbox::count(mail);
     let mut k: usize = 0;

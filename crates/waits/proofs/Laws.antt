@@ -16,9 +16,8 @@ use Rattle.lists.proofs.Searches.{lowest-le, lowest-none, lowest-passes, lowest
 use Rattle.item.specs.declared.Item.{Item}
 use Rattle.item.specs.Record as ItemRecord
 use Rattle.item.specs.Record.{Lock, unpacked}
-use Rattle.item.proofs.Laws.{wellFormed-packed}
 use Rattle.table.specs.Layout.{sessionsOf, itemsOf, item, Formed, HasItem}
-use Rattle.table.proofs.Laws.{sized-facts, well-formed-item, queue-length}
+use Rattle.table.proofs.Laws.{sized-facts, well-formed-item, queue-length, packed-item}
 use Rattle.waits.specs.Waits.{queuedAt, waitsAt, waitsFor, reached, cycleLength}
 use Rattle.waits.specs.Walk.{oneMore, walkFromSession, walkFromItem}
 use Rattle.waits.specs.OnTable as OnTable
@@ -175,7 +174,7 @@ module _ (t : List ℕ) (f : Formed t) where
         whole = queue-length t (f .sized) x (has .low) (has .high)
 
         fits : n ≤ maxSessions
-        fits = wellFormed-packed (sessionsOf t) (item t x) most whole in-form .fits
+        fits = packed-item t (f .sized) (f .formed) x (has .low) (has .high) .fits
 
         sessions : (j : ℕ) → j < n → (1 ≤ getD q j 0) × (getD q j 0 ≤ maxSessions)
         sessions j m =

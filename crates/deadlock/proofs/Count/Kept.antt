@@ -30,8 +30,8 @@ unfolding afterSession
 stage-after s t l o = rw updated-same
 
 module _ (R : Rules) (L : Laws R) (s : State) (k : Invariant R s) (closed gone : ℕ) (b : Balance R s closed gone) where
-  module _ (t x : ℕ) (low : 1 ≤ t) (high : t ≤ R .S) where
-    balance-call : (a : Answer) → CallMoves R t x (s .session t) (s .session t .stage) a → Invariant R (afterAnswer R s t a) → Balance R (afterAnswer R s t a) (closed + 0) (gone + 0)
+  module _ (t : ℕ) (low : 1 ≤ t) (high : t ≤ R .S) where
+    balance-call : (a : Answer) → CallMoves (s .session t .stage) a → Invariant R (afterAnswer R s t a) → Balance R (afterAnswer R s t a) (closed + 0) (gone + 0)
     unfolding afterAnswer
     balance-call refused v kr = same-balance b (omega arith) (omega arith)
     balance-call (accepted o) v kr =
@@ -71,11 +71,11 @@ module _ (R : Rules) (L : Laws R) (s : State) (k : Invariant R s) (closed gone :
   balance-move : (c : Call) → ofMachine R c ≡ true → Invariant R (move R s c)
       → Balance R (move R s c) (closed + bit (eventOf R s c (move R s c) .closed)) (gone + bit (eventOf R s c (move R s c) .rolledBack))
   unfolding move ofMachine eventOf sessionEvent
-  balance-move (requestCall t x) e kr = balance-call t x (session-low R t x e) (session-high R t x e) _ (request-call-moves R t x (s .session t) (s .session t .stage)) kr
-  balance-move (releaseCall t x) e kr = balance-call t x (session-low R t x e) (session-high R t x e) _ (release-call-moves R t x (s .session t) (s .session t .stage)) kr
+  balance-move (requestCall t x) e kr = balance-call t (session-low R t x e) (session-high R t x e) _ (request-call-moves R t x (s .session t) (s .session t .stage)) kr
+  balance-move (releaseCall t x) e kr = balance-call t (session-low R t x e) (session-high R t x e) _ (release-call-moves R t x (s .session t) (s .session t .stage)) kr
   balance-move (deliverToItem t x) e kr = balance-item t x (item-low R t x e) (item-high R t x e) (session-low R t x e) (session-high R t x e) (take true t x (s .mailbox)) refl kr
   balance-move (deliverToSession t x) e kr = balance-session t x (item-low R t x e) (item-high R t x e) (session-low R t x e) (session-high R t x e) (take false t x (s .mailbox)) refl kr
-  balance-move (reopen t) e kr = balance-call t 0 (isSession-low R t e) (isSession-high R t e) _ (reopen-call-moves R s t) kr
+  balance-move (reopen t) e kr = balance-call t (isSession-low R t e) (isSession-high R t e) _ (reopen-call-moves R s t) kr
 
   balance-step : (admits : State → Call → Bool) (c : Call)
       → Balance R (step R admits s c .state) (closed + bit (step R admits s c .event .closed)) (gone + bit (step R admits s c .event .rolledBack))

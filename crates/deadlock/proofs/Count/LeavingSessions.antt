@@ -88,6 +88,11 @@ rolled-is (withdraws-now y e f) = rw (e, f)
 rolled-is (rolls-back y z e f) = rw (e, f)
 rolled-is (reopens p e f) = rw (f, and-false)
 
+-- a call rolls no session back
+abbrev pub CallMoves : Stage → Answer → Type 0
+CallMoves a refused = Unit {0}
+CallMoves a (accepted o) = StageMove (up request) a (o .after .stage) false
+
 module _ (R : Rules) (t x : ℕ) (r : Session) where
   grant-moves : (a : Stage) → r .stage ≡ a → Moved (down grant) a (onGrant R x r a .after .stage)
   unfolding onGrant
@@ -143,11 +148,6 @@ module _ (R : Rules) (t x : ℕ) (r : Session) where
   message-moves (probe i j) = probe-moves i j (r .stage) refl
   message-moves (clean v i) = clean-moves v i (r .stage) refl
   message-moves (abort v i) = abort-moves v i (r .stage) refl
-
-  -- a call rolls no session back
-  abbrev pub CallMoves : Stage → Answer → Type 0
-  CallMoves a refused = Unit {0}
-  CallMoves a (accepted o) = StageMove (up request) a (o .after .stage) false
 
   pub request-call-moves : (a : Stage) → CallMoves a (onRequestCall R x r a)
   unfolding onRequestCall

@@ -1,7 +1,6 @@
 -- The four tests, one after the other.
 use mathlib.Core.Path.{refl, sym, _∙_}
 use mathlib.Core.Bool.{_&&_, and-false}
-use Prim.Native.Nat.{_≤_}
 use native.Mathlib.Omega.{arith}
 use borrow.Author.Tests.{not-true, not-false}
 use Rattle.mailbox.specs.Layout.{entryAt}

@@ -14,15 +14,15 @@ use Rattle.reopen.proofs.no_entry_names.Statement.{statement}
 use Rattle.reopen.proofs.no_entry_names.Tie as tie
 
 -- entry k does not name session t
-abbrev free : ℕ → List ℕ → ℕ → Bool
-free t mail k = not (entryNames t (entryAt mail k))
+abbrev unnamed : ℕ → List ℕ → ℕ → Bool
+unnamed t mail k = not (entryNames t (entryAt mail k))
 
-no-entry : (t : ℕ) (mail : List ℕ) → noEntryNames t mail ≡ everyBelow (countOf mail) (free t mail)
+no-entry : (t : ℕ) (mail : List ℕ) → noEntryNames t (entriesOf mail) ≡ everyBelow (countOf mail) (unnamed t mail)
 unfolding noEntryNames entriesOf
 no-entry t mail = all-tabulate (λ e. not (entryNames t e)) (countOf mail) (entryAt mail)
 
 abbrev Inv-loop : tie.InvT-loop
-Inv-loop t mail n k₀ k = (n ≡ countOf mail) × (k ≤ n) × (everyBelow k (free t mail) ≡ true)
+Inv-loop t mail n k₀ k = (n ≡ countOf mail) × (k ≤ n) × (everyBelow k (unnamed t mail) ≡ true)
 
 abbrev μ-loop : tie.MeasureT-loop
 μ-loop t mail n k₀ k = n - k
@@ -52,7 +52,7 @@ returns : tie.Need-returns Inv-loop μ-loop
 returns c =
     let a = c .before .before .before .before .before .before .before .args in
     let l = c .before .before .before .before .loop in
-    sym (no-entry (a .t) (a .mail .now) ∙ below-false (countOf (a .mail .now)) (l .k) (free (a .t) (a .mail .now)) (omega arith) (ap not (sym (here (c .before)) ∙ c .if1 .taken)))
+    sym (no-entry (a .t) (a .mail .now) ∙ below-false (countOf (a .mail .now)) (l .k) (unnamed (a .t) (a .mail .now)) (omega arith) (ap not (sym (here (c .before)) ∙ c .if1 .taken)))
 
 add-k : tie.Need-add-k Inv-loop μ-loop
 add-k c = search needs

@@ -15,11 +15,11 @@ use Rattle.reopen.proofs.no_item_names.Statement.{statement}
 use Rattle.reopen.proofs.no_item_names.Tie as tie
 
 -- item x does not name session t
-abbrev free : ℕ → List ℕ → ℕ → Bool
-free t table x = not (itemNames t (Table.item table x))
+abbrev unnamed : ℕ → List ℕ → ℕ → Bool
+unnamed t table x = not (itemNames t (Table.item table x))
 
 abbrev Inv-loop : tie.InvT-loop
-Inv-loop t table n x₀ x = (n ≡ Table.itemsOf table) × (x ≤ n) × (every x (free t table) ≡ true)
+Inv-loop t table n x₀ x = (n ≡ Table.itemsOf table) × (x ≤ n) × (every x (unnamed t table) ≡ true)
 
 abbrev μ-loop : tie.MeasureT-loop
 μ-loop t table n x₀ x = n - x
@@ -50,7 +50,7 @@ returns c =
     let a = c .before .before .before .before .before .before .before .args in
     let x = c .before .before .before .before .loop .x in
     let named : itemNames (a .t) (Table.item (a .table .now) (x + 1)) ≡ true = rw (c .before .before .item .ensures) at (sym (c .before .item-names .ensures) ∙ c .if1 .taken) in
-    sym (every-false (Table.itemsOf (a .table .now)) (free (a .t) (a .table .now)) (x + 1) (omega arith) (omega arith) (ap not named))
+    sym (every-false (Table.itemsOf (a .table .now)) (unnamed (a .t) (a .table .now)) (x + 1) (omega arith) (omega arith) (ap not named))
 
 add-x : tie.Need-add-x Inv-loop μ-loop
 add-x c = search needs
@@ -63,7 +63,7 @@ loop-again c =
     let a = c .before .before .before .before .before .before .before .args in
     let l = c .before .before .before .before .loop in
     let other : itemNames (a .t) (Table.item (a .table .now) (suc (l .x))) ≡ false = rw (c .before .before .item .ensures, add-one) at (sym (c .before .item-names .ensures) ∙ c .if1 .left) in
-    (l .inv .0, omega arith, rw (every-more (l .x) (free (a .t) (a .table .now)), l .inv .2, other) refl)
+    (l .inv .0, omega arith, rw (every-more (l .x) (unnamed (a .t) (a .table .now)), l .inv .2, other) refl)
 
 returns-2 : tie.Need-returns-2 Inv-loop μ-loop
 unfolding noItemNames

@@ -15,11 +15,11 @@ use Rattle.reopen.proofs.no_probe_names.Statement.{statement}
 use Rattle.reopen.proofs.no_probe_names.Tie as tie
 
 -- no probe that session k stores names session t
-abbrev free : ℕ → List ℕ → ℕ → Bool
-free t table k = not (storedNames t (Table.session table k))
+abbrev unnamed : ℕ → List ℕ → ℕ → Bool
+unnamed t table k = not (storedNames t (Table.session table k))
 
 abbrev Inv-loop : tie.InvT-loop
-Inv-loop t table n k₀ k = (n ≡ Table.sessionsOf table) × (k ≤ n) × (every k (free t table) ≡ true)
+Inv-loop t table n k₀ k = (n ≡ Table.sessionsOf table) × (k ≤ n) × (every k (unnamed t table) ≡ true)
 
 abbrev μ-loop : tie.MeasureT-loop
 μ-loop t table n k₀ k = n - k
@@ -48,7 +48,7 @@ returns c =
     let a = c .before .before .before .before .before .before .before .args in
     let k = c .before .before .before .before .loop .k in
     let named : storedNames (a .t) (Table.session (a .table .now) (k + 1)) ≡ true = rw (c .before .before .session .ensures) at (sym (c .before .stored-names .ensures) ∙ c .if1 .taken) in
-    sym (every-false (Table.sessionsOf (a .table .now)) (free (a .t) (a .table .now)) (k + 1) (omega arith) (omega arith) (ap not named))
+    sym (every-false (Table.sessionsOf (a .table .now)) (unnamed (a .t) (a .table .now)) (k + 1) (omega arith) (omega arith) (ap not named))
 
 add-k : tie.Need-add-k Inv-loop μ-loop
 add-k c = search needs
@@ -61,7 +61,7 @@ loop-again c =
     let a = c .before .before .before .before .before .before .before .args in
     let l = c .before .before .before .before .loop in
     let other : storedNames (a .t) (Table.session (a .table .now) (suc (l .k))) ≡ false = rw (c .before .before .session .ensures, add-one) at (sym (c .before .stored-names .ensures) ∙ c .if1 .left) in
-    (l .inv .0, omega arith, rw (every-more (l .k) (free (a .t) (a .table .now)), l .inv .2, other) refl)
+    (l .inv .0, omega arith, rw (every-more (l .k) (unnamed (a .t) (a .table .now)), l .inv .2, other) refl)
 
 returns-2 : tie.Need-returns-2 Inv-loop μ-loop
 unfolding noProbeNames

@@ -1,8 +1,6 @@
 -- The tests are those of the definition.
 use mathlib.Core.Path.{refl}
-use native.Mathlib.Omega.{arith}
 use borrow.Author.Needs.{needs}
-use Rattle.session.proofs.Laws.{array-length}
 use Rattle.reopen.specs.Reopening.{storedNames}
 use Rattle.reopen.proofs.stored_names.Statement.{statement}
 use Rattle.reopen.proofs.stored_names.Tie as tie
