@@ -130,7 +130,20 @@
  *
  * A victim goes through the last three stages by deliveries alone, and never
  * turns back. From LOCKMGR_SHRINKING and LOCKMGR_ROLLED_BACK only lockmgr_reopen
- * leads back to LOCKMGR_GROWING; see the next section.
+ * leads back to LOCKMGR_GROWING; see the next section. So the life of a session
+ * is a circle:
+ *
+ *           request                abort
+ *   GROWING -------> WAITING -------------> CLEANING
+ *    |  ^  <-------                             |
+ *    |  |    grant                              v
+ *    |  |                                  WITHDRAWING
+ *    |  |                                       |
+ *    |  |   reopen                              v
+ *    |  +----------+-------------------- ROLLED_BACK
+ *    |             |
+ *    +-------> SHRINKING
+ *     release
  *
  * When to undo. What a session has changed in the items that it holds is yours
  * to undo if it becomes a victim, before anybody else works on these items.

@@ -32,7 +32,7 @@ returns c =
     let p = c .before .before .before .pre in
     let q = unpacked (a .i) .queue in
     let row = ap (member (a .t)) (queue-padded (a .i) (p .1)) ∙ member-zeros (64 - length q) (a .t) q (p .0) in
-    rw (c .row-has .ensures, row) refl
+    rw (c .row-has .ensures) (ap (λ (b : Bool). eqb (a .i .holder) (a .t) || b) row)
 
 pub item-names-spec : {M : Type 1} → statement M
 item-names-spec = tie.close (tie.spec row-has-requires returns)
