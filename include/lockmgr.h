@@ -276,8 +276,8 @@
  * leaves a resend for session 3, which is not delivered. Then both ask for item
  * 2, and each resend would send two messages. With these 3 sessions and 2 items
  * a mailbox of 4096 messages is jammed after 26,634 calls. Both rules keep clear
- * of this: under either the resend is delivered before the messages of the next
- * turn.
+ * of this: under Rule 1 the resend is delivered before the next of these calls,
+ * under Rule 2 before all that is sent after it.
  *
  * If every delivery is refused all the same, or a drain ends with
  * LOCKMGR_DRAIN_FULL, move the mail into a larger buffer with

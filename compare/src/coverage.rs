@@ -26,8 +26,8 @@ pub const AT_LEAST: u64 = 1_000;
 /// session numbers.
 const BY_RANK_AT_LEAST: u64 = 50;
 
-/// So often must one session be used again in a list from a start, and so often
-/// each of what happens in such lists be met.
+/// One session must be reopened this often in a list from a start, and whatever is
+/// counted of such lists must be met this often.
 const REUSED_AT_LEAST: u64 = 2_000;
 
 /// The calls and the refusals that each can give.
