@@ -34,7 +34,9 @@ refused() {
     [ "$($program < "$folder/in")" = "$1" ] || fault "not refused with $1: $2"
 }
 
-prints $'1 3 2\n3 2 666' "$(list '3 2')"
+prints $'1 3 2\n3 2 667' "$(list '3 2')"
+prints $'1 16 1\n16 1 62' "$(list '16 1')"
+prints $'1 16 3\n16 3 188' "$(list '16 3')"
 prints $'1 0 0\n2 7 7\n7 7 1000' "$(list '0 0 # closed' '' '  007 0000000000007')"
 refused 12 "0 days, not 1 to 366" "$(list '# none')"
 refused 12 "line 2: more rolled back than taken part" "$(list '1 1' '2 3')"

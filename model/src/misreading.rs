@@ -29,8 +29,6 @@ pub enum Misreading {
     LimitBeforeEmpty,
     /// F-2 with the limit judged before the next delivery is tried.
     LimitBeforeFull,
-    /// F-5 with the rate rounded up.
-    RoundsUp,
     /// F-5 with the sums of the first 365 days.
     OmitsDay366,
     /// F-5 with 13 judged before a day that has more rolled back than taken part.
@@ -99,6 +97,18 @@ pub enum Misreading {
     InUseFirst,
     /// F-7 with mail not in form taken for empty mail.
     MailFormUnseen,
+    /// F-5's rule before F-8, "rounded down".
+    RoundsDown,
+    /// F-8 with the rate rounded up.
+    RoundsUp,
+    /// F-8 with a tie going down.
+    TiesDown,
+    /// F-8 with a tie going up.
+    TiesUp,
+    /// F-8 with a tie going to the odd one.
+    TiesToOdd,
+    /// F-8 with a tie going up if the number of sessions rolled back is odd.
+    TiesByRolledBack,
 }
 
 impl Misreading {
@@ -121,8 +131,7 @@ impl Misreading {
     ];
 
     /// Those of F-5. The comparison of the statement program notices each.
-    pub const OF_F5: [Misreading; 6] = [
-        Misreading::RoundsUp,
+    pub const OF_F5: [Misreading; 5] = [
         Misreading::OmitsDay366,
         Misreading::NobodyFirst,
         Misreading::RefusesEqual,
@@ -169,6 +178,17 @@ impl Misreading {
         Misreading::ChecksItem,
         Misreading::InUseFirst,
         Misreading::MailFormUnseen,
+    ];
+
+    /// Those of F-8, and the rule that it has replaced. The comparison of the
+    /// statement program notices each.
+    pub const OF_F8: [Misreading; 6] = [
+        Misreading::RoundsDown,
+        Misreading::RoundsUp,
+        Misreading::TiesDown,
+        Misreading::TiesUp,
+        Misreading::TiesToOdd,
+        Misreading::TiesByRolledBack,
     ];
 
     /// Those of F-6 in a text and at a start, which no step shows.

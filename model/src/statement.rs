@@ -1,5 +1,5 @@
-//! The statement program of F-5, as a function from its standard input to its
-//! standard output.
+//! The statement program of F-5, with the rate of F-8, as a function from its
+//! standard input to its standard output.
 
 use crate::layout::{read_u16, within};
 use crate::misreading::Misreading;
@@ -93,10 +93,26 @@ fn too_many(misreading: Misreading, (taken_part, rolled_back): Day) -> bool {
     }
 }
 
-/// F-5: "rolled back per thousand taken part, rounded down". Somebody took part.
+/// F-5: "rolled back per thousand taken part". F-8: "rounded to the nearest whole,
+/// a tie going to the even one". The exact rate is a fraction, and every whole
+/// number is held against it over the same denominator, `taken_part`. Somebody
+/// took part, and no more were rolled back, so none above 1000 is the nearest.
 fn rate(misreading: Misreading, taken_part: u64, rolled_back: u64) -> u64 {
-    match misreading {
-        Misreading::RoundsUp => (1000 * rolled_back).div_ceil(taken_part),
-        _ => 1000 * rolled_back / taken_part,
-    }
+    let exact = 1000 * rolled_back;
+    let distance = |whole: u64| match whole * taken_part {
+        above if misreading == Misreading::RoundsDown && above > exact => u64::MAX,
+        below if misreading == Misreading::RoundsUp && below < exact => u64::MAX,
+        numerator => numerator.abs_diff(exact),
+    };
+    // Of two that are as near, the one for which this is less.
+    let order = |whole: u64| match misreading {
+        Misreading::TiesDown => whole,
+        Misreading::TiesUp => 1000 - whole,
+        Misreading::TiesToOdd => 1 - whole % 2,
+        Misreading::TiesByRolledBack if rolled_back % 2 == 0 => whole,
+        Misreading::TiesByRolledBack => 1000 - whole,
+        _ => whole % 2,
+    };
+    let nearest = (0..=1000).min_by_key(|&whole| (distance(whole), order(whole)));
+    nearest.expect("a whole number")
 }

@@ -1,5 +1,5 @@
-//! F-5: the text of a statement, its sums and its rate; and the refusals in
-//! their order.
+//! F-5 and F-8: the text of a statement, its sums and its rate; and the refusals
+//! in their order.
 
 use model::scenario::Random;
 use model::statement::{input, Day, BAD_LIST, MAX_DAYS, NOBODY};
@@ -37,16 +37,28 @@ fn a_worked_example() {
 }
 
 #[test]
-fn the_rate_is_rounded_down() {
+fn the_rate_is_rounded_to_the_nearest_whole() {
     assert_eq!(printed(&[(1, 1)]), "1 1 1\n1 1 1000\n");
     assert_eq!(printed(&[(1, 0)]), "1 1 0\n1 0 0\n");
-    assert_eq!(last_line(&[(3, 2)]), "3 2 666");
+    assert_eq!(last_line(&[(3, 2)]), "3 2 667");
     assert_eq!(last_line(&[(3, 1)]), "3 1 333");
-    assert_eq!(last_line(&[(1001, 1)]), "1001 1 0");
     assert_eq!(last_line(&[(1000, 1)]), "1000 1 1");
-    assert_eq!(last_line(&[(65535, 65534)]), "65535 65534 999");
+    assert_eq!(last_line(&[(2001, 1)]), "2001 1 0");
+    assert_eq!(last_line(&[(1999, 1)]), "1999 1 1");
+    assert_eq!(last_line(&[(65535, 65534)]), "65535 65534 1000");
     // The rate of the sums, not the mean of the days' rates.
     assert_eq!(last_line(&[(1, 1), (9, 0)]), "10 1 100");
+}
+
+/// F-8: "1 of 16 prints 62, 3 of 16 prints 188."
+#[test]
+fn a_tie_goes_to_the_even_one() {
+    assert_eq!(last_line(&[(16, 1)]), "16 1 62");
+    assert_eq!(last_line(&[(16, 3)]), "16 3 188");
+    assert_eq!(last_line(&[(2000, 1)]), "2000 1 0");
+    assert_eq!(last_line(&[(2000, 3)]), "2000 3 2");
+    assert_eq!(last_line(&[(2000, 1997)]), "2000 1997 998");
+    assert_eq!(last_line(&[(2000, 1999)]), "2000 1999 1000");
 }
 
 #[test]
@@ -150,8 +162,9 @@ fn the_printed_sums_are_those_of_the_printed_days() {
             panic!("{last:?}");
         };
         assert_eq!((sum_taken_part, sum_rolled_back), (taken_part, rolled_back));
-        assert!(rate * taken_part <= 1000 * rolled_back);
-        assert!((rate + 1) * taken_part > 1000 * rolled_back);
+        // At most half away, and half only from an even rate.
+        let away = (rate * taken_part).abs_diff(1000 * rolled_back);
+        assert!(2 * away < taken_part || 2 * away == taken_part && rate % 2 == 0);
     }
 }
 
@@ -159,17 +172,20 @@ fn the_printed_sums_are_those_of_the_printed_days() {
 fn each_misreading_prints_something_else() {
     let longer = [list(&[(2, 1)]), vec![0]].concat();
     let noticed = [
-        (Misreading::RoundsUp, list(&[(3, 2)])),
         (Misreading::OmitsDay366, list(&[(2, 1); MAX_DAYS])),
         (Misreading::NobodyFirst, list(&[(0, 1)])),
         (Misreading::RefusesEqual, list(&[(2, 2)])),
         (Misreading::ExchangesArrays, list(&[(2, 1)])),
         (Misreading::AcceptsLonger, longer),
+        (Misreading::RoundsDown, list(&[(3, 2)])),
+        (Misreading::RoundsUp, list(&[(3, 1)])),
+        (Misreading::TiesDown, list(&[(16, 3)])),
+        (Misreading::TiesUp, list(&[(16, 1)])),
+        (Misreading::TiesToOdd, list(&[(16, 1)])),
+        (Misreading::TiesByRolledBack, list(&[(16, 1)])),
     ];
-    assert_eq!(
-        noticed.clone().map(|(misreading, _)| misreading),
-        Misreading::OF_F5
-    );
+    let all = [&Misreading::OF_F5[..], &Misreading::OF_F8].concat();
+    assert_eq!(noticed.clone().map(|(misreading, _)| misreading)[..], all);
     for (misreading, input) in noticed {
         assert_ne!(
             statement_as(misreading, &input),

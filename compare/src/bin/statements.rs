@@ -1,7 +1,7 @@
 //! The statement program against the model's statement, byte for byte:
 //! `statements PROGRAM`. Prints what the inputs reached, and fails if the two
-//! differ, if something was not reached, or if a misreading of F-5 would print
-//! the same. `statements PROGRAM bench` times the longest list instead.
+//! differ, if something was not reached, or if a misreading of F-5 or F-8 would
+//! print the same. `statements PROGRAM bench` times the longest list instead.
 
 use compare::program::Program;
 use model::layout::read_u16;
@@ -21,6 +21,12 @@ const MEGABYTE: usize = 1 << 20;
 const LONGEST: usize = 5771;
 
 const MAX: u16 = u16::MAX;
+
+/// The greatest sum of a list.
+const MAX_SUM: u64 = MAX_DAYS as u64 * MAX as u64;
+
+/// The greatest sum taken part with which every half can be a tie.
+const MAX_TIES: u64 = MAX_SUM / 2000 * 2000;
 
 /// Days at the bounds, and some that tell the order of their bytes.
 const DAYS: [Day; 16] = [
@@ -96,6 +102,47 @@ fn random_list(random: &mut Random, days: u64) -> Vec<Day> {
     days.map(|day| (day.0 as u16, day.1 as u16)).collect()
 }
 
+/// A list with these sums, on as few days as they need.
+fn list_of_sums(mut taken_part: u64, mut rolled_back: u64) -> Vec<u8> {
+    let mut days = Vec::new();
+    while taken_part > 0 {
+        let day = (taken_part.min(MAX.into()), rolled_back.min(MAX.into()));
+        days.push((day.0 as u16, day.1 as u16));
+        taken_part -= day.0;
+        rolled_back -= day.1;
+    }
+    list(&days)
+}
+
+/// Lists for the rate alone. Every tie of up to 2,000 taken part. Of the greatest
+/// sum taken part, which has no ties, the sums rolled back next to every half, on
+/// both sides; of the greatest that has them all, every tie and its neighbours.
+/// Sums at random, every other with a multiple of 16 taken part: only those have
+/// ties.
+fn lists_for_the_rate(random: &mut Random) -> Vec<Vec<u8>> {
+    let mut lists = Vec::new();
+    for taken_part in 1..=2000 {
+        for rolled_back in 0..=taken_part {
+            if 2000 * rolled_back % (2 * taken_part) == taken_part {
+                lists.push(list_of_sums(taken_part, rolled_back));
+            }
+        }
+    }
+    for half in 0..1000 {
+        let below = (2 * half + 1) * MAX_SUM / 2000;
+        lists.extend([below, below + 1].map(|r| list_of_sums(MAX_SUM, r)));
+        let tie = (2 * half + 1) * (MAX_TIES / 2000);
+        lists.extend([tie - 1, tie, tie + 1].map(|r| list_of_sums(MAX_TIES, r)));
+    }
+    for run in 0..RUNS {
+        let most = [100, 10_000, MAX_SUM][(run % 3) as usize];
+        let multiple = [1, 16][(run % 2) as usize];
+        let taken_part = multiple * random.between(1, most / multiple);
+        lists.push(list_of_sums(taken_part, random.between(0, taken_part)));
+    }
+    lists
+}
+
 /// The longest list of the greatest values comes first.
 fn inputs() -> Vec<Vec<u8>> {
     let mut inputs = vec![list(&[(MAX, MAX); MAX_DAYS])];
@@ -145,6 +192,7 @@ fn inputs() -> Vec<Vec<u8>> {
         }
         inputs.push(whole);
     }
+    inputs.extend(lists_for_the_rate(&mut random));
     inputs
 }
 
@@ -193,7 +241,14 @@ fn reached(input: &[u8], output: &[u8]) -> (&'static str, Places<bool>) {
     let [taken_part, rolled_back, rate] = last[..] else {
         panic!("not three numbers in the last line");
     };
-    let exact = rate * taken_part == 1000 * rolled_back;
+    // How far the printed rate is from the exact one, over what took part.
+    let away = (rate * taken_part).abs_diff(1000 * rolled_back);
+    let exact = away == 0;
+    let tie = 2 * away == taken_part;
+    let up = rate * taken_part > 1000 * rolled_back;
+    let great = taken_part >= MAX_TIES;
+    // One more or one less rolled back would be at a half or beyond it.
+    let nearly = !tie && 2 * away + 2000 >= taken_part;
     let places = vec![
         ("in all", true),
         ("1 day", count == 1),
@@ -205,7 +260,19 @@ fn reached(input: &[u8], output: &[u8]) -> (&'static str, Places<bool>) {
         ("rate 0 with some rolled back", rolled_back > 0 && rate == 0),
         ("rate 1000", rate == 1000),
         ("other exact rates", exact && rate > 0 && rate < 1000),
-        ("rounded rates", !exact),
+        ("rounded down", !exact && !up),
+        ("rounded up", up),
+        ("a tie down", tie && !up),
+        ("a tie up", tie && up),
+        ("a tie of the greatest sums", tie && great),
+        (
+            "just below a half of the greatest sums",
+            nearly && great && !up,
+        ),
+        (
+            "just above a half of the greatest sums",
+            nearly && great && up,
+        ),
     ];
     ("accepted", places)
 }
@@ -231,7 +298,8 @@ fn main() -> ExitCode {
         }
     };
     let mut groups: BTreeMap<&str, Places<u64>> = BTreeMap::new();
-    let mut misread = Misreading::OF_F5.map(|misreading| (misreading, 0));
+    let misreadings = Misreading::OF_F5.iter().chain(&Misreading::OF_F8);
+    let mut misread: Vec<(Misreading, u64)> = misreadings.map(|&m| (m, 0)).collect();
     for (input, output) in inputs.iter().zip(&expected) {
         let (group, places) = reached(input, output);
         let none = || places.iter().map(|&(name, _)| (name, 0)).collect();

@@ -3,7 +3,6 @@ use mathlib.Core.Path.{_≡_, refl}
 use mathlib.Core.Bool.{true, false, _&&_}
 use mathlib.Core.List.{List, [], _∷_, _++_}
 use Prim.Native.Nat.{ℕ, _+_, _*_, _≤_, _<_}
-use native.Mathlib.Nat.{div-mul-le-self, div-lt-iff-lt-mul}
 use native.Mathlib.Omega.{arith}
 use borrow.Author.Tests.{eqb-true, eqb-false, eq-eqb, ne-eqb, leb-true}
 use lib.Dec.{eqb}
@@ -21,7 +20,7 @@ use Rattle.yearly.specs.Input.{daysIn, takenPart, rolledBack, maxDays, s
 use Rattle.yearly.specs.Rate.{rate}
 use Rattle.yearly.specs.Printed.{sums, refusal, dayLine, lastLine, dayLines, statement, longestLine, longestLast}
 use Rattle.yearly.specs.Parts.{Days, maxValue}
-use Rattle.yearly.specs.Claims.{RoundedDown}
+use Rattle.yearly.proofs.Rounding.{rate-small}
 
 -- ---- judging
 pub days : (input : List ℕ) (n : ℕ) → n ≡ daysIn input → sized input ≡ true → Days input n
@@ -81,15 +80,6 @@ module _ (input : List ℕ) where
   pub statement-refused : (refusal input ≡ 0 → ⊥) → statement input ≡ line (refusal input) []
   unfolding statement
   statement-refused h = rw (ne-eqb (refusal input) 0 h) refl
-
--- ---- the rate
-pub rounded-down : RoundedDown
-rounded-down rollbacks sessions h =
-    let a = 1000 * rollbacks in
-    (div-mul-le-self a sessions, div-lt-iff-lt-mul h .0 (omega arith))
-
-pub rate-small : (rollbacks sessions : ℕ) → 1 ≤ sessions → rollbacks ≤ sessions → rate rollbacks sessions < 1001
-rate-small rollbacks sessions h f = div-lt-iff-lt-mul h .1 (omega arith)
 
 -- ---- lengths
 pub day-short : (day : ℕ) (r : Record) → day ≤ maxDays → r .sessions ≤ maxValue → r .rollbacks ≤ maxValue → length (dayLine day r) ≤ longestLine

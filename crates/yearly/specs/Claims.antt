@@ -1,5 +1,5 @@
 -- What is proved of statements beside their bytes, for every input. RULES is docs/RULES.md.
-use Prim.Native.Nat.{ℕ, _+_, _*_, _≤_, _<_}
+use Prim.Native.Nat.{ℕ, _+_, _-_, _*_, _%_, _≤_}
 use mathlib.Core.Path.{_≡_}
 use mathlib.Core.List.{List, [], _∷_, _++_}
 use Rattle.lists.specs.Lists.{sumUpTo, appendUpTo}
@@ -22,11 +22,24 @@ SumsPrinted =
     let rollbacks = sumUpTo n (rolledBack input) in
     numbers (statement input) ≡ dayNumbers input n ++ (sessions ∷ rollbacks ∷ rate rollbacks sessions ∷ [])
 
--- the rate is the greatest whole number that is not above the exact rate: RULES 12.5
-abbrev pub RoundedDown : Type 0
-RoundedDown =
-    (rollbacks sessions : ℕ) → 1 ≤ sessions
-    → (rate rollbacks sessions * sessions ≤ 1000 * rollbacks) × (1000 * rollbacks < (rate rollbacks sessions + 1) * sessions)
+-- how far the whole number k is from a / b, times b
+abbrev pub distance : ℕ → ℕ → ℕ → ℕ
+distance a b k = (k * b - a) + (a - k * b)
+
+-- k is a / b to the nearest whole, a tie to the even one
+pub record HalfEven (a b k : ℕ) : Type 0 where
+  -- no whole number is nearer
+  pub nearest : (n : ℕ) → distance a b k ≤ distance a b n
+  -- and where another is as near, k is even
+  pub even : (n : ℕ) → distance a b n ≡ distance a b k → (n ≡ k → ⊥) → k % 2 ≡ 0
+
+-- the rate is so rounded: RULES 12.5
+abbrev pub Rounded : Type 0
+Rounded = (rollbacks sessions : ℕ) → 1 ≤ sessions → HalfEven (1000 * rollbacks) sessions (rate rollbacks sessions)
+
+-- no two numbers are
+abbrev pub OneRounded : Type 0
+OneRounded = (a b k l : ℕ) → 1 ≤ b → HalfEven a b k → HalfEven a b l → k ≡ l
 
 -- one byte more than the longest input
 abbrev pub readSize : ℕ

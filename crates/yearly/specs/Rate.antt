@@ -1,6 +1,15 @@
 -- The rate of a statement. RULES is docs/RULES.md.
-use Prim.Native.Nat.{ℕ, _*_, _/_}
+use Prim.Native.Nat.{ℕ, _+_, _*_, _/_, _%_}
+use mathlib.Core.Bool.{cond}
+use lib.Dec.{ltb}
 
--- sessions rolled back per thousand taken part, rounded down: RULES 12.5
+-- a / b to the nearest whole; where two are as near, to the even one: RULES 12.5
+unfoldable pub roundHalfEven : ℕ → ℕ → ℕ
+roundHalfEven a b =
+    let quotient = a / b in
+    let remainder = a % b in
+    cond (ltb (2 * remainder) b) quotient (cond (ltb b (2 * remainder)) (quotient + 1) (quotient + quotient % 2))
+
+-- sessions rolled back per thousand taken part: RULES 12.5
 abbrev pub rate : ℕ → ℕ → ℕ
-rate rollbacks sessions = 1000 * rollbacks / sessions
+rate rollbacks sessions = roundHalfEven (1000 * rollbacks) sessions

@@ -126,12 +126,21 @@ fn judge(input: &[u8]) -> u8
     0
 }
 
-// Sessions rolled back per thousand taken part.
+// Sessions rolled back per thousand taken part, to the nearest whole, a tie to the even one.
 fn rate(rollbacks: u64, sessions: u64) -> u64
     requires { ⌜ (1 ≤ sessions) × (rollbacks ≤ sessions) × (sessions ≤ maxDays * maxValue) ⌝ }
     ensures { λ r. ⌜ r ≡ rate rollbacks sessions ⌝ }
 {
-    1000 * rollbacks / sessions
+    let scaled = 1000 * rollbacks;
+    let quotient = scaled / sessions;
+    let remainder = scaled % sessions;
+    if 2 * remainder < sessions {
+        return quotient;
+    }
+    if 2 * remainder > sessions {
+        return quotient + 1;
+    }
+    quotient + quotient % 2
 }
 
 // Writes the lines of n days.
