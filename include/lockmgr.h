@@ -323,7 +323,7 @@ extern "C" {
 
 #define LOCKMGR_VERSION_MAJOR 0
 #define LOCKMGR_VERSION_MINOR 6
-#define LOCKMGR_VERSION_PATCH 0
+#define LOCKMGR_VERSION_PATCH 1
 #define LOCKMGR_VERSION "0.6.1"
 
 /* One number that grows with the version. */

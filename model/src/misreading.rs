@@ -109,6 +109,9 @@ pub enum Misreading {
     TiesToOdd,
     /// F-8 with a tie going up if the number of sessions rolled back is odd.
     TiesByRolledBack,
+    /// F-8 with half of an odd number of sessions taken part rounded down, so that a
+    /// rate just below the middle of two is taken for a tie.
+    WholeHalf,
 }
 
 impl Misreading {
@@ -182,13 +185,14 @@ impl Misreading {
 
     /// Those of F-8, and the rule that it has replaced. The comparison of the
     /// statement program notices each.
-    pub const OF_F8: [Misreading; 6] = [
+    pub const OF_F8: [Misreading; 7] = [
         Misreading::RoundsDown,
         Misreading::RoundsUp,
         Misreading::TiesDown,
         Misreading::TiesUp,
         Misreading::TiesToOdd,
         Misreading::TiesByRolledBack,
+        Misreading::WholeHalf,
     ];
 
     /// Those of F-6 in a text and at a start, which no step shows.

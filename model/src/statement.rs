@@ -99,10 +99,14 @@ fn too_many(misreading: Misreading, (taken_part, rolled_back): Day) -> bool {
 /// took part, and no more were rolled back, so none above 1000 is the nearest.
 fn rate(misreading: Misreading, taken_part: u64, rolled_back: u64) -> u64 {
     let exact = 1000 * rolled_back;
-    let distance = |whole: u64| match whole * taken_part {
-        above if misreading == Misreading::RoundsDown && above > exact => u64::MAX,
-        below if misreading == Misreading::RoundsUp && below < exact => u64::MAX,
-        numerator => numerator.abs_diff(exact),
+    let distance = |whole: u64| {
+        let numerator = whole * taken_part;
+        match misreading {
+            Misreading::RoundsDown if numerator > exact => u64::MAX,
+            Misreading::RoundsUp if numerator < exact => u64::MAX,
+            Misreading::WholeHalf if numerator > exact => numerator - exact - taken_part % 2,
+            _ => numerator.abs_diff(exact),
+        }
     };
     // Of two that are as near, the one for which this is less.
     let order = |whole: u64| match misreading {

@@ -183,6 +183,7 @@ fn each_misreading_prints_something_else() {
         (Misreading::TiesUp, list(&[(16, 1)])),
         (Misreading::TiesToOdd, list(&[(16, 1)])),
         (Misreading::TiesByRolledBack, list(&[(16, 1)])),
+        (Misreading::WholeHalf, list(&[(3, 1)])),
     ];
     let all = [&Misreading::OF_F5[..], &Misreading::OF_F8].concat();
     assert_eq!(noticed.clone().map(|(misreading, _)| misreading)[..], all);

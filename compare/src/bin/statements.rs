@@ -114,16 +114,17 @@ fn list_of_sums(mut taken_part: u64, mut rolled_back: u64) -> Vec<u8> {
     list(&days)
 }
 
-/// Lists for the rate alone. Every tie of up to 2,000 taken part. Of the greatest
-/// sum taken part, which has no ties, the sums rolled back next to every half, on
-/// both sides; of the greatest that has them all, every tie and its neighbours.
-/// Sums at random, every other with a multiple of 16 taken part: only those have
-/// ties.
+/// Lists for the rate alone. Of up to 2,000 taken part, every tie, and of an odd
+/// number, which has none, every rate as near to a tie as can be. Of the greatest
+/// sum taken part, which has no ties, the sums rolled back on both sides of every
+/// half; of the greatest that has them all, every tie and its neighbours. Sums at
+/// random, every other with a multiple of 16 taken part: only those have ties.
 fn lists_for_the_rate(random: &mut Random) -> Vec<Vec<u8>> {
     let mut lists = Vec::new();
-    for taken_part in 1..=2000 {
+    for taken_part in 1..=2000_u64 {
         for rolled_back in 0..=taken_part {
-            if 2000 * rolled_back % (2 * taken_part) == taken_part {
+            let twice_left = 2000 * rolled_back % (2 * taken_part);
+            if twice_left.abs_diff(taken_part) <= 1 {
                 lists.push(list_of_sums(taken_part, rolled_back));
             }
         }
@@ -241,7 +242,7 @@ fn reached(input: &[u8], output: &[u8]) -> (&'static str, Places<bool>) {
     let [taken_part, rolled_back, rate] = last[..] else {
         panic!("not three numbers in the last line");
     };
-    // How far the printed rate is from the exact one, over what took part.
+    // How far the printed rate is from the exact one, times what took part.
     let away = (rate * taken_part).abs_diff(1000 * rolled_back);
     let exact = away == 0;
     let tie = 2 * away == taken_part;
@@ -259,11 +260,16 @@ fn reached(input: &[u8], output: &[u8]) -> (&'static str, Places<bool>) {
         ("a day of equal numbers", day(|t, r| t == r && t > 0)),
         ("rate 0 with some rolled back", rolled_back > 0 && rate == 0),
         ("rate 1000", rate == 1000),
+        (
+            "rate 1000 with not all rolled back",
+            rolled_back < taken_part && rate == 1000,
+        ),
         ("other exact rates", exact && rate > 0 && rate < 1000),
         ("rounded down", !exact && !up),
         ("rounded up", up),
         ("a tie down", tie && !up),
         ("a tie up", tie && up),
+        ("the next to a tie", 2 * away + 1 == taken_part),
         ("a tie of the greatest sums", tie && great),
         (
             "just below a half of the greatest sums",

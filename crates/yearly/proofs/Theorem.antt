@@ -1,4 +1,4 @@
--- What is claimed of statements, but for the rate.
+-- What is claimed of statements, but for what rounding is.
 use mathlib.Core.Path.{_≡_, refl, sym, ap, _∙_}
 use mathlib.Core.List.{List, [], _∷_, _++_, append-assoc, append-nil}
 use Prim.Native.Nat.{ℕ, zero, suc, _<_}
@@ -14,8 +14,9 @@ use Rattle.program.proofs.Laws.{refused-longer}
 use Rattle.yearly.specs.Input.{daysIn, takenPart, rolledBack, maxDays, size, sized}
 use Rattle.yearly.specs.Rate.{rate}
 use Rattle.yearly.specs.Printed.{sums, dayLine, dayLines, lastLine, statement}
-use Rattle.yearly.specs.Claims.{dayNumbers, SumsPrinted, Enough}
-use Rattle.yearly.proofs.Laws.{days, not-sized, statement-accepted, statement-refused}
+use Rattle.yearly.specs.Claims.{dayNumbers, SumsPrinted, RatePrinted, Enough}
+use Rattle.yearly.proofs.Rounding.{rounded}
+use Rattle.yearly.proofs.Laws.{days, not-sized, accepted, statement-accepted, statement-refused}
 
 -- the numbers of the lines of n days, before others
 days-read : (input : List ℕ) (n : ℕ) (k : List ℕ) → numbers (dayLines input n ++ k) ≡ dayNumbers input n ++ numbers k
@@ -36,6 +37,12 @@ sums-printed input e =
     ap numbers (statement-accepted input e)
     ∙ days-read input (daysIn input) (line (r .sessions) now)
     ∙ ap (λ (l : List ℕ). dayNumbers input (daysIn input) ++ l) (ap numbers (sym (append-nil (line (r .sessions) now))) ∙ numbers-line (r .sessions) now [])
+
+pub rate-printed : RatePrinted
+unfolding sums
+rate-printed input e =
+    let r = sums input in
+    (rate (r .rollbacks) (r .sessions), sums-printed input e, rounded (r .rollbacks) (r .sessions) (accepted input e .some))
 
 -- a longer input is refused
 longer-refused : (input : List ℕ) → size maxDays < length input → statement input ≡ line Refusal.badList []

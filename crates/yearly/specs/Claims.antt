@@ -22,22 +22,27 @@ SumsPrinted =
     let rollbacks = sumUpTo n (rolledBack input) in
     numbers (statement input) ≡ dayNumbers input n ++ (sessions ∷ rollbacks ∷ rate rollbacks sessions ∷ [])
 
--- how far the whole number k is from a / b, times b
+-- how far the whole number k is from the fraction a / b, times b
 abbrev pub distance : ℕ → ℕ → ℕ → ℕ
 distance a b k = (k * b - a) + (a - k * b)
 
--- k is a / b to the nearest whole, a tie to the even one
+-- k is the fraction a / b rounded half to even
 pub record HalfEven (a b k : ℕ) : Type 0 where
   -- no whole number is nearer
   pub nearest : (n : ℕ) → distance a b k ≤ distance a b n
   -- and where another is as near, k is even
   pub even : (n : ℕ) → distance a b n ≡ distance a b k → (n ≡ k → ⊥) → k % 2 ≡ 0
 
--- the rate is so rounded: RULES 12.5
-abbrev pub Rounded : Type 0
-Rounded = (rollbacks sessions : ℕ) → 1 ≤ sessions → HalfEven (1000 * rollbacks) sessions (rate rollbacks sessions)
+-- where a list is not refused, the last number that stands in what is printed is the exact rate, rounded so: RULES 12.7
+abbrev pub RatePrinted : Type 0
+RatePrinted =
+    (input : List ℕ) → refusal input ≡ 0
+    → let n = daysIn input in
+    let sessions = sumUpTo n (takenPart input) in
+    let rollbacks = sumUpTo n (rolledBack input) in
+    (k : ℕ) × (numbers (statement input) ≡ dayNumbers input n ++ (sessions ∷ rollbacks ∷ k ∷ [])) × HalfEven (1000 * rollbacks) sessions k
 
--- no two numbers are
+-- only one number is rounded so: RULES 12.5
 abbrev pub OneRounded : Type 0
 OneRounded = (a b k l : ℕ) → 1 ≤ b → HalfEven a b k → HalfEven a b l → k ≡ l
 

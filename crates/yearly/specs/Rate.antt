@@ -3,7 +3,7 @@ use Prim.Native.Nat.{ℕ, _+_, _*_, _/_, _%_}
 use mathlib.Core.Bool.{cond}
 use lib.Dec.{ltb}
 
--- a / b to the nearest whole; where two are as near, to the even one: RULES 12.5
+-- the fraction a / b rounded half to even, to the nearest whole and at a tie to the even one: RULES 12.5
 unfoldable pub roundHalfEven : ℕ → ℕ → ℕ
 roundHalfEven a b =
     let quotient = a / b in

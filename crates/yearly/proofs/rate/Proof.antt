@@ -1,4 +1,4 @@
--- `rate` meets its contract: each answer is rounded as the definition is, and no two numbers are.
+-- `rate` meets its contract: each answer is the exact rate rounded half to even, and so is the definition; only one number is.
 use mathlib.Core.Path.{_≡_}
 use Prim.Native.Nat.{ℕ, _*_, _/_, _%_, _≤_, _<_}
 use native.Mathlib.Nat.{div-le-self, mod-lt}
@@ -18,6 +18,7 @@ is-rate c k e =
     let a = c .args in
     one-rounded (1000 * a .rollbacks) (a .sessions) k (rate (a .rollbacks) (a .sessions)) (c .pre .0) e (rounded (a .rollbacks) (a .sessions) (c .pre .0))
 
+-- quotient and remainder are small, so that nothing overflows
 few : (c : tie.Start) → (1000 * c .args .rollbacks / c .args .sessions ≤ 1000 * (maxDays * maxValue)) × (1000 * c .args .rollbacks % c .args .sessions < maxDays * maxValue)
 few c =
     let a = 1000 * c .args .rollbacks in
