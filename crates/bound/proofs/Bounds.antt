@@ -11,7 +11,7 @@ use Rattle.lists.proofs.Searches.{count-le, lowest-le}
 use Rattle.lists.proofs.Tests.{by-test}
 use Rattle.deadlock.specs.Machine.{abort, clean, down, Downward, Entry, grant, growing, isNews, Message, probe, rebroadcast, release, releasing, request, resend, Rules, Session, Stage, State, up, Upward, victim, waiting, withdraw, withdrawn}
 use Rattle.bound.specs.Formula.{cleanCost, deliveryBound, hopCost, messageCost, queueCost, resendCost, storeCost, waitCost}
-use Rattle.bound.specs.Potential.{distanceIn, downwardWeight, mailWeight, potential, sessionWeight, stageWeight, storeWeight, upwardWeight, waitsLeft, weight}
+use Rattle.bound.specs.Potential.{distanceIn, downwardWeight, mailSum, mailWeight, potential, sessionWeight, stageWeight, storeWeight, upwardWeight, waitsLeft, weight}
 use Rattle.bound.specs.Statement.{Bounded}
 use Rattle.bound.proofs.Sums.{sum-le}
 
@@ -79,7 +79,7 @@ module _ (R : Rules) where
     message-le d t (abort v i) = omega arith
 
     mail-le : (l : List Entry) → mailWeight R distance l ≤ length l * messageCost (R .S) (R .M)
-    unfolding mailWeight
+    unfolding mailWeight mailSum
     mail-le [] = omega arith
     mail-le (e ∷ l) = omega (arith, message-le (e .toItem) (e .session) (e .message), mail-le l)
 

@@ -24,7 +24,7 @@ use Rattle.deadlock.proofs.Victims.OneOnCycle.{one-edge, victim-of-down, victim
 use Rattle.deadlock.proofs.StateWaits.{cycle-onCycle, cycle-reached, edge-waitsFor, graph-of, walk-reached}
 use Rattle.deadlock.proofs.Core.Kept.{known-of, links-of}
 use Rattle.bound.specs.Formula.{hopCost}
-use Rattle.bound.specs.Potential.{distanceIn, mailWeight, waitsLeft, weight}
+use Rattle.bound.specs.Potential.{distanceIn, mailSum, mailWeight, waitsLeft, weight}
 
 module _ (R : Rules) (s : State) where
   abbrev arrives : ℕ → ℕ → ℕ → Bool
@@ -54,17 +54,17 @@ module _ (R : Rules) (L : Laws R) (s : State) (k : Invariant R s) where
       let e = k .core .victims .victim-waits v c in
       k .core .victims .victim-on-cycle v (e .0) (omega (arith, c, stage-facts (stageOf (worldOf s) v))) (e .1) .cycle
 
-  module _ (v t : ℕ) (c : CleanUnderWay (worldOf s) v) (w : Walk (Edge R (worldOf s)) v t) where
+  module _ (v t : ℕ) (loop : FirstApart (Edge R (worldOf s)) v v) (w : Walk (Edge R (worldOf s)) v t) where
     turned : FirstApart (Edge R (worldOf s)) t t
-    turned = cycle-turned (one-edge (links-of R L s (k .core))) (cycle-of v c) w
+    turned = cycle-turned (one-edge (links-of R L s (k .core))) loop w
 
-    -- a session on the cycle of victim v leads to v
+    -- a session on the cycle of v leads to v
     pub distance-some : 1 ≤ distanceIn R s t v
     unfolding distanceIn
     distance-some =
         let lk = links-of R L s (k .core) in
         let e = turned .out in
-        let y = walk-reached R s lk (k .in-range) (cycle-back (one-edge lk) (cycle-of v c) w) in
+        let y = walk-reached R s lk (k .in-range) (cycle-back (one-edge lk) loop w) in
         let r = member-within (graph-of R s lk (k .in-range)) t (k .in-range (e .item) .queue t (e .stands) .0) (cycle-onCycle R s lk (k .in-range) t turned) (y .0) in
         lowest-found (R .S) (arrives R s t v) (r .0) (r .1) (omega (arith, r .2, cycle-length-le (waitsFor R s) (R .S) t)) (eq-eqb _ _ (r .3 ∙ y .1)) .0
 
@@ -105,7 +105,7 @@ module _ (R : Rules) (f g : ℕ → ℕ → ℕ) where
   weight-same d t (abort v i) h = refl
 
   mail-same : (l : List Entry) → ((d : Bool) (t x v : ℕ) → 1 ≤ cleansOf v (route d t x l) → g t v ≡ f t v) → mailWeight R g l ≡ mailWeight R f l
-  unfolding mailWeight route cleansOf
+  unfolding mailWeight mailSum route cleansOf
   mail-same [] h = refl
   mail-same (e ∷ l) h = omega (
     arith,
@@ -126,7 +126,7 @@ module _ (R : Rules) (L : Laws R) (s r : State) (k : Invariant R s) (kr : Invari
       each : (n : ℕ) → waitsFor R r (reached R s n t) ≡ waitsFor R s (reached R s n t)
       each n =
           let lk = links-of R L s (k .core) in
-          let y = walk-append w (cycle-reached R s lk (k .in-range) t (turned R L s k v t c w) n) in
+          let y = walk-append w (cycle-reached R s lk (k .in-range) t (turned R L s k v t (cycle-of R L s k v c) w) n) in
           let d = cycle-next (one-edge lk) (cycle-of R L s k v c) y in
           stays-waitsFor v _ (d .next) c y (d .out) ∙ sym (edge-waitsFor R s lk (k .in-range) _ (d .next) (d .out))
 

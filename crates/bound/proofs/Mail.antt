@@ -1,4 +1,4 @@
--- What the mailbox weighs before and after a message is taken and others are sent.
+-- A sum over the mailbox, and what holds of every entry, when a message is taken and others are sent.
 use mathlib.Core.Path.{_≡_, ap, refl, sym}
 use mathlib.Core.Bool.{_&&_, Bool, Bool·beq, cond, false, true}
 use mathlib.Core.List.{[], _++_, _∷_, List}
@@ -7,9 +7,14 @@ use native.Mathlib.Omega.{arith}
 use lib.Dec.{eqb}
 use borrow.Author.Tests.{eqb-true}
 use Rattle.lists.proofs.Tests.{and-both}
-use Rattle.deadlock.specs.Machine.{Entry, fromItem, fromSession, isOnRoute, Message, noEntry, putBack, Rules, Sends, take, Taken, taken}
-use Rattle.bound.specs.Potential.{mailWeight, weight}
+use Rattle.deadlock.specs.Machine.{Entry, fromItem, fromSession, isOnRoute, Message, noEntry, putBack, Sends, take, Taken, taken}
+use Rattle.deadlock.specs.Counts.{Every, every-cons, every-nil}
+use Rattle.bound.specs.Potential.{mailSum}
 use Rattle.bound.proofs.Sent.{sentWeight}
+
+-- a message between session t and item x, to the item (true) or to the session (false)
+abbrev pub entry : Bool → ℕ → ℕ → Message → Entry
+entry d t x m = record { toItem = d; session = t; item = x; message = m }
 
 beq-true : (a b : Bool) → Bool·beq a b ≡ true → a ≡ b
 beq-true true true e = refl
@@ -17,58 +22,91 @@ beq-true true false e = sym e
 beq-true false true e = e
 beq-true false false e = refl
 
-module _ (R : Rules) (distance : ℕ → ℕ → ℕ) where
-  abbrev mail : List Entry → ℕ
-  mail = mailWeight R distance
+-- an entry of a route
+entry-is : (d : Bool) (t x : ℕ) (a : Entry) → isOnRoute d t x a ≡ true → entry d t x (a .message) ≡ a
+unfolding isOnRoute
+entry-is d t x a e =
+    let p = and-both (Bool·beq d (a .toItem)) (eqb t (a .session) && eqb x (a .item)) e in
+    let q = and-both (eqb t (a .session)) (eqb x (a .item)) (p .1) in
+    rw (beq-true d (a .toItem) (p .0), eqb-true t (a .session) (q .0), eqb-true x (a .item) (q .1)) refl
 
-  mail-append : (l k : List Entry) → mail (l ++ k) ≡ mail l + mail k
-  unfolding mailWeight
-  mail-append [] k = omega arith
-  mail-append (e ∷ l) k = omega (arith, mail-append l k)
+-- ---- sums
+module _ (f : Entry → ℕ) where
+  pub sum-append : (l k : List Entry) → mailSum f (l ++ k) ≡ mailSum f l + mailSum f k
+  unfolding mailSum
+  sum-append [] k = omega arith
+  sum-append (e ∷ l) k = omega (arith, sum-append l k)
 
-  mail-fromSession : (t : ℕ) (l : Sends) → mail (fromSession t l) ≡ sentWeight (λ _ m. weight R distance true t m) l
-  unfolding mailWeight fromSession sentWeight
-  mail-fromSession t [] = refl
-  mail-fromSession t (p ∷ l) = omega (arith, mail-fromSession t l)
+  pub sum-fromSession : (t : ℕ) (l : Sends) → mailSum f (fromSession t l) ≡ sentWeight (λ x m. f (entry true t x m)) l
+  unfolding mailSum fromSession sentWeight
+  sum-fromSession t [] = refl
+  sum-fromSession t (p ∷ l) = omega (arith, sum-fromSession t l)
 
-  mail-fromItem : (x : ℕ) (l : Sends) → mail (fromItem x l) ≡ sentWeight (weight R distance false) l
-  unfolding mailWeight fromItem sentWeight
-  mail-fromItem x [] = refl
-  mail-fromItem x (p ∷ l) = omega (arith, mail-fromItem x l)
+  pub sum-fromItem : (x : ℕ) (l : Sends) → mailSum f (fromItem x l) ≡ sentWeight (λ t m. f (entry false t x m)) l
+  unfolding mailSum fromItem sentWeight
+  sum-fromItem x [] = refl
+  sum-fromItem x (p ∷ l) = omega (arith, sum-fromItem x l)
 
   module _ (d : Bool) (t x : ℕ) where
-    on-route : (a : Entry) → isOnRoute d t x a ≡ true → weight R distance (a .toItem) (a .session) (a .message) ≡ weight R distance d t (a .message)
-    unfolding isOnRoute
-    on-route a e =
-        let p = and-both (Bool·beq d (a .toItem)) (eqb t (a .session) && eqb x (a .item)) e in
-        rw (beq-true d (a .toItem) (p .0), eqb-true t (a .session) (and-both (eqb t (a .session)) (eqb x (a .item)) (p .1) .0))
-
-    -- what is taken had its weight
-    mail-take : (l : List Entry) (m : Message) (r : List Entry) → take d t x l ≡ taken m r → mail l ≡ weight R distance d t m + mail r
-    unfolding mailWeight take putBack
-    mail-take [] m r e = cc
-    mail-take (a ∷ l) m r e = cases (isOnRoute d t x a) refl (take d t x l) refl (mail-take l) e
+    -- what is taken had its part
+    pub sum-take : (l : List Entry) (m : Message) (r : List Entry) → take d t x l ≡ taken m r → mailSum f l ≡ f (entry d t x m) + mailSum f r
+    unfolding mailSum take putBack
+    sum-take [] m r e = cc
+    sum-take (a ∷ l) m r e = cases (isOnRoute d t x a) refl (take d t x l) refl (sum-take l) e
       where
         cases : (b : Bool) → isOnRoute d t x a ≡ b → (o : Taken) → take d t x l ≡ o
-            → ((m : Message) (r : List Entry) → take d t x l ≡ taken m r → mail l ≡ weight R distance d t m + mail r)
+            → ((m : Message) (r : List Entry) → take d t x l ≡ taken m r → mailSum f l ≡ f (entry d t x m) + mailSum f r)
             → cond b (taken (a .message) l) (putBack a o) ≡ taken m r
-            → weight R distance (a .toItem) (a .session) (a .message) + mail l ≡ weight R distance d t m + mail r
+            → f a + mailSum f l ≡ f (entry d t x m) + mailSum f r
         cases true h o q ih e =
             let z : a .message ≡ m = cc in
             let y : l ≡ r = cc in
-            omega (arith, on-route a h, ap (weight R distance d t) z, ap mail y)
+            omega (arith, ap f (entry-is d t x a h), ap (λ (n : Message). f (entry d t x n)) z, ap (mailSum f) y)
         cases false h noEntry q ih e = let z : _≡_ {A = ℕ} 0 1 = cc in absurd (omega arith)
         cases false h (taken m′ r′) q ih e =
             let z : m′ ≡ m = cc in
             let y : a ∷ r′ ≡ r = cc in
-            omega (arith, ih m′ r′ q, ap (weight R distance d t) z, ap mail y)
+            omega (arith, ih m′ r′ q, ap (λ (n : Message). f (entry d t x n)) z, ap (mailSum f) y)
 
   -- a message at a session
-  pub mail-session : (t x : ℕ) (l : List Entry) (m : Message) (r : List Entry) (o : Sends) → take false t x l ≡ taken m r
-      → mail (r ++ fromSession t o) + weight R distance false t m ≡ mail l + sentWeight (λ _ a. weight R distance true t a) o
-  mail-session t x l m r o e = omega (arith, mail-append r (fromSession t o), mail-fromSession t o, mail-take false t x l m r e)
+  pub sum-session : (t x : ℕ) (l : List Entry) (m : Message) (r : List Entry) (o : Sends) → take false t x l ≡ taken m r
+      → mailSum f (r ++ fromSession t o) + f (entry false t x m) ≡ mailSum f l + sentWeight (λ y a. f (entry true t y a)) o
+  sum-session t x l m r o e = omega (arith, sum-append r (fromSession t o), sum-fromSession t o, sum-take false t x l m r e)
 
   -- a message at an item
-  pub mail-item : (t x : ℕ) (l : List Entry) (m : Message) (r : List Entry) (o : Sends) → take true t x l ≡ taken m r
-      → mail (r ++ fromItem x o) + weight R distance true t m ≡ mail l + sentWeight (weight R distance false) o
-  mail-item t x l m r o e = omega (arith, mail-append r (fromItem x o), mail-fromItem x o, mail-take true t x l m r e)
+  pub sum-item : (t x : ℕ) (l : List Entry) (m : Message) (r : List Entry) (o : Sends) → take true t x l ≡ taken m r
+      → mailSum f (r ++ fromItem x o) + f (entry true t x m) ≡ mailSum f l + sentWeight (λ u a. f (entry false u x a)) o
+  sum-item t x l m r o e = omega (arith, sum-append r (fromItem x o), sum-fromItem x o, sum-take true t x l m r e)
+
+-- ---- what holds of every entry
+module _ {Q : Entry → Type 0} where
+  pub every-taken : (d : Bool) (t x : ℕ) {l : List Entry} (m : Message) (r : List Entry) → Every Q l → take d t x l ≡ taken m r → Q (entry d t x m) × Every Q r
+  unfolding take putBack
+  every-taken d t x m r every-nil e = let z : _≡_ {A = ℕ} 0 1 = cc in absurd (omega arith)
+  every-taken d t x m r (every-cons {a} {l} h k) e = cases (isOnRoute d t x a) refl (take d t x l) refl (λ m r. every-taken d t x m r k) e
+    where
+      cases : (b : Bool) → isOnRoute d t x a ≡ b → (o : Taken) → take d t x l ≡ o
+          → ((m : Message) (r : List Entry) → take d t x l ≡ taken m r → Q (entry d t x m) × Every Q r)
+          → cond b (taken (a .message) l) (putBack a o) ≡ taken m r → Q (entry d t x m) × Every Q r
+      cases true g o q ih e =
+          let z : a .message ≡ m = cc in
+          let y : l ≡ r = cc in
+          let k2 : Q (entry d t x (a .message)) = rw (entry-is d t x a g) h in
+          (rw z at k2, rw y at k)
+      cases false g noEntry q ih e = let z : _≡_ {A = ℕ} 0 1 = cc in absurd (omega arith)
+      cases false g (taken m′ r′) q ih e =
+          let z : m′ ≡ m = cc in
+          let y : a ∷ r′ ≡ r = cc in
+          let i = ih m′ r′ q in
+          let k2 : Every Q (a ∷ r′) = every-cons h (i .1) in
+          (rw z at (i .0), rw y at k2)
+
+  pub every-fromSession : (t : ℕ) {l : Sends} → Every (λ (p : ℕ × Message). Q (entry true t (p .0) (p .1))) l → Every Q (fromSession t l)
+  unfolding fromSession
+  every-fromSession t every-nil = every-nil
+  every-fromSession t (every-cons h k) = every-cons h (every-fromSession t k)
+
+  pub every-fromItem : (x : ℕ) {l : Sends} → Every (λ (p : ℕ × Message). Q (entry false (p .0) x (p .1))) l → Every Q (fromItem x l)
+  unfolding fromItem
+  every-fromItem x every-nil = every-nil
+  every-fromItem x (every-cons h k) = every-cons h (every-fromItem x k)

@@ -18,13 +18,13 @@ use Rattle.deadlock.proofs.Laws.Stages.{seen-facts}
 use Rattle.deadlock.proofs.Links.Kept.{item-high, item-low, session-high, session-low}
 use Rattle.deadlock.proofs.InvariantKept.{invariant-move}
 use Rattle.bound.specs.Formula.{deliveryBound}
-use Rattle.bound.specs.Potential.{distanceIn, potential, sessionWeight, waitsLeft}
+use Rattle.bound.specs.Potential.{distanceIn, mailWeight, potential, sessionWeight, waitsLeft, weight}
 use Rattle.bound.specs.Statement.{delivers, Falls, isTaken, SmallBound, Statement}
 use Rattle.bound.proofs.Sums.{length-le}
-use Rattle.bound.proofs.Mail.{mail-item, mail-session}
+use Rattle.bound.proofs.Mail.{sum-item, sum-session}
 use Rattle.bound.proofs.Bounds.{bounded}
 use Rattle.bound.proofs.Numbers.{message-small, mul-le, session-small}
-use Rattle.bound.proofs.Distance.{clean-up-walk, CyclesStay, distance-some, distance-stays, mail-stays, one-less, stays-waitsFor}
+use Rattle.bound.proofs.Distance.{clean-up-walk, cycle-of, CyclesStay, distance-some, distance-stays, mail-stays, one-less, stays-waitsFor}
 use Rattle.bound.proofs.CyclesStay.{item-stays}
 use Rattle.bound.proofs.ItemCovers.{item-covers}
 use Rattle.bound.proofs.SessionCovers.{session-covers}
@@ -55,7 +55,7 @@ module _ (R : Rules) (L : Laws R) (s : State) (k : Invariant R s) (t x : ℕ) (l
           some-left : 1 ≤ distanceIn R after t v
           some-left =
               let w = clean-up-walk R L s k v t x here in
-              omega (arith, distance-stays R L s after k kr stay v t w, distance-some R L s k v t (w .0) (w .1))
+              omega (arith, distance-stays R L s after k kr stay v t w, distance-some R L s k v t (cycle-of R L s k v (w .0)) (w .1))
 
           next : (h : ℕ) → s .item x .holder ≡ some h → waitsFor R after t ≡ h
           next h y =
@@ -64,11 +64,11 @@ module _ (R : Rules) (L : Laws R) (s : State) (k : Invariant R s) (t x : ℕ) (l
               stays-waitsFor R L s after k kr stay v t h (w .0) (w .1) (record { item = x; low = lo; high = hi; stands = stands; held = y })
 
       item-falls : potential R after + 1 ≤ potential R s
-      unfolding potential afterItem
+      unfolding potential mailWeight afterItem
       item-falls = omega (
         arith,
         mail-stays R L s after k kr stay,
-        mail-item R (distanceIn R after) t x (s .mailbox) m l (itemReceives R t (s .item x) m .sends) e,
+        sum-item (λ (a : Entry). weight R (distanceIn R after) (a .toItem) (a .session) (a .message)) t x (s .mailbox) m l (itemReceives R t (s .item x) m .sends) e,
         item-covers R (distanceIn R after) t (s .item x) queue-short m clean-goes-on,
       )
 
@@ -81,7 +81,7 @@ module _ (R : Rules) (L : Laws R) (s : State) (k : Invariant R s) (t x : ℕ) (l
   module _ (low : 1 ≤ t) (high : t ≤ R .S) where
     session-falls : (m : Message) (l : List Entry) → take false t x (s .mailbox) ≡ taken m l
         → potential R (afterSession s t l (sessionReceives R t x (s .session t) m)) + 1 ≤ potential R s
-    unfolding potential afterSession distanceIn waitsFor
+    unfolding potential mailWeight afterSession distanceIn waitsFor
     session-falls m l e =
         let f : Session → ℕ = sessionWeight R in
         let o = sessionReceives R t x (s .session t) m in
@@ -89,7 +89,7 @@ module _ (R : Rules) (L : Laws R) (s : State) (k : Invariant R s) (t x : ℕ) (l
           arith,
           sum-changed (R .S) t (λ a. f (s .session a)) (λ a. f (updated (s .session) t (o .after) a)) low high (λ a ne. ap f (updated-other (s .session) t (o .after) a ne)),
           ap f (updated-same (s .session) t (o .after)),
-          mail-session R (distanceIn R s) t x (s .mailbox) m l (o .sends) e,
+          sum-session (λ (a : Entry). weight R (distanceIn R s) (a .toItem) (a .session) (a .message)) t x (s .mailbox) m l (o .sends) e,
           session-covers R L s k t x low high l m e,
         )
 

@@ -7,6 +7,11 @@ use Rattle.lists.specs.Lists.{count, lowest, sumUpTo}
 use Rattle.deadlock.specs.Machine.{abort, clean, down, Downward, Entry, grant, growing, isNews, Message, probe, reached, rebroadcast, release, releasing, request, resend, Rules, Session, Stage, State, up, Upward, victim, waiting, withdraw, withdrawn}
 use Rattle.bound.specs.Formula.{cleanCost, hopCost, itemsCost, queueCost, resendCost, waitCost}
 
+-- the sum of a number of each entry
+unfoldable pub mailSum : (Entry → ℕ) → List Entry → ℕ
+mailSum f [] = 0
+mailSum f (e ∷ l) = f e + mailSum f l
+
 module _ (R : Rules) where
   -- ---- messages
   -- its own delivery, and what it gives rise to: a grant or a probe, the answer to a withdraw, or what an item sends for its queue
@@ -37,8 +42,7 @@ module _ (R : Rules) where
     weight d t (abort v i) = 1
 
     unfoldable pub mailWeight : List Entry → ℕ
-    mailWeight [] = 0
-    mailWeight (e ∷ l) = weight (e .toItem) (e .session) (e .message) + mailWeight l
+    mailWeight l = mailSum (λ (e : Entry). weight (e .toItem) (e .session) (e .message)) l
 
   -- ---- sessions
   -- what a session of that stage may still have to send as a victim
