@@ -8,7 +8,8 @@ use lib.Dec.{eqb}
 use lib.ListN.{length}
 use borrow.Author.Tests.{eq-eqb, eqb-true, eqb-false}
 use Rattle.lists.specs.Lists.{between, all}
-use Rattle.lists.proofs.Tests.{and-intro, by-test}
+use Rattle.lists.proofs.Laws.{all-weaken}
+use Rattle.lists.proofs.Tests.{and-both, and-intro, by-test}
 use Rattle.mailbox.specs.Entry.{Entry, toItem}
 use Rattle.mailbox.specs.Layout as Mail
 use Rattle.mailbox.specs.Layout.{countOf, entryAt}
@@ -35,6 +36,7 @@ use Rattle.agreement.specs.Reading.{readEntries}
 use Rattle.agreement.proofs.MailboxAgrees.{length-readEntries}
 use Rattle.clause.specs.Statement.{opened}
 use Rattle.clause.specs.Drains.{isAccepted, DrainIsSteps, DrainEnds, DrainsEnd, BoundSmall}
+use Rattle.clause.specs.Progress.{isDelivery, isDelivered, AllDelivered}
 use Rattle.clause.proofs.State
 use Rattle.clause.proofs.State.{machineOf, machine-laws, stateOf, Good}
 use Rattle.clause.proofs.Moves.{Moved, StepMoved}
@@ -44,19 +46,24 @@ use Rattle.clause.proofs.Theorem.{start-accepted, followed}
 use Rattle.clause.proofs.Replay.{steps-left, steps-done}
 
 -- the verb of an entry is that of a delivery
-is-delivery : (e : Entry) → between Step.deliverToItem Step.deliverToSession (verbOf e) ≡ true
+pub is-delivery : (e : Entry) → between Step.deliverToItem Step.deliverToSession (verbOf e) ≡ true
 is-delivery e = by-test (λ (n : ℕ). between Step.deliverToItem Step.deliverToSession n ≡ true) (eqb (e .direction) toItem) (λ _. refl) (λ _. refl)
 
 -- ---- a drain is its single deliveries
-all-accepted : (n : ℕ) (b : Buffers) → Formed (b .table) (b .mail) → all isAccepted (done b (deliveries n b)) ≡ true
+all-delivered : (n : ℕ) (b : Buffers) → Formed (b .table) (b .mail) → AllDelivered b (deliveries n b)
 unfolding deliveries done all
-all-accepted zero b f = refl
-all-accepted (suc n) b f =
-    by-test (λ (l : List Run.Step). all isAccepted (done b l) ≡ true) (eqb (ending b) limited)
+all-delivered zero b f = refl
+all-delivered (suc n) b f =
+    by-test (AllDelivered b) (eqb (ending b) limited)
     (λ q. let c = oldest b in
-    and-intro (eq-eqb (doneOn b c .result .answer .refusal) 0 (next-accepted (b .table) (b .mail) f (eqb-true (ending b) limited q)))
-    (all-accepted n (leftBy (doneOn b c)) (step-keeps-form (c .verb) (c .session) (c .item) (b .table) (b .mail) f .formed)))
+    and-intro (and-intro (is-delivery (entryAt (b .mail) 0)) (eq-eqb (doneOn b c .result .answer .refusal) 0 (next-accepted (b .table) (b .mail) f (eqb-true (ending b) limited q))))
+    (all-delivered n (leftBy (doneOn b c)) (step-keeps-form (c .verb) (c .session) (c .item) (b .table) (b .mail) f .formed)))
     (λ _. refl)
+
+pub drain-delivers : (limit : ℕ) (b : Buffers) → AllDelivered b (drainSteps limit b)
+unfolding drainSteps done all
+drain-delivers limit b =
+    by-test (AllDelivered b) (eqb (drainRefusal b) 0) (λ q. all-delivered limit b (buffers-zero (b .table) (b .mail) (eqb-true (drainRefusal b) 0 q))) (λ _. refl)
 
 -- the steps of a single call
 one-call : (limit : ℕ) (b : Buffers) → steps b (History.drain limit ∷ []) ≡ done b (drainSteps limit b)
@@ -70,8 +77,7 @@ drain-is-steps limit b = record {
   left = rw (steps-left b (drainSteps limit b)) refl;
   same-left = rw (steps-left b (drainSteps limit b)) refl;
   same-steps = rw (steps-done b (drainSteps limit b)) (one-call limit b);
-  accepted = by-test (λ (l : List Run.Step). all isAccepted (done b l) ≡ true) (eqb (drainRefusal b) 0)
-      (λ q. all-accepted limit b (buffers-zero (b .table) (b .mail) (eqb-true (drainRefusal b) 0 q))) (λ _. refl);
+  accepted = all-weaken isDelivered isAccepted (λ d e. and-both (isDelivery (d .verb)) (isAccepted d) e .1) (done b (drainSteps limit b)) (drain-delivers limit b);
 }
 
 -- ---- how many deliveries there are
@@ -99,31 +105,40 @@ module _ (conf : Config) where
     falls : between Step.deliverToItem Step.deliverToSession verb ≡ true → potential R (stateOf conf (r .table) (m .entries)) < potential R (stateOf conf table l)
     falls d = rw (m .moves) (omega (arith, BoundTheorem.theorem R (machine-laws conf (r .table) (m .entries) (m .good)) .falls (stateOf conf table l) k (m .call) (m .of-machine) (s .delivers d)))
 
-  few : (n : ℕ) (table : List ℕ) (l : List Entry) → Good conf table l → Invariant R (stateOf conf table l)
-      → length (deliveries n (buffers table (Mail.mailBytes (conf .capacity) l))) ≤ potential R (stateOf conf table l)
-  unfolding deliveries
-  few zero table l g k = omega arith
-  few (suc n) table l g k =
+  -- any list of deliveries, none of them refused
+  few : (steps : List Run.Step) (table : List ℕ) (l : List Entry) → Good conf table l → Invariant R (stateOf conf table l)
+      → AllDelivered (buffers table (Mail.mailBytes (conf .capacity) l)) steps → length steps ≤ potential R (stateOf conf table l)
+  unfolding done all
+  few [] table l g k h = omega arith
+  few (c ∷ steps) table l g k h =
       let b = buffers table (Mail.mailBytes (conf .capacity) l) in
-      by-test (λ (d : List Run.Step). length d ≤ potential R (stateOf conf table l)) (eqb (ending b) limited)
-      (λ q. by-step conf table l g (oldest b .verb) (oldest b .session) (oldest b .item)
-      (λ (r : Stepped). r .answer .refusal ≡ 0 → length (oldest b ∷ deliveries n (buffers (r .table) (r .mail))) ≤ potential R (stateOf conf table l))
+      let d = doneOn b c in
+      let both = and-both (isDelivered d) (all isDelivered (done (leftBy d) steps)) h in
+      let first = and-both (isDelivery (c .verb)) (isAccepted d) (both .0) in
+      by-step conf table l g (c .verb) (c .session) (c .item)
+      (λ (r : Stepped). r .answer .refusal ≡ 0 → AllDelivered (buffers (r .table) (r .mail)) steps → length (c ∷ steps) ≤ potential R (stateOf conf table l))
       (λ i other z. absurd (other z))
-      (λ r m _. rw (m .moved .mail) (omega (arith, few n (r .table) (m .moved .entries) (m .moved .good) (kept table l k _ _ r m), falls table l k _ _ r m (is-delivery (Mail.entryAt (b .mail) 0)))))
-      (next-accepted table (Mail.mailBytes (conf .capacity) l) (State.buffers-formed conf table l g) (eqb-true (ending b) limited q)))
-      (λ _. omega arith)
+      (λ r m _ more. omega (
+        arith,
+        few steps (r .table) (m .moved .entries) (m .moved .good) (kept table l k _ _ r m) (rw (m .moved .mail) at more),
+        falls table l k _ _ r m (first .0),
+      ))
+      (eqb-true (d .result .answer .refusal) 0 (first .1)) (both .1)
 
   -- as the formula says
   module _ (table : List ℕ) (l : List Entry) (g : Good conf table l) (k : Invariant R (stateOf conf table l)) where
     abbrev at : Buffers
     at = buffers table (Mail.mailBytes (conf .capacity) l)
 
-    bound-of : (n : ℕ) → length (deliveries n at) ≤ deliveryBound (conf .sessions) (conf .items) (countOf (Mail.mailBytes (conf .capacity) l))
-    bound-of n =
+    pub steps-bounded : (steps : List Run.Step) → AllDelivered at steps → length steps ≤ deliveryBound (conf .sessions) (conf .items) (countOf (Mail.mailBytes (conf .capacity) l))
+    steps-bounded steps h =
         let c : countOf (Mail.mailBytes (conf .capacity) l) ≡ length (readEntries l) = MailLaws.count-mail (conf .capacity) l (g .low) (g .high) (g .room) ∙ sym (length-readEntries l) in
-        rw (c) (omega (arith, few n table l g k, BoundTheorem.theorem R (machine-laws conf table l g) .bounded (stateOf conf table l)))
+        rw (c) (omega (arith, few steps table l g k h, BoundTheorem.theorem R (machine-laws conf table l g) .bounded (stateOf conf table l)))
 
-    drain-ends : (limit : ℕ) → DrainEnds conf at limit
+    bound-of : (n : ℕ) → length (deliveries n at) ≤ deliveryBound (conf .sessions) (conf .items) (countOf (Mail.mailBytes (conf .capacity) l))
+    bound-of n = steps-bounded (deliveries n at) (all-delivered n at (State.buffers-formed conf table l g))
+
+    pub drain-ends : (limit : ℕ) → DrainEnds conf at limit
     unfolding drain drainSteps
     drain-ends limit =
         let z : drainRefusal at ≡ 0 = formed-zero table (Mail.mailBytes (conf .capacity) l) (State.buffers-formed conf table l g) in

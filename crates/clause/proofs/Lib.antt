@@ -8,3 +8,4 @@ pub mod Declarations
 pub mod Theorem
 pub mod Replay
 pub mod Drains
+pub mod Progress

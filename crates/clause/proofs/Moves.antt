@@ -46,6 +46,7 @@ pub record Moved (conf : Config) (table : List ℕ) (l : List Entry) (b : Buffer
 -- such a move by a step with this verb and session, which leaves and answers r
 pub record StepMoved (conf : Config) (table : List ℕ) (l : List Entry) (verb t : ℕ) (r : Stepped) : Type 0 where
   pub moved : Moved conf table l (buffers (r .table) (r .mail))
+  pub accepted : r .answer .refusal ≡ 0
   pub closes : r .answer .closed ≡ bit (moved .event .closed)
   pub declares : r .answer .victim ≢ 0 → moved .event .declared ≡ some (record { victim = r .answer .victim; initiator = r .answer .initiator })
   pub rolls : rollsBack t table (r .table) ≡ moved .event .rolledBack
@@ -115,6 +116,7 @@ module _ (conf : Config) (table : List ℕ) (l : List Entry) (g : Good conf tabl
       unfolding session-moved
       session-stepped verb delivered delivers = record {
         moved = session-moved;
+        accepted = refl;
         closes = one-is-bit false;
         declares = λ n. absurd (n refl);
         rolls = refl;
@@ -179,6 +181,7 @@ module _ (conf : Config) (table : List ℕ) (l : List Entry) (g : Good conf tabl
           event = Machine.itemEvent (r .event) (Machine.onCycle (machineOf conf) (stateOf conf item-after answered) t);
           happens = happens (stateOf conf item-after answered);
         };
+        accepted = refl;
         closes = closes (r .event);
         declares = declares (r .event) (Machine.onCycle (machineOf conf) (stateOf conf item-after answered) t);
         rolls = same-stage ∙ never-rolls (r .event) (Machine.onCycle (machineOf conf) (stateOf conf item-after answered) t);

@@ -1,6 +1,6 @@
 -- One step: refused, with both buffers as they were, or one of the machine's moves.
-use mathlib.Core.Path.{_≡_, refl, ap}
-use mathlib.Core.Bool.{Bool, true, false, not, _&&_, _||_, false≢true}
+use mathlib.Core.Path.{_≡_, refl, sym, ap, _∙_}
+use mathlib.Core.Bool.{Bool, true, false, cond, not, _&&_, _||_, false≢true}
 use mathlib.Core.List.{List}
 use mathlib.Core.Logic.{_≢_}
 use mathlib.Core.Option.{none}
@@ -8,9 +8,9 @@ use Prim.Native.Nat.{ℕ, _≤_}
 use native.Mathlib.Omega.{arith}
 use lib.Dec.{eqb}
 use lib.ListN.{length}
-use borrow.Author.Tests.{eqb-true, eqb-false, ltb-false, not-false}
+use borrow.Author.Tests.{eqb-true, eqb-false, le-ltb, ltb-false, not-false}
 use Rattle.lists.specs.Lists.{between}
-use Rattle.lists.proofs.Tests.{and-intro, between-intro, by-test, or-neither}
+use Rattle.lists.proofs.Tests.{and-intro, between-intro, by-test, or-neither, within}
 use Rattle.bitset.specs.Bitset.{has}
 use Rattle.session.specs.Stage
 use Rattle.session.specs.Seniority.{senior}
@@ -24,14 +24,18 @@ use Rattle.mailbox.proofs.Laws as MailLaws
 use Rattle.table.specs.Layout as Table
 use Rattle.waits.specs.OnTable.{locks}
 use Rattle.step.specs.Step as Step
-use Rattle.step.specs.Step.{Stepped, stepped, refusedAnswer, hindered, delivered, sessionActs, sessionPlan, itemPlan, overfull, plan, acted, committed, stageForbids, maskForbids, nothingToDeliver}
+use Rattle.step.specs.Step.{Plan, Stepped, stepCauses, stepped, refusedAnswer, hindered, delivered, sessionActs, sessionPlan, itemPlan, overfull, plan, acted, committed, stageForbids, maskForbids, nothingToDeliver}
 use Rattle.lockmgr.specs.Calls.{Config, judged, step}
+use Rattle.refusal.specs.Refusal.{first}
 use Rattle.refusal.proofs.Causes.{unmet}
-use Rattle.lockmgr.proofs.Judging.{judged-zero}
-use Rattle.step.proofs.Acting.{by-verb, request-plan, release-plan}
+use Rattle.lockmgr.proofs.Judging.{formed-zero, judged-none, judged-zero, step-acts}
+use Rattle.step.proofs.Acting.{acted-concluded, by-verb, request-plan, release-plan}
+use Rattle.deadlock.specs.Lists.{updated}
 use Rattle.deadlock.specs.Machine
+use Rattle.deadlock.proofs.Laws.Lists.{updated-other, updated-same}
 use Rattle.bound.specs.Statement as Bound
 use Rattle.agreement.specs.Reading.{readEntries}
+use Rattle.agreement.proofs.MailboxAgrees.{length-readEntries}
 use Rattle.agreement.proofs.MoveAgrees as Agrees
 use Rattle.agreement.proofs.EventAgrees as Events
 use Rattle.clause.proofs.State
@@ -171,6 +175,64 @@ module _ (conf : Config) (table : List ℕ) (l : List Entry) (g : Good conf tabl
         (λ f h. Agrees.session-move (seniorOf conf) (nextOf conf) (conf .sessions) (conf .items) few-sessions few-items (Table.session table) (locks table) l formed t x t-range x-range found f h)
         (λ f h v. Events.session-move-event (seniorOf conf) (nextOf conf) (conf .sessions) (conf .items) few-sessions few-items (Table.session table) (locks table) l formed t x t-range x-range f _ v)
         Step.deliverToSession refl (λ _. taken false found))
+
+    -- ---- a delivery that finds its entry: how many entries it leaves, and that only room can hinder it
+    abbrev verbOf : Bool → ℕ
+    verbOf d = cond d Step.deliverToItem Step.deliverToSession
+
+    abbrev pub callOf : Bool → Machine.Call
+    callOf d = cond d (Machine.deliverToItem t x) (Machine.deliverToSession t x)
+
+    -- as many as the machine
+    same-count : (d : Bool) → eqb (Agrees.placeOf t x l d) (length l) ≡ false
+        → length (plan (verbOf d) t x table l .entries) ≡ length (Machine.move (machineOf conf) (State.stateOf conf table l) (callOf d) .mailbox)
+    same-count true found =
+        let r = Agrees.itemStep (seniorOf conf) (nextOf conf) (locks table) t x l in
+        ap (λ (p : Plan). length (p .entries)) item-plan
+        ∙ sym (length-readEntries _)
+        ∙ ap (λ (s : Machine.State). length (s .mailbox))
+        (Agrees.item-move (seniorOf conf) (nextOf conf) (conf .sessions) (conf .items) few-sessions few-items (Table.session table) (locks table) l formed t x t-range x-range found (next-inside (senior-weak (conf .ranks)))
+        (updated (locks table) x (r .lock)) (record { here = updated-same (locks table) x (r .lock); elsewhere = λ j _ n. updated-other (locks table) x (r .lock) j n }))
+    same-count false found =
+        let r = Agrees.sessionStep (seniorOf conf) (Table.session table) t x l in
+        ap (λ (p : Plan). length (p .entries)) session-plan
+        ∙ sym (length-readEntries _)
+        ∙ ap (λ (s : Machine.State). length (s .mailbox))
+        (Agrees.session-move (seniorOf conf) (nextOf conf) (conf .sessions) (conf .items) few-sessions few-items (Table.session table) (locks table) l formed t x t-range x-range found
+        (updated (Table.session table) t (r .session)) (record { here = updated-same (Table.session table) t (r .session); elsewhere = λ j _ n. updated-other (Table.session table) t (r .session) j n }))
+
+    only-room : (d : Bool) → eqb (Agrees.placeOf t x l d) (length l) ≡ false → first (stepCauses (verbOf d) t x table (Mail.entriesOf mail)) ≡ 0
+    unfolding first delivered
+    only-room true found = rw (entries-are, found) refl
+    only-room false found = rw (entries-are, found) refl
+
+    is-verb : (d : Bool) → (1 ≤ verbOf d) × (verbOf d ≤ 4)
+    is-verb true = (omega arith, omega arith)
+    is-verb false = (omega arith, omega arith)
+
+    -- what the machine leaves fits
+    pub fits-accepted : (d : Bool) → eqb (Agrees.placeOf t x l d) (length l) ≡ false
+        → length (Machine.move (machineOf conf) (State.stateOf conf table l) (callOf d) .mailbox) ≤ conf .capacity → step (verbOf d) t x table mail .answer .refusal ≡ 0
+    fits-accepted d found fits =
+        let f = State.buffers-formed conf table l g in
+        let rt = within 1 (conf .sessions) t t-range in
+        let rx = within 1 (conf .items) x x-range in
+        let v = is-verb d in
+        let j = judged-none (verbOf d) t x table mail (v .0) (v .1) (formed-zero table mail f) (rt .0) (omega (arith, rt .1, g .sessions)) (rx .0) (omega (arith, rx .1, g .items)) in
+        let room : overfull (Mail.capacityOf mail) (plan (verbOf d) t x table (Mail.entriesOf mail) .entries) ≡ false =
+        rw (capacity-is, entries-are) (le-ltb (conf .capacity) (length (plan (verbOf d) t x table l .entries)) (omega (arith, same-count d found, fits))) in
+        rw (step-acts (verbOf d) t x table mail j, acted-concluded (verbOf d) t x table mail (only-room d found), room) refl
+
+    -- where the machine delivers
+    pub found-delivers : (d : Bool) → eqb (Agrees.placeOf t x l d) (length l) ≡ false → Bound.delivers (State.stateOf conf table l) (callOf d) ≡ true
+    unfolding Bound.delivers
+    found-delivers true found = taken true found
+    found-delivers false found = taken false found
+
+    pub call-in-range : (d : Bool) → Machine.ofMachine (machineOf conf) (callOf d) ≡ true
+    unfolding Machine.ofMachine
+    call-in-range true = in-range
+    call-in-range false = in-range
 
   -- whatever holds of a refused step, and of one that is a move of the machine, holds of a step
   pub by-step : (verb t x : ℕ) (P : Stepped → Type 0) → ((n : ℕ) → n ≢ 0 → P (stepped (refusedAnswer n) table mail))

@@ -46,7 +46,7 @@ module _ (c : Config) (table mail : List ℕ) (e : Calls.start c table mail .ref
   start-leaves = rw (start-accepted) refl
 
 module _ (conf : Config) where
-  abbrev begun : List ℕ
+  abbrev pub begun : List ℕ
   begun = Table.started (conf .sessions) (conf .items) (conf .ranks)
 
   pub begun-good : {table mail : List ℕ} → Startable conf table mail → Good conf begun []
@@ -63,7 +63,7 @@ module _ (conf : Config) where
         entries = all-none (Entry.wellFormed (conf .sessions) (conf .items));
       }
 
-  begun-state : length (conf .ranks) ≡ conf .sessions → stateOf conf begun [] ≡ Machine.start (machineOf conf)
+  pub begun-state : length (conf .ranks) ≡ conf .sessions → stateOf conf begun [] ≡ Machine.start (machineOf conf)
   unfolding locks
   begun-state w =
       start-agrees (conf .sessions) (conf .items) (Table.session begun) (locks begun)
@@ -71,11 +71,11 @@ module _ (conf : Config) where
       (λ x r. ap ItemRecord.unpacked (StartLaws.item-started (conf .sessions) (conf .items) (conf .ranks) w x (within 1 (conf .items) x r .0) (within 1 (conf .items) x r .1)))
       (seniorOf conf) (nextOf conf)
 
-no-entries : (l : List Entry) → length l ≡ 0 → l ≡ []
+pub no-entries : (l : List Entry) → length l ≡ 0 → l ≡ []
 no-entries [] e = refl
 no-entries (a ∷ l) e = absurd (omega arith)
 
-none-read : (l : List Entry) → l ≡ [] → readEntries l ≡ []
+pub none-read : (l : List Entry) → l ≡ [] → readEntries l ≡ []
 unfolding readEntries
 none-read l e = ap readEntries e
 

@@ -63,6 +63,13 @@ module _ {A : Type 0} where
   findIndex-first p (a ∷ l) d (suc k) h e f =
       rw (f 0 (omega arith)) (ap suc (findIndex-first p l d k (omega arith) e (λ j g. f (suc j) (omega arith))))
 
+  -- where an element passes, the first that does is found there or before it
+  pub findIndex-le : (p : A → Bool) (l : List A) (d : A) (k : ℕ) → k < length l → p (getD l k d) ≡ true → findIndex p l ≤ k
+  unfolding findIndex
+  findIndex-le p [] d k h e = absurd (omega arith)
+  findIndex-le p (a ∷ l) d zero h e = rw (e) (omega arith)
+  findIndex-le p (a ∷ l) d (suc k) h e = cond-findIndex (p a) (findIndex p l) k (findIndex-le p l d k (omega arith) e)
+
   -- where every element fails the test none is kept
   pub filter-none : (p : A → Bool) (l : List A) → all (λ a. not (p a)) l ≡ true → filter p l ≡ []
   unfolding filter all

@@ -1,0 +1,220 @@
+-- Where sessions call at an empty mail only, each delivery fits, and deliveries empty the mail: the lock manager's states are among those of which the machine's theorem on room speaks.
+use mathlib.Core.Path.{_≡_, refl, sym, subst, _∙_}
+use mathlib.Core.Bool.{Bool, true, false, false≢true, cond}
+use mathlib.Core.List.{List, [], _∷_}
+use mathlib.Core.Logic.{⊎-elim}
+use Prim.Native.Nat.{ℕ, _≤_, _<_}
+use native.Mathlib.Omega.{arith}
+use lib.Dec.{eqb}
+use lib.ListN.{length, getD}
+use borrow.Author.Tests.{eq-eqb, ne-eqb, eqb-true, eqb-false}
+use Rattle.lists.specs.Lists.{all, between}
+use Rattle.lists.proofs.Laws.{all-getD, findIndex-le}
+use Rattle.lists.proofs.Tests.{and-both, between-intro, by-answer, by-test, eqb-self}
+use Rattle.mailbox.specs.Entry.{Entry, onRoute, toItem, unused, wellFormed}
+use Rattle.mailbox.specs.Layout as Mail
+use Rattle.mailbox.proofs.Laws as MailLaws
+use Rattle.mailbox.proofs.EntryLaws.{EntryFacts, entry-facts}
+use Rattle.step.specs.Step as Step
+use Rattle.step.specs.Step.{Stepped}
+use Rattle.reopen.specs.Reopening.{Reopened}
+use Rattle.lockmgr.specs.Calls as Calls
+use Rattle.lockmgr.specs.Calls.{Config}
+use Rattle.lockmgr.specs.Run as Run
+use Rattle.lockmgr.specs.Run.{Buffers, buffers, doneOn, leftBy, done, left}
+use Rattle.refusal.specs.Refusal
+use Rattle.drain.specs.Oldest.{verbOf}
+use Rattle.lockmgr.specs.Drain.{drain as drainCall, drainRefusal, drainSteps, ending, empty, limited}
+use Rattle.lockmgr.specs.History.{Call, step, report, drain, reopen, stepsOf, leaves, after}
+use Rattle.lockmgr.proofs.Judging.{formed-zero, Startable, start-zero}
+use Rattle.bound.specs.Formula.{deliveryBound}
+use Rattle.room.specs.Capacity.{capacityBound}
+use Rattle.room.specs.Statement.{Reached, starts, calls, goesOn}
+use Rattle.room.proofs.Theorem.{orderly, theorem}
+use Rattle.agreement.specs.Reading.{directionOf}
+use Rattle.agreement.proofs.MailboxAgrees.{length-readEntries}
+use Rattle.agreement.proofs.MoveAgrees.{placeOf}
+use Rattle.clause.specs.Statement.{opened}
+use Rattle.clause.specs.Drains.{DrainEnds, isAccepted, drainOf}
+use Rattle.clause.specs.Progress.{isDelivery, isDelivered, AllDelivered, deliveryAt, EmptyMail, KeepsRule, RuleKept, Progress, Progresses}
+use Rattle.clause.proofs.State
+use Rattle.clause.proofs.State.{machineOf, machine-laws, stateOf, Good}
+use Rattle.clause.proofs.Moves.{Moved}
+use Rattle.clause.proofs.Step.{by-step, call-in-range, callOf, fits-accepted, found-delivers}
+use Rattle.clause.proofs.Reopening.{by-reopen}
+use Rattle.clause.proofs.Theorem.{start-accepted, start-leaves, begun, begun-good, begun-state, no-entries, none-read}
+use Rattle.clause.proofs.Drains.{drain-delivers, steps-bounded, drain-ends}
+
+-- two buffers in a state that the machine reaches by calls at an empty mailbox and by deliveries
+record Kept (conf : Config) (b : Buffers) : Type 0 where
+  pub entries : List Entry
+  pub mail : b .mail ≡ Mail.mailBytes (conf .capacity) entries
+  pub good : Good conf (b .table) entries
+  pub reached : Reached (machineOf conf) (stateOf conf (b .table) entries)
+
+module _ (conf : Config) where
+  abbrev at : List ℕ → List Entry → Buffers
+  at table l = buffers table (Mail.mailBytes (conf .capacity) l)
+
+  module _ (table : List ℕ) (l : List Entry) (g : Good conf table l) (r : Reached (machineOf conf) (stateOf conf table l)) where
+    here : Kept conf (at table l)
+    here = record { entries = l; mail = refl; good = g; reached = r }
+
+    -- no entry, no message
+    no-message : EmptyMail (at table l) → stateOf conf table l .mailbox ≡ []
+    no-message e = none-read l (no-entries l (sym (MailLaws.count-mail (conf .capacity) l (g .low) (g .high) (g .room)) ∙ e))
+
+    -- a call at an empty mail
+    called : (b : Buffers) → Moved conf table l b → EmptyMail (at table l) → Kept conf b
+    called b m e = record { entries = m .entries; mail = m .mail; good = m .good; reached = rw (m .moves) (calls r (no-message e) (m .call) (m .of-machine)) }
+
+    -- a step
+    step-keeps : (c : Run.Step) → (isDelivery (c .verb) ≡ false → doneOn (at table l) c .result .answer .refusal ≡ 0 → EmptyMail (at table l)) → Kept conf (leftBy (doneOn (at table l) c))
+    step-keeps c =
+        by-step conf table l g (c .verb) (c .session) (c .item)
+        (λ (o : Stepped). (isDelivery (c .verb) ≡ false → o .answer .refusal ≡ 0 → EmptyMail (at table l)) → Kept conf (buffers (o .table) (o .mail)))
+        (λ _ _ _. here)
+        (λ o m rule. by-answer (isDelivery (c .verb))
+        (λ d. record {
+          entries = m .moved .entries;
+          mail = m .moved .mail;
+          good = m .moved .good;
+          reached = rw (m .moved .moves) (goesOn r (m .moved .call) (m .moved .of-machine) (m .delivers d));
+        })
+        (λ d. called (buffers (o .table) (o .mail)) (m .moved) (rule d (m .accepted))))
+
+    reopen-keeps : (t : ℕ) → (Calls.reopen t table (Mail.mailBytes (conf .capacity) l) .refusal ≡ 0 → EmptyMail (at table l))
+        → Kept conf (buffers (Calls.reopen t table (Mail.mailBytes (conf .capacity) l) .table) (Mail.mailBytes (conf .capacity) l))
+    reopen-keeps t =
+        by-reopen conf table l g t
+        (λ (o : Reopened). (o .refusal ≡ 0 → EmptyMail (at table l)) → Kept conf (buffers (o .table) (Mail.mailBytes (conf .capacity) l)))
+        (λ _ _. here) (λ m rule. called _ (m .moved) (rule refl))
+
+  -- the same of any buffers
+  by-kept : (b : Buffers) → Kept conf b → (P : Buffers → Type 0)
+      → ((table : List ℕ) (l : List Entry) → Good conf table l → Reached (machineOf conf) (stateOf conf table l) → P (at table l)) → P b
+  by-kept b k P f = subst (λ (m : List ℕ). P (buffers (b .table) m)) (sym (k .mail)) (f (b .table) (k .entries) (k .good) (k .reached))
+
+  -- deliveries, none of them refused
+  deliveries-keep : (steps : List Run.Step) (b : Buffers) → Kept conf b → AllDelivered b steps → Kept conf (left b steps)
+  unfolding left done all
+  deliveries-keep [] b k h = k
+  deliveries-keep (c ∷ steps) b k h =
+      let d = doneOn b c in
+      let both = and-both (isDelivered d) (all isDelivered (done (leftBy d) steps)) h in
+      let first = and-both (isDelivery (c .verb)) (isAccepted d) (both .0) in
+      deliveries-keep steps (leftBy d)
+      (by-kept b k (λ (a : Buffers). Kept conf (leftBy (doneOn a c))) (λ table l g r. step-keeps table l g r c (λ e _. absurd (false≢true (sym e ∙ first .0)))))
+      (both .1)
+
+  call-keeps : (c : Call) (b : Buffers) → Kept conf b → KeepsRule b c → Kept conf (leaves b c)
+  unfolding leaves stepsOf left
+  call-keeps (step verb t x) b k rule =
+      by-kept b k (λ (a : Buffers). KeepsRule a (step verb t x) → Kept conf (leaves a (step verb t x)))
+      (λ table l g r. step-keeps table l g r (record { verb = verb; session = t; item = x })) rule
+  call-keeps (report t) b k rule = k
+  call-keeps (drain limit) b k rule = deliveries-keep (drainSteps limit b) b k (drain-delivers limit b)
+  call-keeps (reopen t) b k rule =
+      by-kept b k (λ (a : Buffers). KeepsRule a (reopen t) → Kept conf (leaves a (reopen t))) (λ table l g r. reopen-keeps table l g r t) rule
+
+  calls-keep : (l : List Call) (b : Buffers) → Kept conf b → RuleKept b l → Kept conf (after b l)
+  unfolding after
+  calls-keep [] b k rule = k
+  calls-keep (c ∷ l) b k rule = calls-keep l (leaves b c) (call-keeps c b k (rule .0)) (rule .1)
+
+module _ (conf : Config) (enough : capacityBound (conf .sessions) (conf .items) ≤ conf .capacity) where
+  module _ (table : List ℕ) (l : List Entry) (g : Good conf table l) (r : Reached (machineOf conf) (stateOf conf table l)) where
+    abbrev mail : List ℕ
+    mail = Mail.mailBytes (conf .capacity) l
+
+    count-is : Mail.countOf mail ≡ length l
+    count-is = MailLaws.count-mail (conf .capacity) l (g .low) (g .high) (g .room)
+
+    few-messages : Mail.countOf mail ≤ capacityBound (conf .sessions) (conf .items)
+    few-messages = omega (arith, count-is, length-readEntries l, theorem (machineOf conf) (machine-laws conf table l g) (stateOf conf table l) r)
+
+    -- each message that is there can be delivered
+    module _ (k : ℕ) (inside : k < length l) where
+      abbrev entry : Entry
+      entry = getD l k unused
+
+      facts : EntryFacts (conf .sessions) (conf .items) entry
+      facts = entry-facts (conf .sessions) (conf .items) entry (all-getD (wellFormed (conf .sessions) (conf .items)) l k unused (g .entries) inside)
+
+      t-range : between 1 (conf .sessions) (entry .session) ≡ true
+      t-range = between-intro 1 (conf .sessions) (entry .session) (facts .session-low) (facts .session-high)
+
+      x-range : between 1 (conf .items) (entry .item) ≡ true
+      x-range = between-intro 1 (conf .items) (entry .item) (facts .item-low) (facts .item-high)
+
+      found : (d : Bool) → entry .direction ≡ directionOf d → eqb (placeOf (entry .session) (entry .item) l d) (length l) ≡ false
+      found d e =
+          let on-route : onRoute (directionOf d) (entry .session) (entry .item) entry ≡ true =
+          rw (eq-eqb (entry .direction) (directionOf d) e, eqb-self (entry .session), eqb-self (entry .item)) refl in
+          let n = findIndex-le (onRoute (directionOf d) (entry .session) (entry .item)) l unused k inside on-route in
+          ne-eqb (placeOf (entry .session) (entry .item) l d) (length l) (λ q. absurd (omega (arith, q, n)))
+
+      goes : (d : Bool) → entry .direction ≡ directionOf d → Calls.step (cond d Step.deliverToItem Step.deliverToSession) (entry .session) (entry .item) table mail .answer .refusal ≡ 0
+      goes d e =
+          let c = callOf conf table l g (entry .session) (entry .item) t-range x-range d in
+          let after = goesOn r c (call-in-range conf table l g (entry .session) (entry .item) t-range x-range d) (found-delivers conf table l g (entry .session) (entry .item) t-range x-range d (found d e)) in
+          fits-accepted conf table l g (entry .session) (entry .item) t-range x-range d (found d e)
+          (omega (arith, enough, theorem (machineOf conf) (machine-laws conf table l g) _ after))
+
+      entry-accepted : Calls.step (verbOf entry) (entry .session) (entry .item) table mail .answer .refusal ≡ 0
+      entry-accepted = ⊎-elim (λ e. rw (eq-eqb (entry .direction) toItem e) (goes true e)) (λ e. rw (ne-eqb (entry .direction) toItem (λ q. absurd (omega (arith, e, q)))) (goes false e)) (facts .kinds .direction)
+
+    message-accepted : (k : ℕ) → k < Mail.countOf mail → doneOn (buffers table mail) (deliveryAt (buffers table mail) k) .result .answer .refusal ≡ 0
+    message-accepted k h =
+        let inside : k < length l = omega (arith, h, count-is) in
+        rw (MailLaws.entry-mail (conf .capacity) l (g .low) (g .high) (g .room) k inside) (entry-accepted k inside)
+
+  kept-accepts : (b : Buffers) → Kept conf b → (k : ℕ) → k < Mail.countOf (b .mail) → doneOn b (deliveryAt b k) .result .answer .refusal ≡ 0
+  kept-accepts b k = by-kept conf b k (λ (a : Buffers). (k : ℕ) → k < Mail.countOf (a .mail) → doneOn a (deliveryAt a k) .result .answer .refusal ≡ 0) message-accepted
+
+  -- so nothing but an empty mail or its limit ends a drain
+  abbrev Ends : ℕ → Type 0
+  Ends n = (n ≡ limited → ⊥) → n ≡ empty
+
+  never-full : (b : Buffers) → Kept conf b → Ends (ending b)
+  unfolding ending
+  never-full b k =
+      by-test Ends (eqb (Mail.countOf (b .mail)) 0) (λ _ _. refl)
+      (λ e. by-test Ends (eqb (doneOn b (deliveryAt b 0) .result .answer .refusal) Refusal.mailFull)
+      (λ q. let z = kept-accepts b k 0 (omega (arith, eqb-false (Mail.countOf (b .mail)) 0 e)) in absurd (omega (arith, z, eqb-true (doneOn b (deliveryAt b 0) .result .answer .refusal) Refusal.mailFull q)))
+      (λ _ h. absurd (h refl)))
+
+  module _ (b : Buffers) (k : Kept conf b) where
+    abbrev bound : ℕ
+    bound = deliveryBound (conf .sessions) (conf .items) (Mail.countOf (b .mail))
+
+    deliveries-bounded : (l : List Run.Step) → AllDelivered b l → length l ≤ bound
+    deliveries-bounded l =
+        by-kept conf b k (λ (a : Buffers). AllDelivered a l → length l ≤ deliveryBound (conf .sessions) (conf .items) (Mail.countOf (a .mail)))
+        (λ table entries g r. steps-bounded conf table entries g (orderly (machineOf conf) (machine-laws conf table entries g) r .invariant) l)
+
+    drain-empties : (limit : ℕ) → bound < limit → drainOf limit b .answer .ending ≡ empty
+    unfolding drainCall
+    drain-empties limit h =
+        let judged : drainRefusal b ≡ 0 = by-kept conf b k (λ (a : Buffers). drainRefusal a ≡ 0) (λ table l g r. formed-zero table _ (State.buffers-formed conf table l g)) in
+        let ends : DrainEnds conf b limit = by-kept conf b k (λ (a : Buffers). DrainEnds conf a limit) (λ table l g r. drain-ends conf table l g (orderly (machineOf conf) (machine-laws conf table l g) r .invariant) limit) in
+        let end = left b (drainSteps limit b) in
+        let last : Ends (ending end) = never-full end (deliveries-keep conf (drainSteps limit b) b k (drain-delivers limit b)) in
+        rw (judged) (last (rw (judged) at (ends .ends h)))
+
+  progress : (b : Buffers) → Kept conf b → Progress conf b
+  progress b k = record {
+    few = by-kept conf b k (λ (a : Buffers). Mail.countOf (a .mail) ≤ capacityBound (conf .sessions) (conf .items)) few-messages;
+    accepted = λ l h. kept-accepts (left b l) (deliveries-keep conf l b k h);
+    bounded = deliveries-bounded b k;
+    drained = drain-empties b k;
+  }
+
+pub progresses : Progresses
+progresses c table mail e room l rule = progress c room (after (opened c table mail) l) (calls-keep c l (opened c table mail) begins rule)
+  where
+    known : Startable c table mail
+    known = start-zero c table mail (start-accepted c table mail e)
+
+    begins : Kept c (opened c table mail)
+    begins = rw (start-leaves c table mail e) (here c (begun c) [] (begun-good c known) (rw (begun-state c (known .sizes .ranks-whole)) starts))

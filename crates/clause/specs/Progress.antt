@@ -1,0 +1,67 @@
+-- Progress: where sessions request, release and are reopened only while the mail is empty, and the mailbox takes 6 S + M + 1 messages, no delivery is refused, and deliveries in any order empty the mail. RULES is docs/RULES.md.
+use Prim.Native.Nat.{ℕ, _≤_, _<_}
+use mathlib.Core.Path.{_≡_}
+use mathlib.Core.Bool.{Bool, true, false, _&&_}
+use mathlib.Core.List.{List, [], _∷_}
+use lib.ListN.{length}
+use Rattle.lists.specs.Lists.{all, between}
+use Rattle.mailbox.specs.Layout as Mail
+use Rattle.step.specs.Step.{deliverToItem, deliverToSession}
+use Rattle.lockmgr.specs.Calls as Calls
+use Rattle.lockmgr.specs.Calls.{Config}
+use Rattle.lockmgr.specs.Run.{Step, Buffers, Done, doneOn, done, left}
+use Rattle.lockmgr.specs.Drain.{delivery, empty}
+use Rattle.lockmgr.specs.History.{Call, step, report, drain, reopen, leaves, after}
+use Rattle.bound.specs.Formula.{deliveryBound}
+use Rattle.room.specs.Capacity.{capacityBound}
+use Rattle.clause.specs.Statement.{opened}
+use Rattle.clause.specs.Drains.{isAccepted, drainOf}
+
+-- a verb that delivers
+abbrev pub isDelivery : ℕ → Bool
+isDelivery verb = between deliverToItem deliverToSession verb
+
+-- ---- the rule for callers: RULES 9.14
+abbrev pub EmptyMail : Buffers → Type 0
+EmptyMail b = Mail.countOf (b .mail) ≡ 0
+
+-- a request, a release or a reopening that is not refused finds the mail empty; deliveries, drains, reports and refused calls may come at any time
+abbrev pub KeepsRule : Buffers → Call → Type 0
+KeepsRule b (step verb t x) = isDelivery verb ≡ false → Calls.step verb t x (b .table) (b .mail) .answer .refusal ≡ 0 → EmptyMail b
+KeepsRule b (report t) = Unit {0}
+KeepsRule b (drain limit) = Unit {0}
+KeepsRule b (reopen t) = Calls.reopen t (b .table) (b .mail) .refusal ≡ 0 → EmptyMail b
+
+-- every call of a list does
+abbrev pub RuleKept : Buffers → List Call → Type 0
+RuleKept b [] = Unit {0}
+RuleKept b (c ∷ l) = KeepsRule b c × RuleKept (leaves b c) l
+
+-- ---- what holds then
+-- every step of a list is a delivery, and none is refused
+abbrev pub isDelivered : Done → Bool
+isDelivered d = isDelivery (d .verb) && isAccepted d
+
+abbrev pub AllDelivered : Buffers → List Step → Type 0
+AllDelivered b l = all isDelivered (done b l) ≡ true
+
+-- the delivery of entry k of the mail, as a step
+abbrev pub deliveryAt : Buffers → ℕ → Step
+deliveryAt b k = delivery (Mail.entryAt (b .mail) k)
+
+pub record Progress (c : Config) (b : Buffers) : Type 0 where
+  -- so many messages at the most are on their way
+  pub few : Mail.countOf (b .mail) ≤ capacityBound (c .sessions) (c .items)
+  -- after any further deliveries, each message that is there can be delivered
+  pub accepted : (l : List Step) → AllDelivered b l → (k : ℕ) → k < Mail.countOf (left b l .mail)
+      → doneOn (left b l) (deliveryAt (left b l) k) .result .answer .refusal ≡ 0
+  -- and they come to an end, so that the mail is empty after so many at the most
+  pub bounded : (l : List Step) → AllDelivered b l → length l ≤ deliveryBound (c .sessions) (c .items) (Mail.countOf (b .mail))
+  -- a drain that is allowed more empties it
+  pub drained : (limit : ℕ) → deliveryBound (c .sessions) (c .items) (Mail.countOf (b .mail)) < limit → drainOf limit b .answer .ending ≡ empty
+
+-- for every lock manager that start accepts with room for so many messages, after every list of calls that keeps the rule
+abbrev pub Progresses : Type 0
+Progresses =
+    (c : Config) (table mail : List ℕ) → Calls.start c table mail .refusal ≡ 0 → capacityBound (c .sessions) (c .items) ≤ c .capacity
+    → (calls : List Call) → RuleKept (opened c table mail) calls → Progress c (after (opened c table mail) calls)

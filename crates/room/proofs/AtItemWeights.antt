@@ -1,0 +1,149 @@
+-- What an item sends anew weighs no more than the weights of its queue say; and a clean that passes an item has that item no longer before it.
+use mathlib.Core.Path.{_≡_, ap, refl}
+use mathlib.Core.Bool.{_&&_, _||_, Bool, cond, false, not, true}
+use mathlib.Core.List.{[], _∷_, List}
+use Prim.Native.Nat.{_+_, _≤_, ℕ}
+use native.Mathlib.Omega.{arith}
+use lib.Dec.{eqb, ltb}
+use borrow.Author.Tests.{eqb-true, le-ltb, lt-ltb, ltb-true}
+use Rattle.lists.specs.Lists.{member}
+use Rattle.lists.proofs.Searches.{sum-mono}
+use Rattle.lists.proofs.Tests.{and-both, and-intro, by-test, eqb-self}
+use Rattle.deadlock.specs.Lists.{bit, occurs, without}
+use Rattle.deadlock.specs.Machine.{holderOr0, Laws, probesAnew, Rules, Sends}
+use Rattle.deadlock.specs.Counts.{sumOver}
+use Rattle.deadlock.specs.World.{HolderIs}
+use Rattle.deadlock.specs.Invariant.{worldOf}
+use Rattle.deadlock.proofs.Laws.Lists.{member-occurs}
+use Rattle.deadlock.proofs.Laws.Stages.{seen-facts}
+use Rattle.bound.proofs.Sent.{sentWeight}
+use Rattle.room.specs.Snapshot.{left, ofMember, ofVictim, Snapshot, Sound, storedCount}
+use Rattle.room.specs.Weights.{aheadDown, aheadUp, aheadWeight, holderAt, ownWeight, queueWeight, resendWeight, weight}
+use Rattle.room.proofs.Members.{one-in-queue}
+use Rattle.room.proofs.Sending.{sent-anew}
+use Rattle.room.proofs.Sums.{list-sum, sum-add, sum-less, sum-single}
+
+-- ---- sums over lists
+sumOver-add : (f g : ℕ → ℕ) (l : List ℕ) → sumOver f l + sumOver g l ≡ sumOver (λ a. f a + g a) l
+unfolding sumOver
+sumOver-add f g [] = refl
+sumOver-add f g (a ∷ l) = omega (arith, sumOver-add f g l)
+
+-- what is taken out had its part
+sumOver-less : (f : ℕ → ℕ) (t : ℕ) (l : List ℕ) → 1 ≤ occurs t l → sumOver f (without t l) + f t ≡ sumOver f l
+unfolding sumOver without occurs
+sumOver-less f t [] h = absurd (omega arith)
+sumOver-less f t (a ∷ l) h =
+    by-test (λ (q : List ℕ). sumOver f q + f t ≡ f a + sumOver f l) (eqb a t) {x = l} {y = a ∷ without t l} (λ e. omega (arith, ap f (eqb-true a t e)))
+    (λ e. omega (arith, sumOver-less f t l (omega (arith, ap bit e))))
+
+-- ---- conditionals
+cond-add : (b : Bool) (m n : ℕ) → cond b (m + n) 0 ≤ cond b m 0 + cond b n 0
+cond-add true m n = omega arith
+cond-add false m n = omega arith
+
+cond-some : (b : Bool) (n : ℕ) → 1 ≤ cond b n 0 → (b ≡ true) × (1 ≤ n)
+cond-some true n h = (refl, h)
+cond-some false n h = absurd (omega arith)
+
+module _ (R : Rules) (L : Laws R) (p : Snapshot) (k : Sound R p) (x : ℕ) (lo : 1 ≤ x) (hi : x ≤ R .M) where
+  abbrev queue★ : List ℕ
+  queue★ = p .state .item x .queue
+
+  once : (a : ℕ) → occurs a queue★ ≤ 1
+  once a = let f = k .invariant .core .links .linked a x lo hi in omega (arith, seen-facts (p .state .session a .stage) x)
+
+  -- a resend to a member in the queue is weighed apart
+  abbrev apart : ℕ → ℕ
+  apart a = cond (p .member a) (R .S) 0
+
+  anew-one : (a : ℕ) → 1 + resendWeight R p a ≤ ownWeight R p a + apart a
+  unfolding resendWeight ownWeight
+  anew-one a = cases (p .member a)
+    where
+      cases : (b : Bool) → 1 + cond b (R .S) (1 + storedCount R (p .state .session a .stored)) ≤ cond b 1 (2 + storedCount R (p .state .session a .stored)) + cond b (R .S) 0
+      cases true = omega arith
+      cases false = omega arith
+
+  -- where a member stands in the queue, c is at least its resend
+  abbrev MemberWithin : ℕ → Type 0
+  MemberWithin c = (a : ℕ) → 1 ≤ occurs a queue★ → p .member a ≡ true → R .S ≤ c
+
+  abbrev sent : Sends → ℕ
+  sent = sentWeight (λ u a. weight R p false u x a)
+
+  module _ (l : List ℕ) (within : (a : ℕ) → occurs a l ≤ occurs a queue★) where
+    -- one member at most stands in the queue
+    anew-sum : (c : ℕ) → MemberWithin c → sumOver (λ _. 1) l + sumOver (resendWeight R p) l ≤ queueWeight R p x + c
+    unfolding queueWeight
+    anew-sum c h = omega (
+      arith,
+      sumOver-add (λ _. 1) (resendWeight R p) l,
+      list-sum (R .S) l queue★ (λ a. 1 + resendWeight R p a) (λ a. ownWeight R p a + apart a) within once (k .invariant .in-range x .queue) (λ a _. anew-one a),
+      sum-mono (R .S) (λ a. cond (member a queue★) (ownWeight R p a + apart a) 0) (λ a. cond (member a queue★) (ownWeight R p a) 0 + cond (member a queue★) (apart a) 0)
+          (λ a _ _. cond-add (member a queue★) (ownWeight R p a) (apart a)),
+      sum-add (R .S) (λ a. cond (member a queue★) (ownWeight R p a) 0) (λ a. cond (member a queue★) (apart a) 0),
+      sum-single (R .S) c (λ a. cond (member a queue★) (apart a) 0)
+          (λ a _ _. by-test (λ (n : ℕ). n ≤ c) (member a queue★)
+          (λ e. by-test (λ (n : ℕ). n ≤ c) (p .member a) (λ m. h a (member-occurs a queue★ e) m) (λ _. omega arith)) (λ _. omega arith))
+          (λ a b _ _ _ _ f g.
+          let u = cond-some (member a queue★) (apart a) f in
+          let v = cond-some (member b queue★) (apart b) g in
+          one-in-queue R L p k a b x lo hi (cond-some (p .member a) (R .S) (u .1) .0) (cond-some (p .member b) (R .S) (v .1) .0) (member-occurs a queue★ (u .0))
+          (member-occurs b queue★ (v .0))),
+    )
+
+    -- probes and resends for the whole list
+    pub anew-all : (h c : ℕ) → MemberWithin c → sent (probesAnew R h l l) ≤ queueWeight R p x + c
+    unfolding weight
+    anew-all h c f = omega (arith, sent-anew (λ u a. weight R p false u x a) R h (λ i j. refl) l l, anew-sum c f)
+
+    -- no resend to the member that stands in it
+    pub anew-others : (h t : ℕ) → p .member t ≡ true → 1 ≤ occurs t l → sent (probesAnew R h l (without t l)) ≤ queueWeight R p x
+    unfolding weight resendWeight
+    anew-others h t m o = omega (
+      arith,
+      sent-anew (λ u a. weight R p false u x a) R h (λ i j. refl) l (without t l),
+      sumOver-less (resendWeight R p) t l o,
+      ap (λ (b : Bool). cond b (R .S) (1 + storedCount R (p .state .session t .stored))) m,
+      anew-sum (R .S) (λ _ _ _. omega arith),
+    )
+
+  -- ---- the items before a clean
+  abbrev part : ℕ → Bool → ℕ
+  part y b = cond b (queueWeight R p y + bit (not (ofVictim p y))) 0
+
+  part-more : (y : ℕ) (a b : Bool) → (a ≡ true → b ≡ true) → part y a ≤ part y b
+  part-more y true b f = rw (f refl) (omega arith)
+  part-more y false b f = omega arith
+
+  module _ (t h : ℕ) (held : HolderIs (worldOf (p .state)) x h) (near : left p h + 1 ≤ p .far t) where
+    holder-here : holderAt R p x ≡ h
+    unfolding holderAt
+    holder-here = ap holderOr0 held
+
+    -- past item x: it is before a clean from t, and not before one to its holder
+    here-before : aheadUp R p t x ≡ true
+    unfolding aheadUp
+    here-before = lt-ltb (left p (holderAt R p x)) (p .far t) (rw holder-here (omega (arith, near)))
+
+    here-behind : aheadDown R p h x x ≡ false
+    unfolding aheadDown
+    here-behind = rw (holder-here, le-ltb (left p h) (left p h) (omega arith), eqb-self x, eqb-self h) refl
+
+    -- the others stay
+    others-before : (y : ℕ) → aheadDown R p h x y ≡ true → aheadUp R p t y ≡ true
+    unfolding aheadDown aheadUp
+    others-before y e = cases (ltb (left p (holderAt R p y)) (left p h)) refl e
+      where
+        cases : (b : Bool) → ltb (left p (holderAt R p y)) (left p h) ≡ b → b || (eqb (holderAt R p y) h && not (eqb y x)) ≡ true → ltb (left p (holderAt R p y)) (p .far t) ≡ true
+        cases true q f = lt-ltb (left p (holderAt R p y)) (p .far t) (omega (arith, near, ltb-true (left p (holderAt R p y)) (left p h) q))
+        cases false q f = lt-ltb (left p (holderAt R p y)) (p .far t) (omega (arith, near, ap (left p) (eqb-true (holderAt R p y) h (and-both _ (not (eqb y x)) f .0))))
+
+    pub ahead-less : ofMember p x ≡ true → aheadWeight R p (aheadDown R p h x) + queueWeight R p x ≤ aheadWeight R p (aheadUp R p t)
+    unfolding aheadWeight
+    ahead-less m =
+        sum-less (R .M) x (queueWeight R p x) (λ y. part y (ofMember p y && aheadDown R p h x y)) (λ y. part y (ofMember p y && aheadUp R p t y)) lo hi
+        (rw (m, here-before, here-behind) (omega arith))
+        (λ y _ _. part-more y (ofMember p y && aheadDown R p h x y) (ofMember p y && aheadUp R p t y)
+        (λ e. let q = and-both (ofMember p y) (aheadDown R p h x y) e in and-intro (q .0) (others-before y (q .1))))
