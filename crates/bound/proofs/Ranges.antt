@@ -1,4 +1,4 @@
--- A probe on its way to a live session names sessions of the machine.
+-- A probe on its way to a live session: what it tells, and that it names sessions of the machine.
 use mathlib.Core.Path.{_≡_, ap, subst}
 use mathlib.Core.Bool.{false}
 use mathlib.Core.List.{_∷_, List}
@@ -20,7 +20,7 @@ module _ (R : Rules) (s : State) (k : Invariant R s)
   abbrev Range : ℕ → Type 0
   Range a = (1 ≤ a) × (a ≤ R .S)
 
-  came : CameTo R (worldOf s) i j t x (MustAvoidDown R (worldOf s) t x (route false t x l))
+  pub came : CameTo R (worldOf s) i j t x (MustAvoidDown R (worldOf s) t x (route false t x l))
   unfolding downRoute
   came =
       let c : EachBehind (TellsDown R (worldOf s) t x) (route false t x (s .mailbox)) = k .core .probes .down-true t x live in

@@ -4,7 +4,7 @@ use mathlib.Core.Bool.{cond, false, true}
 use mathlib.Core.List.{[], _∷_, List}
 use mathlib.Core.Option.{none, Option, some}
 use mathlib.Core.Logic.{_≢_, _⊎_, inl, inr}
-use Prim.Native.Nat.{_+_, _≤_, ℕ}
+use Prim.Native.Nat.{_≤_, ℕ}
 use native.Mathlib.Omega.{arith}
 use lib.Dec.{eqb}
 use borrow.Author.Tests.{eq-eqb}
@@ -26,11 +26,11 @@ use Rattle.deadlock.proofs.Core.Kept.{known-of}
 use Rattle.bound.proofs.Mail.{every-fromItem, every-taken, sum-item}
 use Rattle.bound.proofs.Sent.{sentWeight}
 use Rattle.room.specs.Snapshot.{ofVictim, Snapshot, Sound}
-use Rattle.room.specs.Weights.{entryWeight, mailWeight, queueWeight, releaseWeight, weight}
+use Rattle.room.specs.Weights.{entryWeight, mailWeight, releaseWeight, weight}
 use Rattle.room.specs.Phases.{AllowedMessage, AllowedUp, Clearing, HandedOver}
 use Rattle.room.proofs.Members.{member-next, of-member}
 use Rattle.room.proofs.Sending.{every-anew, Sent}
-use Rattle.room.proofs.Holders.{edge-then, held-by, holder-then}
+use Rattle.room.proofs.Holders.{edge-then, held-by, holder-then, the-victim}
 use Rattle.room.proofs.AtItemWeights.{ahead-less, anew-all, anew-others}
 
 module _ (R : Rules) (L : Laws R) (p : Snapshot) (k : Sound R p) (s : State) (i : Invariant R s) (c : Clearing p R s) (t x : ℕ) (lo : 1 ≤ x) (hi : x ≤ R .M) (l : List Entry) where
@@ -130,8 +130,8 @@ module _ (R : Rules) (L : Laws R) (p : Snapshot) (k : Sound R p) (s : State) (i 
   withdrew = record { queue = λ a. occurs-without-le a t (s .item x .queue); holder = inl refl; allowed = every-cons tt every-nil; light = omega arith }
 
   -- probes and resends for a queue with no member
-  rebroadcast-sends : AllowedUp p t x rebroadcast → (o : Option ℕ) → Within (1 + queueWeight R p x) (onRebroadcast R (s .item x .queue) o)
-  unfolding onRebroadcast sentWeight
+  rebroadcast-sends : AllowedUp p t x rebroadcast → (o : Option ℕ) → Within (weight R p true t x (up rebroadcast)) (onRebroadcast R (s .item x .queue) o)
+  unfolding onRebroadcast sentWeight weight
   rebroadcast-sends f none = (every-nil, omega arith)
   rebroadcast-sends f (some h) = (
     anew-allowed h (s .item x .queue) (s .item x .queue),
@@ -139,7 +139,7 @@ module _ (R : Rules) (L : Laws R) (p : Snapshot) (k : Sound R p) (s : State) (i 
   )
 
   rebroadcasted : AllowedUp p t x rebroadcast → Kept (up rebroadcast) (itemReceives R t (s .item x) (up rebroadcast))
-  unfolding itemReceives weight
+  unfolding itemReceives
   rebroadcasted f = stays (up rebroadcast) (itemReceives R t (s .item x) (up rebroadcast)) refl (rebroadcast-sends f (s .item x .holder))
 
   -- ---- a release
@@ -184,7 +184,7 @@ module _ (R : Rules) (L : Laws R) (p : Snapshot) (k : Sound R p) (s : State) (i 
     is-victim = omega (arith, victim-of-up (known-of R L s (i .core)) v t x under, stage-facts (s .session v .stage))
 
     is-the-victim : v ≡ p .victim
-    is-the-victim = elim (same? v (p .victim)) [ yes q ↦ q | no q ↦ absurd (omega (arith, is-victim, c .only-victim v q)) ]
+    is-the-victim = the-victim R p s c v is-victim
 
     now-victim : 1 ≤ isVictim (s .session (p .victim) .stage)
     now-victim = rw (← is-the-victim) is-victim

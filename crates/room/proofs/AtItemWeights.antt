@@ -1,14 +1,14 @@
 -- What an item sends anew weighs no more than the weights of its queue say; and a clean that passes an item has that item no longer before it.
 use mathlib.Core.Path.{_≡_, ap, refl}
 use mathlib.Core.Bool.{_&&_, _||_, Bool, cond, false, not, true}
-use mathlib.Core.List.{[], _∷_, List}
+use mathlib.Core.List.{[], List}
 use Prim.Native.Nat.{_+_, _≤_, ℕ}
 use native.Mathlib.Omega.{arith}
 use lib.Dec.{eqb, ltb}
 use borrow.Author.Tests.{eqb-true, le-ltb, lt-ltb, ltb-true}
 use Rattle.lists.specs.Lists.{member}
 use Rattle.lists.proofs.Searches.{sum-mono}
-use Rattle.lists.proofs.Tests.{and-both, and-intro, by-test, eqb-self}
+use Rattle.lists.proofs.Tests.{and-both, and-intro, by-answer, by-test, eqb-self}
 use Rattle.deadlock.specs.Lists.{bit, occurs, without}
 use Rattle.deadlock.specs.Machine.{holderOr0, Laws, probesAnew, Rules, Sends}
 use Rattle.deadlock.specs.Counts.{sumOver}
@@ -21,21 +21,7 @@ use Rattle.room.specs.Snapshot.{left, ofMember, ofVictim, Snapshot, Soun
 use Rattle.room.specs.Weights.{aheadDown, aheadUp, aheadWeight, holderAt, ownWeight, queueWeight, resendWeight, weight}
 use Rattle.room.proofs.Members.{one-in-queue}
 use Rattle.room.proofs.Sending.{sent-anew}
-use Rattle.room.proofs.Sums.{list-sum, sum-add, sum-less, sum-single}
-
--- ---- sums over lists
-sumOver-add : (f g : ℕ → ℕ) (l : List ℕ) → sumOver f l + sumOver g l ≡ sumOver (λ a. f a + g a) l
-unfolding sumOver
-sumOver-add f g [] = refl
-sumOver-add f g (a ∷ l) = omega (arith, sumOver-add f g l)
-
--- what is taken out had its part
-sumOver-less : (f : ℕ → ℕ) (t : ℕ) (l : List ℕ) → 1 ≤ occurs t l → sumOver f (without t l) + f t ≡ sumOver f l
-unfolding sumOver without occurs
-sumOver-less f t [] h = absurd (omega arith)
-sumOver-less f t (a ∷ l) h =
-    by-test (λ (q : List ℕ). sumOver f q + f t ≡ f a + sumOver f l) (eqb a t) {x = l} {y = a ∷ without t l} (λ e. omega (arith, ap f (eqb-true a t e)))
-    (λ e. omega (arith, sumOver-less f t l (omega (arith, ap bit e))))
+use Rattle.room.proofs.Sums.{list-sum, sumOver-add, sumOver-less, sum-add, sum-less, sum-single}
 
 -- ---- conditionals
 cond-add : (b : Bool) (m n : ℕ) → cond b (m + n) 0 ≤ cond b m 0 + cond b n 0
@@ -59,11 +45,7 @@ module _ (R : Rules) (L : Laws R) (p : Snapshot) (k : Sound R p) (x : ℕ) (lo :
 
   anew-one : (a : ℕ) → 1 + resendWeight R p a ≤ ownWeight R p a + apart a
   unfolding resendWeight ownWeight
-  anew-one a = cases (p .member a)
-    where
-      cases : (b : Bool) → 1 + cond b (R .S) (1 + storedCount R (p .state .session a .stored)) ≤ cond b 1 (2 + storedCount R (p .state .session a .stored)) + cond b (R .S) 0
-      cases true = omega arith
-      cases false = omega arith
+  anew-one a = by-answer (p .member a) (λ e. rw e (omega arith)) (λ e. rw e (omega arith))
 
   -- where a member stands in the queue, c is at least its resend
   abbrev MemberWithin : ℕ → Type 0

@@ -1,5 +1,5 @@
 -- While a cycle is dissolved or an item handed over, a message at a session keeps the clauses, and the mailbox gets no heavier.
-use mathlib.Core.Path.{_∙_, _≡_, ap, refl, subst, sym}
+use mathlib.Core.Path.{_∙_, _≡_, ap, refl, sym}
 use mathlib.Core.Bool.{cond, false, not, true, true≢false}
 use mathlib.Core.List.{_∷_, List}
 use mathlib.Core.Logic.{_≢_, _⊎_, inl, inr}
@@ -10,18 +10,18 @@ use lib.Dec.{eqb}
 use borrow.Author.Tests.{eqb-true}
 use Rattle.lists.specs.Lists.{sumUpTo}
 use Rattle.lists.proofs.Searches.{sum-mono}
-use Rattle.lists.proofs.Tests.{by-test, eqb-self, same?}
+use Rattle.lists.proofs.Tests.{by-test, eqb-self}
 use Rattle.message.specs.Kind
 use Rattle.deadlock.specs.Lists.{bit, oneTo}
 use Rattle.deadlock.specs.Machine.{abort, afterSession, clean, cleaning, down, Entry, grant, growing, heldBy, isLive, isNews, junior, Laws, Message, onAbort, onGrant, onProbe, onResend, onWithdrawn, probe, release, releasing, resend, route, Rules, Sends, Session, sessionDrops, sessionReceives, SessionStep, Stage, State, storedProbes, storeProbe, take, taken, toAwaited, toEach, up, victim, waiting, withdrawing, withdrawn}
-use Rattle.deadlock.specs.Counts.{countBehind, countKind, EachBehind, Every, every-cons, every-nil, isStored}
+use Rattle.deadlock.specs.Counts.{countBehind, countKind, every-cons, every-nil, isStored}
 use Rattle.deadlock.specs.Links.{awaits, doomed, mayRelease}
-use Rattle.deadlock.specs.World.{AbortTo, CycleOf, HolderIs, isVictim, isWaiting, Live, OfAbort, TellsDown}
+use Rattle.deadlock.specs.World.{HolderIs, isVictim, isWaiting, Live}
 use Rattle.deadlock.specs.Invariant.{downRoute, Invariant, worldOf}
-use Rattle.deadlock.proofs.Laws.Counts.{behind-head, every-head}
 use Rattle.deadlock.proofs.Laws.Lists.{bit-eqb, bit-le}
 use Rattle.deadlock.proofs.Laws.Routes.{take-same}
 use Rattle.bound.proofs.Mail.{entry, every-taken}
+use Rattle.bound.proofs.Ranges.{came}
 use Rattle.bound.proofs.Sent.{sentWeight}
 use Rattle.bound.proofs.Sums.{sum-le}
 use Rattle.room.specs.Snapshot.{memberIs, ofMember, ofVictim, Snapshot, Sound, storedCount}
@@ -31,7 +31,7 @@ use Rattle.room.proofs.Sums.{sum-add, sum-single}
 use Rattle.room.proofs.Sending.{every-each, every-stored, sent-each, sent-stored, Sent}
 use Rattle.room.proofs.Members.{awaited-of-member, links★, of-member, victim-member}
 use Rattle.room.proofs.NoCycle.{none-to-abort}
-use Rattle.room.proofs.Holders.{held-then}
+use Rattle.room.proofs.Holders.{held-then, the-victim, told-cycle}
 use Rattle.room.proofs.SessionKept.{dropped, Fits, kept, same-stage, waits-no-more}
 use Rattle.room.proofs.SessionCleans.{cleaned}
 
@@ -101,7 +101,7 @@ module _ (R : Rules) (L : Laws R) (p : Snapshot) (k : Sound R p) (s : State) (i 
   -- ---- the answer to a withdraw
   module _ (y : ℕ) (q : own .stage ≡ victim withdrawing y) where
     is-victim : t ≡ p .victim
-    is-victim = elim (same? t (p .victim)) [ yes z ↦ z | no z ↦ absurd (omega (arith, c .only-victim t z, ap isVictim q)) ]
+    is-victim = the-victim R p s c t (omega (arith, ap isVictim q))
 
     held-by-victim : (z : ℕ) → 1 ≤ z → z ≤ R .M → own .held z ≡ true → p .state .item z .holder ≡ some (p .victim)
     held-by-victim z lo hi h =
@@ -150,11 +150,7 @@ module _ (R : Rules) (L : Laws R) (p : Snapshot) (k : Sound R p) (s : State) (i 
   -- ---- probe
   module _ (a j : ℕ) (e : take false t x (s .mailbox) ≡ taken (probe a j) l) (o : ofMember p x ≡ true) where
     holds : Live (worldOf s) t → HolderIs (worldOf s) x t
-    unfolding downRoute
-    holds live =
-        let b : EachBehind (TellsDown R (worldOf s) t x) (route false t x (s .mailbox)) = i .core .probes .down-true t x live in
-        let h : EachBehind (TellsDown R (worldOf s) t x) (probe a j ∷ route false t x l) = rw (take-same false t x (s .mailbox) (probe a j) l e) at b in
-        behind-head h .held
+    holds live = came R s i t x a j l e live .held
 
     -- no grant is behind the probe
     no-grant : countKind Kind.grant (downRoute s t x) ≡ 0
@@ -207,19 +203,11 @@ module _ (R : Rules) (L : Laws R) (p : Snapshot) (k : Sound R p) (s : State) (i 
     probed (victim r y) q = drops (probe a j)
     probed (releasing r) q = drops (probe a j)
 
-  -- ---- abort
-  -- an abort to a waiting session would tell of another cycle
-  abort-cycle : (v a y : ℕ) → take false t x (s .mailbox) ≡ taken (abort v a) l → own .stage ≡ waiting y → CycleOf R (worldOf s) t (λ u. R .senior u t ≡ true)
-  unfolding downRoute AbortTo
-  abort-cycle v a y e q =
-      let f : Every (OfAbort R (worldOf s) t) (route false t x (s .mailbox)) = i .core .victims .aborts t x in
-      let g : Every (OfAbort R (worldOf s) t) (abort v a ∷ route false t x l) = rw (take-same false t x (s .mailbox) (abort v a) l e) at f in
-      subst (AbortTo R (worldOf s) t) q (every-head g .1)
-
+  -- ---- an abort to a waiting session would tell of another cycle
   aborted : (v a : ℕ) → take false t x (s .mailbox) ≡ taken (abort v a) l → (b : Stage) → own .stage ≡ b → FitsOn (abort v a) (onAbort R own v a b)
   unfolding onAbort
   aborted v a e growing q = drops (abort v a)
-  aborted v a e (waiting y) q = absurd (none-to-abort R L p k s i c t (rw q (omega arith)) (abort-cycle v a y e q))
+  aborted v a e (waiting y) q = absurd (none-to-abort R L p k s i c t (rw q (omega arith)) (told-cycle R s i t x v a y l e q))
   aborted v a e (victim r y) q = drops (abort v a)
   aborted v a e (releasing r) q = drops (abort v a)
 

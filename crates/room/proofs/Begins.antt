@@ -19,6 +19,7 @@ use Rattle.deadlock.specs.Invariant.{Invariant, worldOf}
 use Rattle.deadlock.proofs.Laws.Stages.{seen-facts}
 use Rattle.deadlock.proofs.Laws.Walks.{first-step, FirstStep}
 use Rattle.deadlock.proofs.Links.Kept.{item-high, item-low, session-high, session-low}
+use Rattle.deadlock.proofs.Settled.{none-cycle}
 use Rattle.bound.specs.Potential.{mailSum}
 use Rattle.bound.proofs.Mail.{entry, every-fromSession}
 use Rattle.bound.proofs.Sums.{length-oneTo}
@@ -29,7 +30,7 @@ use Rattle.room.specs.Phases.{Allowed, asked, Asked, clearing, empty, No
 use Rattle.room.proofs.Sending.{every-stored}
 use Rattle.room.proofs.Holders.{held-now}
 use Rattle.room.proofs.ClearingBegins.{clears-from, release-light}
-use Rattle.room.proofs.Rest.{none-cycle, none-victim}
+use Rattle.room.proofs.Rest.{none-victim}
 
 -- what t stores, as probes on their way
 stored-few : (t x : ℕ) (f : ℕ → ℕ) (l : List ℕ) → length (fromSession t (probesFrom f x l)) ≤ length l

@@ -2,7 +2,7 @@
 use mathlib.Core.Path.{_∙_, _≡_, ap, sym}
 use mathlib.Core.Bool.{_&&_, Bool, cond, false, not, true, true≢false}
 use mathlib.Core.Logic.{_⊎_, inl, inr}
-use Prim.Native.Nat.{_*_, _+_, _≤_, suc, zero, zero-le, ℕ}
+use Prim.Native.Nat.{_*_, _+_, _≤_, zero-le, ℕ}
 use native.Mathlib.Omega.{arith}
 use lib.Dec.{eqb}
 use borrow.Author.Tests.{ne-eqb}
@@ -12,42 +12,18 @@ use Rattle.lists.proofs.Tests.{and-both, by-answer, by-test, eqb-self, same?}
 use Rattle.deadlock.specs.Lists.{bit}
 use Rattle.deadlock.specs.Machine.{isLive, Laws, Rules}
 use Rattle.deadlock.specs.Counts.{isStored}
-use Rattle.deadlock.specs.Walks.{onward, rest, Walk}
+use Rattle.deadlock.specs.Walks.{rest, Walk}
 use Rattle.deadlock.specs.World.{Live, Queued}
 use Rattle.deadlock.specs.Invariant.{worldOf}
-use Rattle.deadlock.proofs.Laws.Lists.{bit-eqb, bit-le, bit-one, member-occurs, zero-or-more}
+use Rattle.deadlock.proofs.Laws.Lists.{bit-eqb, bit-le, bit-one, member-occurs}
 use Rattle.deadlock.proofs.Laws.Stages.{seen-facts, stage-facts}
-use Rattle.deadlock.proofs.Laws.Walks.{first-step, FirstStep, path-walk}
+use Rattle.deadlock.proofs.Laws.Walks.{first-step, FirstStep, path-walk, walk-either}
 use Rattle.deadlock.proofs.Victims.OneOnCycle.{one-edge, one-queue}
 use Rattle.bound.proofs.Sums.{sum-le}
 use Rattle.room.specs.Snapshot.{ofMember, Snapshot, Sound, storedCount}
 use Rattle.room.specs.Weights.{ownWeight, queueWeight}
-use Rattle.room.proofs.Sums.{sum-less, sum-single, sum-swap, sum-term}
+use Rattle.room.proofs.Sums.{sum-less, sum-single, sum-some, sum-swap, sum-term}
 use Rattle.room.proofs.Members.{Edge★, links★, member-holds, member-walk}
-
--- a sum that is not 0 has a term that is not 0
-sum-some : (n : ℕ) (f : ℕ → ℕ) → 1 ≤ sumUpTo n f → (a : ℕ) × (1 ≤ a) × (a ≤ n) × (1 ≤ f a)
-unfolding sumUpTo
-sum-some zero f h = absurd (omega arith)
-sum-some (suc n) f h = cases (zero-or-more (f (suc n))) (sum-some n f)
-  where
-    cases : (f (suc n) ≡ 0) ⊎ (1 ≤ f (suc n)) → (1 ≤ sumUpTo n f → (a : ℕ) × (1 ≤ a) × (a ≤ n) × (1 ≤ f a)) → (a : ℕ) × (1 ≤ a) × (a ≤ suc n) × (1 ≤ f a)
-    cases (inl z) ih = let r = ih (omega arith) in (r .0, r .1, omega (arith, r .2), r .3)
-    cases (inr l) ih = (suc n, omega arith, omega arith, l)
-
--- where one edge leads on from each place, two walks from one place are on one way
-module _ {E : ℕ → ℕ → Type 0} (det : (a b c : ℕ) → E a b → E a c → b ≡ c) where
-  walk-either : {a u t : ℕ} → Walk E a u → Walk E a t → Walk E u t ⊎ Walk E t u
-  walk-either rest q = inl q
-  walk-either {t = t} (onward {u = b} {t = u} p e) q = cases (walk-either p q)
-    where
-      cases : Walk E b t ⊎ Walk E t b → Walk E u t ⊎ Walk E t u
-      cases (inr r) = inr (onward r e)
-      cases (inl r) = more (first-step r)
-        where
-          more : (b ≡ t) ⊎ FirstStep b t r → Walk E u t ⊎ Walk E t u
-          more (inl z) = inr (rw (← z) (onward rest e))
-          more (inr f) = inl (rw (det b (f .next) u (f .out) e) at (f .walk))
 
 module _ (R : Rules) (L : Laws R) (p : Snapshot) (k : Sound R p) where
   abbrev Waits★ : ℕ → ℕ → Type 0

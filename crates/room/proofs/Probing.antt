@@ -1,7 +1,7 @@
 -- A request joins a queue or is granted; then probes go on one by one, until a victim is told of a cycle.
 use mathlib.Core.Path.{_∙_, _≡_, ap, refl, subst, subst₂, sym}
 use mathlib.Core.Bool.{Bool, false, false≢true, true}
-use mathlib.Core.List.{_++_, _∷_, List}
+use mathlib.Core.List.{_++_, List}
 use mathlib.Core.Logic.{_⊎_, inl, inr}
 use mathlib.Core.Option.{none, Option, some}
 use Prim.Native.Nat.{_+_, _≤_, ℕ}
@@ -12,22 +12,22 @@ use Rattle.lists.proofs.Tests.{by-test, eqb-self}
 use Rattle.deadlock.specs.Lists.{bit, occurs, updated}
 use Rattle.deadlock.specs.Machine.{abort, afterItem, afterSession, Call, deliverToItem, deliverToSession, down, Entry, fromItem, fromSession, grant, growing, heldBy, inQueue, isLive, isNews, isOnRoute, Item, itemReceives, ItemStep, itemTakes, junior, Laws, Message, move, ofMachine, onAbort, onGrant, onProbe, passProbe, probe, releaseCall, releasing, reopen, request, requestCall, route, Rules, Session, sessionDrops, sessionReceives, SessionStep, Stage, State, storeProbe, take, Taken, taken, toAwaited, victim, waiting}
 use Rattle.message.specs.Kind
-use Rattle.deadlock.specs.Counts.{countKind, EachBehind, Every, every-cons, every-nil, kindOf}
+use Rattle.deadlock.specs.Counts.{countKind, Every, every-cons, every-nil, kindOf}
 use Rattle.deadlock.specs.Links.{awaits, waits}
 use Rattle.deadlock.specs.Walks.{onward, Walk}
-use Rattle.deadlock.specs.World.{AbortTo, CycleOf, Edge, FreeIsEmpty, isVictim, OfAbort, TellsDown}
-use Rattle.deadlock.specs.Invariant.{downRoute, Invariant, upRoute, worldOf}
-use Rattle.deadlock.proofs.Laws.Counts.{behind-head, every-append, every-head, every-map}
+use Rattle.deadlock.specs.World.{Edge, FreeIsEmpty, isVictim}
+use Rattle.deadlock.specs.Invariant.{Invariant, upRoute, worldOf}
+use Rattle.deadlock.proofs.Laws.Counts.{every-append, every-map}
 use Rattle.deadlock.proofs.Laws.Lists.{bit-one, updated-unchanged, zero-or-more}
-use Rattle.deadlock.proofs.Laws.Routes.{take-same}
 use Rattle.deadlock.proofs.Laws.Walks.{walk-map}
 use Rattle.deadlock.proofs.Victims.OneOnCycle.{edge-against, edge-along}
 use Rattle.bound.specs.Statement.{delivers}
 use Rattle.bound.proofs.Mail.{entry, every-fromItem, every-fromSession, every-taken, sum-item, sum-session, sum-take}
+use Rattle.bound.proofs.Ranges.{came}
 use Rattle.bound.proofs.Sent.{sentWeight}
 use Rattle.room.specs.Phases.{Asked, HeldFrom, NoVictim, Phase, probing, Probing, Single, singleAbort, singleGrant, singleProbe, Tidy}
 use Rattle.room.proofs.Joining.{first-taken, length-sum, no-single, one-single, OneSingle, only-route, request-done}
-use Rattle.room.proofs.Holders.{held-by}
+use Rattle.room.proofs.Holders.{held-by, told-cycle}
 use Rattle.room.proofs.Told.{told-phase}
 
 -- the only delivery is that of the request
@@ -129,11 +129,7 @@ module _ (R : Rules) (s : State) (a : Probing R s) where
     module _ (t x i j : ℕ) (l : List Entry) (e : take false t x (s .mailbox) ≡ taken (probe i j) l) (live : isLive (s .session t .stage) ≡ true) where
       -- a session that takes the probe holds its item
       holds : s .item x .holder ≡ some t
-      unfolding downRoute
-      holds =
-          let c : EachBehind (TellsDown R (worldOf s) t x) (route false t x (s .mailbox)) = k .core .probes .down-true t x live in
-          let g : EachBehind (TellsDown R (worldOf s) t x) (probe i j ∷ route false t x l) = rw (take-same false t x (s .mailbox) (probe i j) l e) at c in
-          behind-head g .held
+      holds = came R s k t x i j l e live .held
 
       leads-here : Walk (Edge R (worldOf s)) (a .from) t
       leads-here =
@@ -184,15 +180,12 @@ module _ (R : Rules) (s : State) (a : Probing R s) where
 
       -- a waiting session lies on a cycle, as its most junior
       aborted : (v i : ℕ) → take false t x (s .mailbox) ≡ taken (abort v i) l → (b : Stage) → s .session t .stage ≡ b → Phase R (afterSession s t l (onAbort R (s .session t) v i b))
-      unfolding onAbort downRoute AbortTo
+      unfolding onAbort
       aborted v i e growing q = dropped t x (abort v i) l e
       aborted v i e (victim p y) q = dropped t x (abort v i) l e
       aborted v i e (releasing p) q = dropped t x (abort v i) l e
       aborted v i e (waiting y) q =
-          let c : Every (OfAbort R (worldOf s) t) (route false t x (s .mailbox)) = k .core .victims .aborts t x in
-          let h : Every (OfAbort R (worldOf s) t) (abort v i ∷ route false t x l) = rw (take-same false t x (s .mailbox) (abort v i) l e) at c in
-          let o : CycleOf R (worldOf s) t (λ u. R .senior u t ≡ true) = subst (AbortTo R (worldOf s) t) q (every-head h .1) in
-          told-phase R L s k d a t tlo thi o y v i q l (heard t x (abort v i) l e .1)
+          told-phase R L s k d a t tlo thi (told-cycle R s k t x v i y l e q) y v i q l (heard t x (abort v i) l e .1)
           (omega (arith, sum-take (λ _. 1) false t x (s .mailbox) (abort v i) l e, length-sum (s .mailbox), length-sum l, a .few))
 
       at-session : (m : Message) → take false t x (s .mailbox) ≡ taken m l → Single m → Phase R (afterSession s t l (sessionReceives R t x (s .session t) m))

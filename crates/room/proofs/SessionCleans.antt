@@ -9,7 +9,7 @@ use native.Mathlib.Omega.{arith}
 use lib.Dec.{eqb}
 use borrow.Author.Tests.{eqb-true, le-ltb, ne-eqb}
 use Rattle.lists.proofs.Searches.{sum-mono}
-use Rattle.lists.proofs.Tests.{and-both, by-test, eqb-self, same?}
+use Rattle.lists.proofs.Tests.{and-both, by-test, eqb-self}
 use Rattle.deadlock.specs.Lists.{bit, occurs}
 use Rattle.deadlock.specs.Machine.{clean, cleaning, cleared, Entry, growing, heldBy, Laws, onClean, rebroadcast, rebroadcasts, releasing, Rules, Sends, Stage, State, take, taken, up, victim, waiting, withdrawing}
 use Rattle.deadlock.specs.Counts.{cleansOf, every-cons, every-nil, isStored}
@@ -33,7 +33,7 @@ use Rattle.room.specs.Phases.{Allowed, Clearing}
 use Rattle.room.proofs.Sums.{sum-add}
 use Rattle.room.proofs.Sending.{every-each, sent-each, Sent}
 use Rattle.room.proofs.Members.{awaited-of-member, Edge★, links★, member-next, of-member, one-before}
-use Rattle.room.proofs.Holders.{edge-then, held-then, holder-then}
+use Rattle.room.proofs.Holders.{edge-then, held-then, holder-then, the-victim}
 use Rattle.room.proofs.SessionKept.{dropped, Fits, same-stage, waits-no-more}
 
 -- nothing stored
@@ -59,11 +59,14 @@ module _ (R : Rules) (L : Laws R) (p : Snapshot) (k : Sound R p) (s : State) (i 
   under-way : CleanUnderWay (worldOf s) v
   under-way = victim-of-down (known-of R L s (i .core)) v t x on-its-way
 
+  is-victim : 1 ≤ isVictim (s .session v .stage)
+  is-victim = omega (arith, under-way, stage-facts (s .session v .stage))
+
   is-the-victim : v ≡ p .victim
-  is-the-victim = elim (same? v (p .victim)) [ yes q ↦ q | no q ↦ absurd (omega (arith, under-way, c .only-victim v q, stage-facts (s .session v .stage))) ]
+  is-the-victim = the-victim R p s c v is-victim
 
   victim-still : 1 ≤ isVictim (s .session (p .victim) .stage)
-  victim-still = rw is-the-victim at (let z : 1 ≤ isVictim (s .session v .stage) = omega (arith, under-way, stage-facts (s .session v .stage)) in z)
+  victim-still = rw is-the-victim at is-victim
 
   goes : CleanGoesDown R (worldOf s) v t x
   goes = i .core .victims .clean-down-on-cycle v t x on-its-way

@@ -2,7 +2,7 @@
 use mathlib.Core.Path.{_≡_, ap, refl, sym}
 use mathlib.Core.Bool.{cond}
 use mathlib.Core.List.{[], _∷_, List}
-use mathlib.Core.Logic.{inl, inr}
+use mathlib.Core.Logic.{_⊎_, inl, inr}
 use Prim.Native.Nat.{_+_, _≤_, suc, zero, ℕ}
 use native.Mathlib.Omega.{arith}
 use lib.Dec.{eqb}
@@ -10,7 +10,7 @@ use borrow.Author.Tests.{eqb-true, ne-eqb}
 use Rattle.lists.specs.Lists.{member, sumUpTo}
 use Rattle.lists.proofs.Searches.{sum-changed, sum-mono}
 use Rattle.lists.proofs.Tests.{by-test, eqb-self}
-use Rattle.deadlock.specs.Lists.{bit, occurs}
+use Rattle.deadlock.specs.Lists.{bit, occurs, without}
 use Rattle.deadlock.specs.Counts.{sumOver}
 use Rattle.deadlock.proofs.Laws.Lists.{occurs-member, zero-or-more}
 use Rattle.deadlock.proofs.Coverage.Sums.{sumUpTo-zero}
@@ -39,6 +39,16 @@ sum-less n k c f g lo hi at each =
 -- one term alone
 pub sum-term : (n k : ℕ) (f : ℕ → ℕ) → 1 ≤ k → k ≤ n → f k ≤ sumUpTo n f
 sum-term n k f lo hi = omega (arith, sum-less n k (f k) (λ _. 0) f lo hi (omega arith) (λ a _ _. omega arith))
+
+-- a sum that is not 0 has a term that is not 0
+pub sum-some : (n : ℕ) (f : ℕ → ℕ) → 1 ≤ sumUpTo n f → (a : ℕ) × (1 ≤ a) × (a ≤ n) × (1 ≤ f a)
+unfolding sumUpTo
+sum-some zero f h = absurd (omega arith)
+sum-some (suc n) f h = cases (zero-or-more (f (suc n))) (sum-some n f)
+  where
+    cases : (f (suc n) ≡ 0) ⊎ (1 ≤ f (suc n)) → (1 ≤ sumUpTo n f → (a : ℕ) × (1 ≤ a) × (a ≤ n) × (1 ≤ f a)) → (a : ℕ) × (1 ≤ a) × (a ≤ suc n) × (1 ≤ f a)
+    cases (inl z) ih = let r = ih (omega arith) in (r .0, r .1, omega (arith, r .2), r .3)
+    cases (inr l) ih = (suc n, omega arith, omega arith, l)
 
 -- at most one term is not 0
 pub sum-single : (n c : ℕ) (f : ℕ → ℕ) → ((a : ℕ) → 1 ≤ a → a ≤ n → f a ≤ c)
@@ -85,3 +95,17 @@ pub list-sum : (n : ℕ) (l q : List ℕ) (f g : ℕ → ℕ) → ((a : ℕ) →
 list-sum n l q f g within once range le =
     different-sum n l f (λ a. cond (member a q) (g a) 0) (λ a. omega (arith, within a, once a)) (λ a h. range a (omega (arith, within a)))
     (λ a h. rw (occurs-member a q (omega (arith, within a))) (le a h))
+
+-- ---- sums over lists
+pub sumOver-add : (f g : ℕ → ℕ) (l : List ℕ) → sumOver f l + sumOver g l ≡ sumOver (λ a. f a + g a) l
+unfolding sumOver
+sumOver-add f g [] = refl
+sumOver-add f g (a ∷ l) = omega (arith, sumOver-add f g l)
+
+-- what is taken out had its part
+pub sumOver-less : (f : ℕ → ℕ) (t : ℕ) (l : List ℕ) → 1 ≤ occurs t l → sumOver f (without t l) + f t ≡ sumOver f l
+unfolding sumOver without occurs
+sumOver-less f t [] h = absurd (omega arith)
+sumOver-less f t (a ∷ l) h =
+    by-test (λ (q : List ℕ). sumOver f q + f t ≡ f a + sumOver f l) (eqb a t) {x = l} {y = a ∷ without t l} (λ e. omega (arith, ap f (eqb-true a t e)))
+    (λ e. omega (arith, sumOver-less f t l (omega (arith, ap bit e))))

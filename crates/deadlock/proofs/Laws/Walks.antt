@@ -103,6 +103,14 @@ module _ {E : ℕ → ℕ → Type 0} where
             more (inl z) = inr (record { walk = rw (← z) (onward rest e); less = omega arith })
             more (inr f) = inl (let k : Shorter (f .next) t (walkLength q) = record { walk = f .walk; less = omega (arith, f .less, r .less) } in rw (det b (f .next) u (f .out) e) at k)
 
+    -- two walks from one place are on one way
+    pub walk-either : {a u t : ℕ} → Walk E a u → Walk E a t → Walk E u t ⊎ Walk E t u
+    walk-either {u = u} {t = t} p q = cases (walk-split p q)
+      where
+        cases : Shorter u t (walkLength q) ⊎ Shorter t u (walkLength p) → Walk E u t ⊎ Walk E t u
+        cases (inl r) = inl (r .walk)
+        cases (inr r) = inr (r .walk)
+
     -- two walks from h, each to a place with an edge to h
     walk-meet : (f : ℕ) {h u t : ℕ} (p : Walk E h u) (q : Walk E h t) → E u h → E t h → walkLength p + walkLength q < f → u ≡ t
     walk-meet zero p q eu et l = absurd (omega arith)
