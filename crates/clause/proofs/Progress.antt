@@ -1,8 +1,8 @@
 -- Where sessions call at an empty mail only, each delivery fits, and deliveries empty the mail: the lock manager's states are among those of which the machine's theorem on room speaks.
 use mathlib.Core.Path.{_≡_, refl, sym, subst, _∙_}
-use mathlib.Core.Bool.{Bool, true, false, false≢true, cond}
+use mathlib.Core.Bool.{Bool, true, false, false≢true, true≢false, cond}
 use mathlib.Core.List.{List, [], _∷_}
-use mathlib.Core.Logic.{⊎-elim}
+use mathlib.Core.Logic.{inl, inr, ⊎-elim}
 use Prim.Native.Nat.{ℕ, _≤_, _<_}
 use native.Mathlib.Omega.{arith}
 use lib.Dec.{eqb}
@@ -10,7 +10,7 @@ use lib.ListN.{length, getD}
 use borrow.Author.Tests.{eq-eqb, ne-eqb, eqb-true, eqb-false}
 use Rattle.lists.specs.Lists.{all, between}
 use Rattle.lists.proofs.Laws.{all-getD, findIndex-le}
-use Rattle.lists.proofs.Tests.{and-both, between-intro, by-answer, by-test, eqb-self}
+use Rattle.lists.proofs.Tests.{and-both, and-intro, between-intro, by-answer, by-test, eqb-self}
 use Rattle.mailbox.specs.Entry.{Entry, onRoute, toItem, unused, wellFormed}
 use Rattle.mailbox.specs.Layout as Mail
 use Rattle.mailbox.proofs.Laws as MailLaws
@@ -28,6 +28,7 @@ use Rattle.lockmgr.specs.Drain.{drain as drainCall, drainRefusal, drainSteps, e
 use Rattle.lockmgr.specs.History.{Call, step, report, drain, reopen, stepsOf, leaves, after}
 use Rattle.lockmgr.proofs.Judging.{formed-zero, Startable, start-zero}
 use Rattle.bound.specs.Formula.{deliveryBound}
+use Rattle.deadlock.proofs.Laws.Lists.{zero-or-more}
 use Rattle.room.specs.Capacity.{capacityBound}
 use Rattle.room.specs.Statement.{Reached, starts, calls, goesOn}
 use Rattle.room.proofs.Theorem.{orderly, theorem}
@@ -43,7 +44,7 @@ use Rattle.clause.proofs.Moves.{Moved}
 use Rattle.clause.proofs.Step.{by-step, call-in-range, callOf, fits-accepted, found-delivers}
 use Rattle.clause.proofs.Reopening.{by-reopen}
 use Rattle.clause.proofs.Theorem.{start-accepted, start-leaves, begun, begun-good, begun-state, no-entries, none-read}
-use Rattle.clause.proofs.Drains.{drain-delivers, steps-bounded, drain-ends}
+use Rattle.clause.proofs.Drains.{is-delivery, drain-delivers, steps-bounded, drain-ends}
 
 -- two buffers in a state that the machine reaches by calls at an empty mailbox and by deliveries
 record Kept (conf : Config) (b : Buffers) : Type 0 where
@@ -172,7 +173,14 @@ module _ (conf : Config) (enough : capacityBound (conf .sessions) (conf .items) 
   kept-accepts : (b : Buffers) → Kept conf b → (k : ℕ) → k < Mail.countOf (b .mail) → doneOn b (deliveryAt b k) .result .answer .refusal ≡ 0
   kept-accepts b k = by-kept conf b k (λ (a : Buffers). (k : ℕ) → k < Mail.countOf (a .mail) → doneOn a (deliveryAt a k) .result .answer .refusal ≡ 0) message-accepted
 
-  -- so nothing but an empty mail or its limit ends a drain
+  -- so deliveries end at an empty mail alone
+  ends-empty : (b : Buffers) → Kept conf b → ((next : Run.Step) → isDelivered (doneOn b next) ≡ false) → EmptyMail b
+  ends-empty b k none = elim (zero-or-more (Mail.countOf (b .mail))) [
+    | inl z ↦ z
+    | inr some ↦ absurd (true≢false (sym (and-intro (is-delivery (Mail.entryAt (b .mail) 0)) (eq-eqb _ 0 (kept-accepts b k 0 some))) ∙ none (deliveryAt b 0)))
+  ]
+
+  -- and nothing but an empty mail or its limit ends a drain
   abbrev Ends : ℕ → Type 0
   Ends n = (n ≡ limited → ⊥) → n ≡ empty
 
@@ -207,6 +215,7 @@ module _ (conf : Config) (enough : capacityBound (conf .sessions) (conf .items) 
     few = by-kept conf b k (λ (a : Buffers). Mail.countOf (a .mail) ≤ capacityBound (conf .sessions) (conf .items)) few-messages;
     accepted = λ l h. kept-accepts (left b l) (deliveries-keep conf l b k h);
     bounded = deliveries-bounded b k;
+    emptied = λ l h. ends-empty (left b l) (deliveries-keep conf l b k h);
     drained = drain-empties b k;
   }
 

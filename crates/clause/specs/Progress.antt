@@ -55,8 +55,10 @@ pub record Progress (c : Config) (b : Buffers) : Type 0 where
   -- after any further deliveries, each message that is there can be delivered
   pub accepted : (l : List Step) → AllDelivered b l → (k : ℕ) → k < Mail.countOf (left b l .mail)
       → doneOn (left b l) (deliveryAt (left b l) k) .result .answer .refusal ≡ 0
-  -- and they come to an end, so that the mail is empty after so many at the most
+  -- there are so many of them at the most
   pub bounded : (l : List Step) → AllDelivered b l → length l ≤ deliveryBound (c .sessions) (c .items) (Mail.countOf (b .mail))
+  -- and where none can follow, the mail is empty
+  pub emptied : (l : List Step) → AllDelivered b l → ((next : Step) → isDelivered (doneOn (left b l) next) ≡ false) → EmptyMail (left b l)
   -- a drain that is allowed more empties it
   pub drained : (limit : ℕ) → deliveryBound (c .sessions) (c .items) (Mail.countOf (b .mail)) < limit → drainOf limit b .answer .ending ≡ empty
 
