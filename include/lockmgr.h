@@ -243,12 +243,9 @@
  * it: with 64 sessions, one item and a capacity of 62, the release of an item
  * for which 63 sessions wait would send 63 messages.
  *
- * Proved is what holds when the mail is empty: no cycle stands, and sessions
- * have been rolled back as often as cycles were closed. Proved is also that
- * deliveries come to an end: lockmgr_drain, with a limit that is high enough,
- * empties the mail or comes to a message that does not fit. That they all fit
- * is not proved, and without a rule it is not so. Keep one of two rules from
- * the start on:
+ * Two rules keep clear of this. Keep one of them from the start on, and give the
+ * mailbox at least LOCKMGR_CAPACITY(sessions, items) messages, which is
+ * 6 S + M + 1, or 449 for 64 sessions and 64 items:
  *
  *   Rule 1. Request, release or reopen only while the mail is empty. Then
  *           deliver, in any order, until it is empty again.
@@ -257,18 +254,28 @@
  *
  * Who delivers by lockmgr_drain alone keeps Rule 2, whenever these calls are
  * made, and Rule 1 too if each is made only after a drain that ended with
- * LOCKMGR_DRAIN_EMPTY.
+ * LOCKMGR_DRAIN_EMPTY. Calls that are refused break neither rule, and reports
+ * and texts never do.
  *
- * And give the mailbox at least LOCKMGR_CAPACITY(sessions, items) messages,
- * which is 6 S + M + 1, or 449 for 64 sessions and 64 items. Then no delivery
- * has ever been refused with LOCKMGR_MAIL_FULL: in all states of small lock
- * managers, with reopening too, and in searches for the worst case (both made
- * before there were ranks, the searches before version 0.2), and in long random
- * runs with any ranks and with reopening. None of these needed more than
- * 4 S + M. This is tried, not proved. For deadlocks the order of deliveries does
- * not matter, for room it does: a mailbox of 962 messages has been jammed by
- * passing over routes that carry rebroadcasts. Leaving places free before a call
- * is no substitute for a rule.
+ * Rule 1 is PROVED to be enough, for every lock manager and every list of calls
+ * that keeps it: never are more than 6 S + M + 1 messages on their way, no
+ * delivery of a message that is there is refused, and any deliveries that you
+ * make, in any order, empty the mail within lockmgr_drain_bound of them. So
+ * lockmgr_drain with a higher limit always ends with LOCKMGR_DRAIN_EMPTY. When
+ * the mail is empty no cycle stands, and sessions have been rolled back as often
+ * as cycles were closed; that is proved whatever rule is kept.
+ *
+ * Rule 2 is TRIED, not proved. With that capacity no delivery has ever been
+ * refused with LOCKMGR_MAIL_FULL: in all states of small lock managers, with
+ * reopening too, and in searches for the worst case (both made before there were
+ * ranks, the searches before version 0.2), and in long random runs with any
+ * ranks and with reopening. None of these, under either rule, needed more than
+ * 4 S + M.
+ *
+ * For deadlocks the order of deliveries does not matter. For room it does, where
+ * Rule 1 is not kept: a mailbox of 962 messages has been jammed by passing over
+ * routes that carry rebroadcasts. Leaving places free before a call is no
+ * substitute for a rule.
  *
  * Without a rule, where sessions are reopened, passing over one route can jam a
  * mailbox of any capacity. Session 3 holds item 2 and waits for item 1. Sessions
@@ -279,8 +286,8 @@
  * of this: under Rule 1 the resend is delivered before the next of these calls,
  * under Rule 2 before all that is sent after it.
  *
- * If every delivery is refused all the same, or a drain ends with
- * LOCKMGR_DRAIN_FULL, move the mail into a larger buffer with
+ * If a rule was broken, or the mailbox is smaller, and every delivery is refused
+ * or a drain ends with LOCKMGR_DRAIN_FULL, move the mail into a larger buffer with
  * lockmgr_enlarge_mail and go on there, oldest first. Nothing is lost, and the
  * guarantee still holds: the steps that were accepted would have led a lock
  * manager of that capacity to the same state. If 4096 messages are not enough,
@@ -323,8 +330,8 @@ extern "C" {
 
 #define LOCKMGR_VERSION_MAJOR 0
 #define LOCKMGR_VERSION_MINOR 6
-#define LOCKMGR_VERSION_PATCH 1
-#define LOCKMGR_VERSION "0.6.1"
+#define LOCKMGR_VERSION_PATCH 2
+#define LOCKMGR_VERSION "0.6.2"
 
 /* One number that grows with the version. */
 #define LOCKMGR_VERSION_NUMBER \
@@ -346,7 +353,8 @@ extern "C" {
 #define LOCKMGR_MAIL_SIZE(capacity) LOCKMGR_BODY_PLACE(capacity, capacity)
 
 /* A capacity with which no delivery is refused for lack of room, if one of the
- * two rules above is kept from the start on. Tried, not proved. */
+ * two rules above is kept from the start on: proved for Rule 1, tried for
+ * Rule 2. */
 #define LOCKMGR_CAPACITY(sessions, items) \
     (6 * LOCKMGR_CAST_(size_t, sessions) + LOCKMGR_CAST_(size_t, items) + 1)
 
@@ -666,7 +674,9 @@ lockmgr_answer lockmgr_step(uint64_t verb, uint64_t session, uint64_t item,
  * session is made a victim at most once while it waits; a release, a
  * rebroadcast or a clean at an item reaches a queue of at most S sessions, with
  * a probe and a resend for each. Real drains are far shorter: one that closes a
- * cycle of 64 sessions, finds it and dissolves it makes 8198 deliveries.
+ * cycle of 64 sessions, finds it and dissolves it makes 8198 deliveries. Under
+ * Rule 1 of ROOM IN THE MAIL a drain with a limit above D empties the mail, which
+ * is proved too.
  *
  * Forged buffers, to which no start leads, can hold a clean that circles for
  * ever. There only the limit ends a drain, so give one if you do not know where

@@ -1,8 +1,9 @@
 /*
  * Room in the mail, as the header tells it: mailboxes that jam, and the two
- * rules under which the capacity of LOCKMGR_CAPACITY is enough, driven through
- * lists of calls that fill the mail and through random runs; with sessions that
- * are reopened, with plain ranks and with drawn ones.
+ * rules under which the capacity of LOCKMGR_CAPACITY is enough, for the first
+ * proved, for the second tried, driven through lists of calls that fill the mail
+ * and through random runs; with sessions that are reopened, with plain ranks and
+ * with drawn ones.
  */
 #include "lockmgr.h"
 
@@ -36,6 +37,12 @@ static unsigned ranked(unsigned rank)
 /* The greatest count of messages since the start. */
 static unsigned peak;
 
+/* Deliveries since the start, and how many there were before the first that did
+ * not fit; its message. */
+static unsigned made, made_before_full;
+static int was_full;
+static lockmgr_message full_message;
+
 /* How many deliveries the last drain made, oldest first. */
 static uint64_t delivered;
 
@@ -59,7 +66,8 @@ static void start(unsigned sessions, unsigned items, unsigned capacity)
     }
     table_len = LOCKMGR_TABLE_SIZE(sessions, items);
     mail_len = LOCKMGR_MAIL_SIZE(capacity);
-    peak = 0;
+    peak = made = 0;
+    was_full = 0;
     CHECK(lockmgr_start_with(&options, table, table_len, mail, mail_len) == LOCKMGR_ACCEPTED);
     memcpy(started_table, table, table_len);
     memcpy(started_mail, mail, mail_len);
@@ -83,9 +91,16 @@ static unsigned reopen(unsigned rank)
 
 static unsigned deliver(unsigned place)
 {
+    lockmgr_message message = lockmgr_mail_message(mail, place);
     unsigned refusal = lockmgr_deliver(place, table, table_len, mail, mail_len).answer.refusal;
     if (count() > peak)
         peak = count();
+    made += refusal == LOCKMGR_ACCEPTED;
+    if (refusal == LOCKMGR_MAIL_FULL && !was_full) {
+        was_full = 1;
+        full_message = message;
+        made_before_full = made;
+    }
     return refusal;
 }
 
@@ -477,14 +492,21 @@ static void reopen_all(void)
     CHECK(memcmp(mail, started_mail, mail_len) == 0);
 }
 
+/* With 6 S + M + 1 messages, with 4 S + M and with as many as the list needs no
+ * delivery is refused; with one less the first is. */
 static void test_worst(const char *name, int worst(unsigned capacity), unsigned needed)
 {
-    CHECK(worst(ENOUGH));
-    reopen_all();
-    printf("%s: at most %u messages, of %u\n", name, peak, (unsigned)ENOUGH);
-    CHECK(peak == needed);
-    CHECK(worst(needed));
-    CHECK(!worst(needed - 1));
+    static const unsigned capacities[] = {ENOUGH, 4 * S + M};
+    for (size_t k = 0; k < LENGTH(capacities); k++) {
+        CHECK(worst(capacities[k]) && !was_full);
+        reopen_all();
+        printf("%s: at most %u messages, of %u\n", name, peak, capacities[k]);
+        CHECK(peak == needed);
+    }
+    CHECK(worst(needed) && !was_full);
+    CHECK(!worst(needed - 1) && was_full);
+    printf("    with %u the first that does not fit is a %s, after %u deliveries\n", needed - 1,
+           lockmgr_kind_text(full_message.kind), made_before_full);
 }
 
 /* Every session locks an item and then asks for that of the next: one drain
@@ -578,6 +600,37 @@ static void test_rule_2(void)
     printf("rule 2, random runs: at most %u messages, %u reopenings\n", most, reopened);
 }
 
+/* What is proved of rule 1, seen at every state of random runs: with 6 S + M + 1
+ * messages each message that is there can be delivered, and the mail is empty
+ * after no more deliveries than the formula says, whatever their order. */
+static void test_progress(void)
+{
+    static uint8_t kept_table[sizeof table], kept_mail[sizeof mail];
+    unsigned long tried = 0;
+    random_state = 10;
+    for (unsigned run = 0; run < 100; run++) {
+        unsigned sessions = between(2, 8), items = between(1, 6);
+        start(sessions, items, (unsigned)LOCKMGR_CAPACITY(sessions, items));
+        for (unsigned k = 0; k < 400; k++) {
+            random_call(sessions, items);
+            uint64_t most = lockmgr_drain_bound(sessions, items, count());
+            for (uint64_t deliveries = 0; count() > 0; deliveries++) {
+                CHECK(deliveries < most);
+                memcpy(kept_table, table, table_len);
+                memcpy(kept_mail, mail, mail_len);
+                for (unsigned place = 0; place < count(); place++, tried++) {
+                    CHECK(deliver(place) == LOCKMGR_ACCEPTED);
+                    memcpy(table, kept_table, table_len);
+                    memcpy(mail, kept_mail, mail_len);
+                }
+                CHECK(deliver(any()) == LOCKMGR_ACCEPTED);
+            }
+        }
+    }
+    CHECK(tried > 100000);
+    printf("rule 1, every message of every state: %lu deliveries, none refused\n", tried);
+}
+
 /* Few sessions, which are reopened again and again, with 4 S + M messages. */
 static void test_small(unsigned rule)
 {
@@ -618,6 +671,7 @@ int main(void)
         test_long_drain();
         test_rule_1();
         test_rule_2();
+        test_progress();
         test_small(1);
         test_small(2);
     }

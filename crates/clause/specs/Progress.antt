@@ -1,4 +1,4 @@
--- Progress: where sessions request, release and are reopened only while the mail is empty, and the mailbox takes 6 S + M + 1 messages, no delivery is refused, and deliveries in any order empty the mail. RULES is docs/RULES.md.
+-- Progress: where sessions request, release and are reopened only while the mail is empty, and the mailbox takes 6 S + M + 1 messages, no delivery is refused, and deliveries in any order empty the mail: RULES 9.13. RULES is docs/RULES.md.
 use Prim.Native.Nat.{ℕ, _≤_, _<_}
 use mathlib.Core.Path.{_≡_}
 use mathlib.Core.Bool.{Bool, true, false, _&&_}
@@ -21,7 +21,7 @@ use Rattle.clause.specs.Drains.{isAccepted, drainOf}
 abbrev pub isDelivery : ℕ → Bool
 isDelivery verb = between deliverToItem deliverToSession verb
 
--- ---- the rule for callers: RULES 9.14
+-- ---- the rule for callers
 abbrev pub EmptyMail : Buffers → Type 0
 EmptyMail b = Mail.countOf (b .mail) ≡ 0
 

@@ -24,7 +24,7 @@ use Rattle.bound.proofs.Mail.{entry, every-taken}
 use Rattle.bound.proofs.Ranges.{came}
 use Rattle.bound.proofs.Sent.{sentWeight}
 use Rattle.bound.proofs.Sums.{sum-le}
-use Rattle.room.specs.Snapshot.{memberIs, ofMember, ofVictim, Snapshot, Sound, storedCount}
+use Rattle.room.specs.Snapshot.{heldByMember, ofMember, ofVictim, Snapshot, Sound, storedCount}
 use Rattle.room.specs.Weights.{queueWeight, releasesWeight, releaseWeight, resendWeight, weight}
 use Rattle.room.specs.Phases.{Allowed, Clearing, HandedOver, Tidy}
 use Rattle.room.proofs.Sums.{sum-add, sum-single}
@@ -167,7 +167,7 @@ module _ (R : Rules) (L : Laws R) (p : Snapshot) (k : Sound R p) (s : State) (i 
     told-member y q = cases (c .holders x)
       where
         cases : (s .item x .holder ≡ p .state .item x .holder) ⊎ HandedOver p s x → p .member t ≡ true
-        cases (inl z) = sym (ap (memberIs p) (sym z ∙ holds (ap isLive q))) ∙ o
+        cases (inl z) = sym (ap (heldByMember p) (sym z ∙ holds (ap isLive q))) ∙ o
         cases (inr h) =
             let n = holds (ap isLive q) in
             let f = links★ R L p k .linked t x lo hi in

@@ -1,4 +1,4 @@
--- What a snapshot shows of the members of its cycle.
+-- What a snapshot shows of the members of its cycle. A star marks what is read in the snapshot.
 use mathlib.Core.Path.{_∙_, _≡_, ap, refl, subst, sym}
 use mathlib.Core.Bool.{false≢true, true}
 use mathlib.Core.Option.{none, Option, some}
@@ -14,7 +14,7 @@ use Rattle.deadlock.proofs.Laws.Stages.{Awaits, awaits-item, awaits-one, awaits
 use Rattle.deadlock.proofs.Laws.Walks.{cycle-back, cycle-one-way-in, cycle-turned, first-step, FirstStep, walk-append}
 use Rattle.deadlock.proofs.Victims.OneOnCycle.{one-edge}
 use Rattle.deadlock.proofs.Core.Kept.{links-of}
-use Rattle.room.specs.Snapshot.{memberIs, ofMember, Snapshot, Sound}
+use Rattle.room.specs.Snapshot.{heldByMember, ofMember, Snapshot, Sound}
 
 module _ (R : Rules) (L : Laws R) (p : Snapshot) (k : Sound R p) where
   abbrev pub Edge★ : ℕ → ℕ → Type 0
@@ -72,13 +72,13 @@ module _ (R : Rules) (L : Laws R) (p : Snapshot) (k : Sound R p) where
   -- an item held by a member
   pub of-member : (x h : ℕ) → HolderIs (worldOf (p .state)) x h → p .member h ≡ true → ofMember p x ≡ true
   unfolding ofMember
-  of-member x h e m = ap (memberIs p) e ∙ m
+  of-member x h e m = ap (heldByMember p) e ∙ m
 
   pub member-holds : (x : ℕ) → ofMember p x ≡ true → (h : ℕ) × HolderIs (worldOf (p .state)) x h × (p .member h ≡ true)
   unfolding ofMember
   member-holds x e = cases (p .state .item x .holder) refl e
     where
-      cases : (o : Option ℕ) → p .state .item x .holder ≡ o → memberIs p o ≡ true → (h : ℕ) × HolderIs (worldOf (p .state)) x h × (p .member h ≡ true)
+      cases : (o : Option ℕ) → p .state .item x .holder ≡ o → heldByMember p o ≡ true → (h : ℕ) × HolderIs (worldOf (p .state)) x h × (p .member h ≡ true)
       cases none q m = absurd (false≢true m)
       cases (some h) q m = (h, q, m)
 

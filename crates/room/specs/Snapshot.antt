@@ -30,13 +30,13 @@ module _ (p : Snapshot) where
   unfoldable pub left : ℕ → ℕ
   left u = cond (eqb u (p .victim)) 0 (p .far u)
 
-  abbrev pub memberIs : Option ℕ → Bool
-  memberIs none = false
-  memberIs (some h) = p .member h
+  abbrev pub heldByMember : Option ℕ → Bool
+  heldByMember none = false
+  heldByMember (some h) = p .member h
 
   -- item y is held by a member
   unfoldable pub ofMember : ℕ → Bool
-  ofMember y = memberIs (p .state .item y .holder)
+  ofMember y = heldByMember (p .state .item y .holder)
 
   -- item y is held by the victim
   unfoldable pub ofVictim : ℕ → Bool
