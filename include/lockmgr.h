@@ -243,8 +243,8 @@
  * it: with 64 sessions, one item and a capacity of 62, the release of an item
  * for which 63 sessions wait would send 63 messages.
  *
- * Two rules keep clear of this. Keep one of them from the start on, and give the
- * mailbox at least LOCKMGR_CAPACITY(sessions, items) messages, which is
+ * There are two rules against this. Keep one of them from the start on, and give
+ * the mailbox at least LOCKMGR_CAPACITY(sessions, items) messages, which is
  * 6 S + M + 1, or 449 for 64 sessions and 64 items:
  *
  *   Rule 1. Request, release or reopen only while the mail is empty. Then
@@ -253,17 +253,20 @@
  *           message.
  *
  * Who delivers by lockmgr_drain alone keeps Rule 2, whenever these calls are
- * made, and Rule 1 too if each is made only after a drain that ended with
+ * made, and Rule 1 too if between any two of these calls a drain ended with
  * LOCKMGR_DRAIN_EMPTY. Calls that are refused break neither rule, and reports
  * and texts never do.
  *
- * Rule 1 is PROVED to be enough, for every lock manager and every list of calls
- * that keeps it: never are more than 6 S + M + 1 messages on their way, no
- * delivery of a message that is there is refused, and any deliveries that you
- * make, in any order, empty the mail within lockmgr_drain_bound of them. So
- * lockmgr_drain with a higher limit always ends with LOCKMGR_DRAIN_EMPTY. When
- * the mail is empty no cycle stands, and sessions have been rolled back as often
- * as cycles were closed; that is proved whatever rule is kept.
+ * Rule 1 is PROVED to be enough with that capacity, for every lock manager and
+ * every list of calls that keeps the rule: there are never more than 6 S + M + 1
+ * messages on their way, no delivery of a message that is there is refused, and
+ * deliveries, in any order, empty the mail within D of them, the D of
+ * lockmgr_drain with the number of messages that there are now. So lockmgr_drain
+ * with a limit above D always ends with LOCKMGR_DRAIN_EMPTY. When the mail is
+ * empty no cycle stands, and sessions have been rolled back as often as cycles
+ * were closed; that is proved with either rule and with none. So is that a drain
+ * whose limit is high enough ends, with an empty mail or at a message that does
+ * not fit.
  *
  * Rule 2 is TRIED, not proved. With that capacity no delivery has ever been
  * refused with LOCKMGR_MAIL_FULL: in all states of small lock managers, with
@@ -286,8 +289,9 @@
  * of this: under Rule 1 the resend is delivered before the next of these calls,
  * under Rule 2 before all that is sent after it.
  *
- * If a rule was broken, or the mailbox is smaller, and every delivery is refused
- * or a drain ends with LOCKMGR_DRAIN_FULL, move the mail into a larger buffer with
+ * If every delivery is refused all the same, or a drain ends with
+ * LOCKMGR_DRAIN_FULL, which under Rule 1 can happen only in a mailbox smaller
+ * than LOCKMGR_CAPACITY, move the mail into a larger buffer with
  * lockmgr_enlarge_mail and go on there, oldest first. Nothing is lost, and the
  * guarantee still holds: the steps that were accepted would have led a lock
  * manager of that capacity to the same state. If 4096 messages are not enough,
@@ -645,8 +649,9 @@ lockmgr_answer lockmgr_step(uint64_t verb, uint64_t session, uint64_t item,
  * buffers are judged once, before any delivery, and not at each of them.
  *
  * After LOCKMGR_DRAIN_LIMITED call again. LOCKMGR_DRAIN_FULL is kept away by
- * the rules of ROOM IN THE MAIL, where it is also told what to do about it. A
- * limit of 0 delivers nothing and tells which ending applies.
+ * the rules of ROOM IN THE MAIL (proved for Rule 1, tried for Rule 2), where it
+ * is also told what to do about it. A limit of 0 delivers nothing and tells which
+ * ending applies.
  *
  * What it tells. The answers of its steps (sent, closed, victim, initiator) are
  * not kept. Stages tell the rest: a session that was LOCKMGR_WAITING before and
@@ -675,8 +680,8 @@ lockmgr_answer lockmgr_step(uint64_t verb, uint64_t session, uint64_t item,
  * rebroadcast or a clean at an item reaches a queue of at most S sessions, with
  * a probe and a resend for each. Real drains are far shorter: one that closes a
  * cycle of 64 sessions, finds it and dissolves it makes 8198 deliveries. Under
- * Rule 1 of ROOM IN THE MAIL a drain with a limit above D empties the mail, which
- * is proved too.
+ * Rule 1 of ROOM IN THE MAIL, in a mailbox of LOCKMGR_CAPACITY messages or more, a
+ * drain with a limit above D empties the mail, which is proved too.
  *
  * Forged buffers, to which no start leads, can hold a clean that circles for
  * ever. There only the limit ends a drain, so give one if you do not know where

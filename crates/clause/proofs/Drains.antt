@@ -7,7 +7,7 @@ use native.Mathlib.Omega.{arith}
 use lib.Dec.{eqb}
 use lib.ListN.{length}
 use borrow.Author.Tests.{eq-eqb, eqb-true, eqb-false}
-use Rattle.lists.specs.Lists.{between, all}
+use Rattle.lists.specs.Lists.{all}
 use Rattle.lists.proofs.Laws.{all-weaken}
 use Rattle.lists.proofs.Tests.{and-both, and-intro, by-test}
 use Rattle.mailbox.specs.Entry.{Entry, toItem}
@@ -35,8 +35,7 @@ use Rattle.bound.proofs.Theorem as BoundTheorem
 use Rattle.agreement.specs.Reading.{readEntries}
 use Rattle.agreement.proofs.MailboxAgrees.{length-readEntries}
 use Rattle.clause.specs.Statement.{opened}
-use Rattle.clause.specs.Drains.{isAccepted, DrainIsSteps, DrainEnds, DrainsEnd, BoundSmall}
-use Rattle.clause.specs.Progress.{isDelivery, isDelivered, AllDelivered}
+use Rattle.clause.specs.Drains.{isAccepted, isDelivered, AllDelivered, DrainIsSteps, DrainEnds, DrainsEnd, BoundSmall}
 use Rattle.clause.proofs.State
 use Rattle.clause.proofs.State.{machineOf, machine-laws, stateOf, Good}
 use Rattle.clause.proofs.Moves.{Moved, StepMoved}
@@ -46,8 +45,8 @@ use Rattle.clause.proofs.Theorem.{start-accepted, followed}
 use Rattle.clause.proofs.Replay.{steps-left, steps-done}
 
 -- the verb of an entry is that of a delivery
-pub is-delivery : (e : Entry) → between Step.deliverToItem Step.deliverToSession (verbOf e) ≡ true
-is-delivery e = by-test (λ (n : ℕ). between Step.deliverToItem Step.deliverToSession n ≡ true) (eqb (e .direction) toItem) (λ _. refl) (λ _. refl)
+pub is-delivery : (e : Entry) → Step.isDelivery (verbOf e) ≡ true
+is-delivery e = by-test (λ (n : ℕ). Step.isDelivery n ≡ true) (eqb (e .direction) toItem) (λ _. refl) (λ _. refl)
 
 -- ---- a drain is its single deliveries
 all-delivered : (n : ℕ) (b : Buffers) → Formed (b .table) (b .mail) → AllDelivered b (deliveries n b)
@@ -77,7 +76,7 @@ drain-is-steps limit b = record {
   left = rw (steps-left b (drainSteps limit b)) refl;
   same-left = rw (steps-left b (drainSteps limit b)) refl;
   same-steps = rw (steps-done b (drainSteps limit b)) (one-call limit b);
-  accepted = all-weaken isDelivered isAccepted (λ d e. and-both (isDelivery (d .verb)) (isAccepted d) e .1) (done b (drainSteps limit b)) (drain-delivers limit b);
+  accepted = all-weaken isDelivered isAccepted (λ d e. and-both (Step.isDelivery (d .verb)) (isAccepted d) e .1) (done b (drainSteps limit b)) (drain-delivers limit b);
 }
 
 -- ---- how many deliveries there are
@@ -102,7 +101,7 @@ module _ (conf : Config) where
     kept : Invariant R (stateOf conf (r .table) (m .entries))
     kept = rw (m .moves) (invariant-move R (machine-laws conf (r .table) (m .entries) (m .good)) (stateOf conf table l) k (m .call) (m .of-machine))
 
-    falls : between Step.deliverToItem Step.deliverToSession verb ≡ true → potential R (stateOf conf (r .table) (m .entries)) < potential R (stateOf conf table l)
+    falls : Step.isDelivery verb ≡ true → potential R (stateOf conf (r .table) (m .entries)) < potential R (stateOf conf table l)
     falls d = rw (m .moves) (omega (arith, BoundTheorem.theorem R (machine-laws conf (r .table) (m .entries) (m .good)) .falls (stateOf conf table l) k (m .call) (m .of-machine) (s .delivers d)))
 
   -- any list of deliveries, none of them refused
@@ -114,7 +113,7 @@ module _ (conf : Config) where
       let b = buffers table (Mail.mailBytes (conf .capacity) l) in
       let d = doneOn b c in
       let both = and-both (isDelivered d) (all isDelivered (done (leftBy d) steps)) h in
-      let first = and-both (isDelivery (c .verb)) (isAccepted d) (both .0) in
+      let first = and-both (Step.isDelivery (c .verb)) (isAccepted d) (both .0) in
       by-step conf table l g (c .verb) (c .session) (c .item)
       (λ (r : Stepped). r .answer .refusal ≡ 0 → AllDelivered (buffers (r .table) (r .mail)) steps → length (c ∷ steps) ≤ potential R (stateOf conf table l))
       (λ i other z. absurd (other z))

@@ -5,7 +5,6 @@ use mathlib.Core.List.{List, [], _∷_, _++_}
 use Prim.Native.Nat.{ℕ, _+_}
 use native.Mathlib.Omega.{arith}
 use lib.Dec.{eqb}
-use Rattle.lists.specs.Lists.{between}
 use Rattle.session.specs.Stage
 use Rattle.session.specs.Record as SessionRecord
 use Rattle.mailbox.specs.Entry.{Entry}
@@ -89,7 +88,7 @@ module _ (conf : Config) (end : Buffers → Buffers) (more : Buffers → List Do
 
   module _ (verb t : ℕ) (table : List ℕ) (l : List Entry) where
     abbrev delivery : Bool
-    delivery = between Step.deliverToItem Step.deliverToSession verb
+    delivery = Step.isDelivery verb
 
     -- behind a step that leaves and answers r, with its counts
     abbrev After : Stepped → Type 0

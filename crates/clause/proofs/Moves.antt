@@ -50,8 +50,8 @@ pub record StepMoved (conf : Config) (table : List ℕ) (l : List Entry) (verb t
   pub closes : r .answer .closed ≡ bit (moved .event .closed)
   pub declares : r .answer .victim ≢ 0 → moved .event .declared ≡ some (record { victim = r .answer .victim; initiator = r .answer .initiator })
   pub rolls : rollsBack t table (r .table) ≡ moved .event .rolledBack
-  pub delivered : between Step.deliverToItem Step.deliverToSession verb && rollsBack t table (r .table) ≡ rollsBack t table (r .table)
-  pub delivers : between Step.deliverToItem Step.deliverToSession verb ≡ true → Bound.delivers (stateOf conf table l) (moved .call) ≡ true
+  pub delivered : Step.isDelivery verb && rollsBack t table (r .table) ≡ rollsBack t table (r .table)
+  pub delivers : Step.isDelivery verb ≡ true → Bound.delivers (stateOf conf table l) (moved .call) ≡ true
 
 pub one-is-bit : (b : Bool) → cond b 1 0 ≡ bit b
 one-is-bit true = refl
@@ -110,8 +110,8 @@ module _ (conf : Config) (table : List ℕ) (l : List Entry) (g : Good conf tabl
 
       -- by a step with this verb
       pub session-stepped : (verb : ℕ)
-          → between Step.deliverToItem Step.deliverToSession verb && eqb (r .session .stage) Stage.rolledBack ≡ eqb (r .session .stage) Stage.rolledBack
-          → (between Step.deliverToItem Step.deliverToSession verb ≡ true → Bound.delivers before call ≡ true)
+          → Step.isDelivery verb && eqb (r .session .stage) Stage.rolledBack ≡ eqb (r .session .stage) Stage.rolledBack
+          → (Step.isDelivery verb ≡ true → Bound.delivers before call ≡ true)
           → StepMoved conf table l verb t (committed t (conf .capacity) (sessionPlan t table rest r))
       unfolding session-moved
       session-stepped verb delivered delivers = record {
@@ -120,7 +120,7 @@ module _ (conf : Config) (table : List ℕ) (l : List Entry) (g : Good conf tabl
         closes = one-is-bit false;
         declares = λ n. absurd (n refl);
         rolls = refl;
-        delivered = middle (between Step.deliverToItem Step.deliverToSession verb) (not (eqb (Table.session table t .stage) Stage.rolledBack)) (eqb (Table.session table-after t .stage) Stage.rolledBack)
+        delivered = middle (Step.isDelivery verb) (not (eqb (Table.session table t .stage) Stage.rolledBack)) (eqb (Table.session table-after t .stage) Stage.rolledBack)
             (rw (put .here) delivered);
         delivers = delivers;
       }
@@ -185,6 +185,6 @@ module _ (conf : Config) (table : List ℕ) (l : List Entry) (g : Good conf tabl
         closes = closes (r .event);
         declares = declares (r .event) (Machine.onCycle (machineOf conf) (stateOf conf item-after answered) t);
         rolls = same-stage ∙ never-rolls (r .event) (Machine.onCycle (machineOf conf) (stateOf conf item-after answered) t);
-        delivered = rw (same-stage) (and-false (between Step.deliverToItem Step.deliverToSession verb));
+        delivered = rw (same-stage) (and-false (Step.isDelivery verb));
         delivers = λ _. delivers;
       }

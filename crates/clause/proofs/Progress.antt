@@ -1,8 +1,8 @@
 -- Where sessions call at an empty mail only, each delivery fits, and deliveries empty the mail: the lock manager's states are among those of which the machine's theorem on room speaks.
 use mathlib.Core.Path.{_≡_, refl, sym, subst, _∙_}
-use mathlib.Core.Bool.{Bool, true, false, false≢true, true≢false, cond}
+use mathlib.Core.Bool.{Bool, true, false, false≢true, true≢false}
 use mathlib.Core.List.{List, [], _∷_}
-use mathlib.Core.Logic.{inl, inr, ⊎-elim}
+use mathlib.Core.Logic.{_≢_, _⊎_, inl, inr, ⊎-elim}
 use Prim.Native.Nat.{ℕ, _≤_, _<_}
 use native.Mathlib.Omega.{arith}
 use lib.Dec.{eqb}
@@ -24,7 +24,7 @@ use Rattle.lockmgr.specs.Run as Run
 use Rattle.lockmgr.specs.Run.{Buffers, buffers, doneOn, leftBy, done, left}
 use Rattle.refusal.specs.Refusal
 use Rattle.drain.specs.Oldest.{verbOf}
-use Rattle.lockmgr.specs.Drain.{drain as drainCall, drainRefusal, drainSteps, ending, empty, limited}
+use Rattle.lockmgr.specs.Drain.{drain as drainCall, drainRefusal, drainSteps, ending, empty, full, limited}
 use Rattle.lockmgr.specs.History.{Call, step, report, drain, reopen, stepsOf, leaves, after}
 use Rattle.lockmgr.proofs.Judging.{formed-zero, Startable, start-zero}
 use Rattle.bound.specs.Formula.{deliveryBound}
@@ -36,12 +36,12 @@ use Rattle.agreement.specs.Reading.{directionOf}
 use Rattle.agreement.proofs.MailboxAgrees.{length-readEntries}
 use Rattle.agreement.proofs.MoveAgrees.{placeOf}
 use Rattle.clause.specs.Statement.{opened}
-use Rattle.clause.specs.Drains.{DrainEnds, isAccepted, drainOf}
-use Rattle.clause.specs.Progress.{isDelivery, isDelivered, AllDelivered, deliveryAt, EmptyMail, KeepsRule, RuleKept, Progress, Progresses}
+use Rattle.clause.specs.Drains.{isAccepted, isDelivered, AllDelivered, DrainEnds, drainOf}
+use Rattle.clause.specs.Progress.{deliveryAt, EmptyMail, KeepsRule, RuleKept, Progress, Progresses}
 use Rattle.clause.proofs.State
 use Rattle.clause.proofs.State.{machineOf, machine-laws, stateOf, Good}
 use Rattle.clause.proofs.Moves.{Moved}
-use Rattle.clause.proofs.Step.{by-step, call-in-range, callOf, fits-accepted, found-delivers}
+use Rattle.clause.proofs.Step.{by-step, call-in-range, deliveryCall, deliveryVerb, fits-accepted, found-delivers}
 use Rattle.clause.proofs.Reopening.{by-reopen}
 use Rattle.clause.proofs.Theorem.{start-accepted, start-leaves, begun, begun-good, begun-state, no-entries, none-read}
 use Rattle.clause.proofs.Drains.{is-delivery, drain-delivers, steps-bounded, drain-ends}
@@ -70,12 +70,12 @@ module _ (conf : Config) where
     called b m e = record { entries = m .entries; mail = m .mail; good = m .good; reached = rw (m .moves) (calls r (no-message e) (m .call) (m .of-machine)) }
 
     -- a step
-    step-keeps : (c : Run.Step) → (isDelivery (c .verb) ≡ false → doneOn (at table l) c .result .answer .refusal ≡ 0 → EmptyMail (at table l)) → Kept conf (leftBy (doneOn (at table l) c))
+    step-keeps : (c : Run.Step) → (Step.isDelivery (c .verb) ≡ false → doneOn (at table l) c .result .answer .refusal ≡ 0 → EmptyMail (at table l)) → Kept conf (leftBy (doneOn (at table l) c))
     step-keeps c =
         by-step conf table l g (c .verb) (c .session) (c .item)
-        (λ (o : Stepped). (isDelivery (c .verb) ≡ false → o .answer .refusal ≡ 0 → EmptyMail (at table l)) → Kept conf (buffers (o .table) (o .mail)))
+        (λ (o : Stepped). (Step.isDelivery (c .verb) ≡ false → o .answer .refusal ≡ 0 → EmptyMail (at table l)) → Kept conf (buffers (o .table) (o .mail)))
         (λ _ _ _. here)
-        (λ o m rule. by-answer (isDelivery (c .verb))
+        (λ o m rule. by-answer (Step.isDelivery (c .verb))
         (λ d. record {
           entries = m .moved .entries;
           mail = m .moved .mail;
@@ -103,7 +103,7 @@ module _ (conf : Config) where
   deliveries-keep (c ∷ steps) b k h =
       let d = doneOn b c in
       let both = and-both (isDelivered d) (all isDelivered (done (leftBy d) steps)) h in
-      let first = and-both (isDelivery (c .verb)) (isAccepted d) (both .0) in
+      let first = and-both (Step.isDelivery (c .verb)) (isAccepted d) (both .0) in
       deliveries-keep steps (leftBy d)
       (by-kept b k (λ (a : Buffers). Kept conf (leftBy (doneOn a c))) (λ table l g r. step-keeps table l g r c (λ e _. absurd (false≢true (sym e ∙ first .0)))))
       (both .1)
@@ -155,9 +155,9 @@ module _ (conf : Config) (enough : capacityBound (conf .sessions) (conf .items) 
           let n = findIndex-le (onRoute (directionOf d) (entry .session) (entry .item)) l unused k inside on-route in
           ne-eqb (placeOf (entry .session) (entry .item) l d) (length l) (λ q. absurd (omega (arith, q, n)))
 
-      goes : (d : Bool) → entry .direction ≡ directionOf d → Calls.step (cond d Step.deliverToItem Step.deliverToSession) (entry .session) (entry .item) table mail .answer .refusal ≡ 0
+      goes : (d : Bool) → entry .direction ≡ directionOf d → Calls.step (deliveryVerb conf table l g (entry .session) (entry .item) t-range x-range d) (entry .session) (entry .item) table mail .answer .refusal ≡ 0
       goes d e =
-          let c = callOf conf table l g (entry .session) (entry .item) t-range x-range d in
+          let c = deliveryCall conf table l g (entry .session) (entry .item) t-range x-range d in
           let after = goesOn r c (call-in-range conf table l g (entry .session) (entry .item) t-range x-range d) (found-delivers conf table l g (entry .session) (entry .item) t-range x-range d (found d e)) in
           fits-accepted conf table l g (entry .session) (entry .item) t-range x-range d (found d e)
           (omega (arith, enough, theorem (machineOf conf) (machine-laws conf table l g) _ after))
@@ -180,17 +180,17 @@ module _ (conf : Config) (enough : capacityBound (conf .sessions) (conf .items) 
     | inr some ↦ absurd (true≢false (sym (and-intro (is-delivery (Mail.entryAt (b .mail) 0)) (eq-eqb _ 0 (kept-accepts b k 0 some))) ∙ none (deliveryAt b 0)))
   ]
 
-  -- and nothing but an empty mail or its limit ends a drain
+  -- and a drain ends at an empty mail or at its limit
   abbrev Ends : ℕ → Type 0
-  Ends n = (n ≡ limited → ⊥) → n ≡ empty
+  Ends n = (n ≡ empty) ⊎ (n ≡ limited)
 
-  never-full : (b : Buffers) → Kept conf b → Ends (ending b)
+  never-stuck : (b : Buffers) → Kept conf b → Ends (ending b)
   unfolding ending
-  never-full b k =
-      by-test Ends (eqb (Mail.countOf (b .mail)) 0) (λ _ _. refl)
+  never-stuck b k =
+      by-test Ends (eqb (Mail.countOf (b .mail)) 0) (λ _. inl refl)
       (λ e. by-test Ends (eqb (doneOn b (deliveryAt b 0) .result .answer .refusal) Refusal.mailFull)
       (λ q. let z = kept-accepts b k 0 (omega (arith, eqb-false (Mail.countOf (b .mail)) 0 e)) in absurd (omega (arith, z, eqb-true (doneOn b (deliveryAt b 0) .result .answer .refusal) Refusal.mailFull q)))
-      (λ _ h. absurd (h refl)))
+      (λ _. inr refl))
 
   module _ (b : Buffers) (k : Kept conf b) where
     abbrev bound : ℕ
@@ -201,14 +201,21 @@ module _ (conf : Config) (enough : capacityBound (conf .sessions) (conf .items) 
         by-kept conf b k (λ (a : Buffers). AllDelivered a l → length l ≤ deliveryBound (conf .sessions) (conf .items) (Mail.countOf (a .mail)))
         (λ table entries g r. steps-bounded conf table entries g (orderly (machineOf conf) (machine-laws conf table entries g) r .invariant) l)
 
-    drain-empties : (limit : ℕ) → bound < limit → drainOf limit b .answer .ending ≡ empty
-    unfolding drainCall
-    drain-empties limit h =
-        let judged : drainRefusal b ≡ 0 = by-kept conf b k (λ (a : Buffers). drainRefusal a ≡ 0) (λ table l g r. formed-zero table _ (State.buffers-formed conf table l g)) in
-        let ends : DrainEnds conf b limit = by-kept conf b k (λ (a : Buffers). DrainEnds conf a limit) (λ table l g r. drain-ends conf table l g (orderly (machineOf conf) (machine-laws conf table l g) r .invariant) limit) in
-        let end = left b (drainSteps limit b) in
-        let last : Ends (ending end) = never-full end (deliveries-keep conf (drainSteps limit b) b k (drain-delivers limit b)) in
-        rw (judged) (last (rw (judged) at (ends .ends h)))
+    module _ (limit : ℕ) where
+      drain-ends-well : Ends (drainOf limit b .answer .ending)
+      unfolding drainCall
+      drain-ends-well =
+          let judged : drainRefusal b ≡ 0 = by-kept conf b k (λ (a : Buffers). drainRefusal a ≡ 0) (λ table l g r. formed-zero table _ (State.buffers-formed conf table l g)) in
+          rw (judged) (never-stuck (left b (drainSteps limit b)) (deliveries-keep conf (drainSteps limit b) b k (drain-delivers limit b)))
+
+      drain-never-full : drainOf limit b .answer .ending ≢ full
+      drain-never-full e = ⊎-elim (λ q. absurd (omega (arith, e, q))) (λ q. absurd (omega (arith, e, q))) drain-ends-well
+
+      drain-empties : bound < limit → drainOf limit b .answer .ending ≡ empty
+      drain-empties h =
+          let ends : DrainEnds conf b limit = by-kept conf b k (λ (a : Buffers). DrainEnds conf a limit)
+          (λ table l g r. drain-ends conf table l g (orderly (machineOf conf) (machine-laws conf table l g) r .invariant) limit) in
+          ⊎-elim (λ q. q) (λ q. absurd (ends .ends h q)) drain-ends-well
 
   progress : (b : Buffers) → Kept conf b → Progress conf b
   progress b k = record {
@@ -216,6 +223,7 @@ module _ (conf : Config) (enough : capacityBound (conf .sessions) (conf .items) 
     accepted = λ l h. kept-accepts (left b l) (deliveries-keep conf l b k h);
     bounded = deliveries-bounded b k;
     emptied = λ l h. ends-empty (left b l) (deliveries-keep conf l b k h);
+    never-full = drain-never-full b k;
     drained = drain-empties b k;
   }
 

@@ -5,7 +5,6 @@ use mathlib.Core.List.{List, [], _∷_, map}
 use Prim.Native.Nat.{ℕ, _+_}
 use native.Mathlib.Omega.{arith}
 use lib.Dec.{eqb}
-use Rattle.lists.specs.Lists.{between}
 use Rattle.session.specs.Stage
 use Rattle.mailbox.specs.Entry.{Entry}
 use Rattle.mailbox.specs.Layout as Mail
@@ -27,7 +26,7 @@ use Rattle.clause.proofs.Theorem.{begun-good, start-accepted, start-lea
 
 -- what is known after a step: a session comes to stage 6 at deliveries alone, and the buffers are good
 record Next (conf : Config) (verb t : ℕ) (table : List ℕ) (r : Stepped) : Type 0 where
-  delivered : between Step.deliverToItem Step.deliverToSession verb && rollsBack t table (r .table) ≡ rollsBack t table (r .table)
+  delivered : Step.isDelivery verb && rollsBack t table (r .table) ≡ rollsBack t table (r .table)
   entries : List Entry
   good : Good conf (r .table) entries
   mail : r .mail ≡ Mail.mailBytes (conf .capacity) entries
@@ -37,7 +36,7 @@ next : (conf : Config) (table mail : List ℕ) (l : List Entry) → Good conf ta
 next conf table mail l g e verb t x =
     rw (e) (by-step conf table l g verb t x (Next conf verb t table)
     (λ n _. record {
-      delivered = rw (never-both (eqb (Table.session table t .stage) Stage.rolledBack)) (and-false (between Step.deliverToItem Step.deliverToSession verb));
+      delivered = rw (never-both (eqb (Table.session table t .stage) Stage.rolledBack)) (and-false (Step.isDelivery verb));
       entries = l;
       good = g;
       mail = refl;

@@ -176,16 +176,16 @@ module _ (conf : Config) (table : List ℕ) (l : List Entry) (g : Good conf tabl
         (λ f h v. Events.session-move-event (seniorOf conf) (nextOf conf) (conf .sessions) (conf .items) few-sessions few-items (Table.session table) (locks table) l formed t x t-range x-range f _ v)
         Step.deliverToSession refl (λ _. taken false found))
 
-    -- ---- a delivery that finds its entry: how many entries it leaves, and that only room can hinder it
-    abbrev verbOf : Bool → ℕ
-    verbOf d = cond d Step.deliverToItem Step.deliverToSession
+    -- ---- a delivery that finds its entry, to the item (true) or to the session (false): how many entries it leaves, and that only room can hinder it
+    abbrev pub deliveryVerb : Bool → ℕ
+    deliveryVerb d = cond d Step.deliverToItem Step.deliverToSession
 
-    abbrev pub callOf : Bool → Machine.Call
-    callOf d = cond d (Machine.deliverToItem t x) (Machine.deliverToSession t x)
+    abbrev pub deliveryCall : Bool → Machine.Call
+    deliveryCall d = cond d (Machine.deliverToItem t x) (Machine.deliverToSession t x)
 
     -- as many as the machine
     same-count : (d : Bool) → eqb (Agrees.placeOf t x l d) (length l) ≡ false
-        → length (plan (verbOf d) t x table l .entries) ≡ length (Machine.move (machineOf conf) (State.stateOf conf table l) (callOf d) .mailbox)
+        → length (plan (deliveryVerb d) t x table l .entries) ≡ length (Machine.move (machineOf conf) (State.stateOf conf table l) (deliveryCall d) .mailbox)
     same-count true found =
         let r = Agrees.itemStep (seniorOf conf) (nextOf conf) (locks table) t x l in
         ap (λ (p : Plan). length (p .entries)) item-plan
@@ -201,35 +201,35 @@ module _ (conf : Config) (table : List ℕ) (l : List Entry) (g : Good conf tabl
         (Agrees.session-move (seniorOf conf) (nextOf conf) (conf .sessions) (conf .items) few-sessions few-items (Table.session table) (locks table) l formed t x t-range x-range found
         (updated (Table.session table) t (r .session)) (record { here = updated-same (Table.session table) t (r .session); elsewhere = λ j _ n. updated-other (Table.session table) t (r .session) j n }))
 
-    only-room : (d : Bool) → eqb (Agrees.placeOf t x l d) (length l) ≡ false → first (stepCauses (verbOf d) t x table (Mail.entriesOf mail)) ≡ 0
+    only-room : (d : Bool) → eqb (Agrees.placeOf t x l d) (length l) ≡ false → first (stepCauses (deliveryVerb d) t x table (Mail.entriesOf mail)) ≡ 0
     unfolding first delivered
     only-room true found = rw (entries-are, found) refl
     only-room false found = rw (entries-are, found) refl
 
-    is-verb : (d : Bool) → (1 ≤ verbOf d) × (verbOf d ≤ 4)
+    is-verb : (d : Bool) → (1 ≤ deliveryVerb d) × (deliveryVerb d ≤ 4)
     is-verb true = (omega arith, omega arith)
     is-verb false = (omega arith, omega arith)
 
-    -- what the machine leaves fits
+    -- where what the machine leaves fits, the step is accepted
     pub fits-accepted : (d : Bool) → eqb (Agrees.placeOf t x l d) (length l) ≡ false
-        → length (Machine.move (machineOf conf) (State.stateOf conf table l) (callOf d) .mailbox) ≤ conf .capacity → step (verbOf d) t x table mail .answer .refusal ≡ 0
+        → length (Machine.move (machineOf conf) (State.stateOf conf table l) (deliveryCall d) .mailbox) ≤ conf .capacity → step (deliveryVerb d) t x table mail .answer .refusal ≡ 0
     fits-accepted d found fits =
         let f = State.buffers-formed conf table l g in
         let rt = within 1 (conf .sessions) t t-range in
         let rx = within 1 (conf .items) x x-range in
         let v = is-verb d in
-        let j = judged-none (verbOf d) t x table mail (v .0) (v .1) (formed-zero table mail f) (rt .0) (omega (arith, rt .1, g .sessions)) (rx .0) (omega (arith, rx .1, g .items)) in
-        let room : overfull (Mail.capacityOf mail) (plan (verbOf d) t x table (Mail.entriesOf mail) .entries) ≡ false =
-        rw (capacity-is, entries-are) (le-ltb (conf .capacity) (length (plan (verbOf d) t x table l .entries)) (omega (arith, same-count d found, fits))) in
-        rw (step-acts (verbOf d) t x table mail j, acted-concluded (verbOf d) t x table mail (only-room d found), room) refl
+        let j = judged-none (deliveryVerb d) t x table mail (v .0) (v .1) (formed-zero table mail f) (rt .0) (omega (arith, rt .1, g .sessions)) (rx .0) (omega (arith, rx .1, g .items)) in
+        let room : overfull (Mail.capacityOf mail) (plan (deliveryVerb d) t x table (Mail.entriesOf mail) .entries) ≡ false =
+        rw (capacity-is, entries-are) (le-ltb (conf .capacity) (length (plan (deliveryVerb d) t x table l .entries)) (omega (arith, same-count d found, fits))) in
+        rw (step-acts (deliveryVerb d) t x table mail j, acted-concluded (deliveryVerb d) t x table mail (only-room d found), room) refl
 
-    -- where the machine delivers
-    pub found-delivers : (d : Bool) → eqb (Agrees.placeOf t x l d) (length l) ≡ false → Bound.delivers (State.stateOf conf table l) (callOf d) ≡ true
+    -- where an entry is found, the machine delivers it
+    pub found-delivers : (d : Bool) → eqb (Agrees.placeOf t x l d) (length l) ≡ false → Bound.delivers (State.stateOf conf table l) (deliveryCall d) ≡ true
     unfolding Bound.delivers
     found-delivers true found = taken true found
     found-delivers false found = taken false found
 
-    pub call-in-range : (d : Bool) → Machine.ofMachine (machineOf conf) (callOf d) ≡ true
+    pub call-in-range : (d : Bool) → Machine.ofMachine (machineOf conf) (deliveryCall d) ≡ true
     unfolding Machine.ofMachine
     call-in-range true = in-range
     call-in-range false = in-range

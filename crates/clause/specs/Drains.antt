@@ -1,13 +1,14 @@
 -- What holds of a drain. RULES is docs/RULES.md.
 use Prim.Native.Nat.{ℕ, _≤_, _<_}
 use mathlib.Core.Path.{_≡_}
-use mathlib.Core.Bool.{Bool, true}
+use mathlib.Core.Bool.{Bool, true, _&&_}
 use mathlib.Core.List.{List, [], _∷_, map}
 use mathlib.Core.Logic.{_≢_}
 use lib.Dec.{eqb}
 use lib.ListN.{length}
 use Rattle.lists.specs.Lists.{all}
 use Rattle.mailbox.specs.Layout as Mail
+use Rattle.step.specs.Step.{isDelivery}
 use Rattle.lockmgr.specs.Calls as Calls
 use Rattle.lockmgr.specs.Calls.{Config}
 use Rattle.lockmgr.specs.Run.{Step, Buffers, buffers, Done, done}
@@ -23,6 +24,13 @@ callOf c = History.step (c .verb) (c .session) (c .item)
 
 abbrev pub isAccepted : Done → Bool
 isAccepted d = eqb (d .result .answer .refusal) 0
+
+-- a step that is a delivery and is not refused, and a list of such steps
+abbrev pub isDelivered : Done → Bool
+isDelivered d = isDelivery (d .verb) && isAccepted d
+
+abbrev pub AllDelivered : Buffers → List Step → Type 0
+AllDelivered b l = all isDelivered (done b l) ≡ true
 
 -- a drain of two buffers
 abbrev pub drainOf : ℕ → Buffers → DrainResult

@@ -1,25 +1,21 @@
--- Progress: where sessions request, release and are reopened only while the mail is empty, and the mailbox takes 6 S + M + 1 messages, no delivery is refused, and deliveries in any order empty the mail: RULES 9.13. RULES is docs/RULES.md.
+-- Progress: where sessions request, release and are reopened only while the mail is empty, and the mailbox takes 6 S + M + 1 messages, no delivery of a message that is there is refused, and deliveries in any order empty the mail: RULES 9.13. RULES is docs/RULES.md.
 use Prim.Native.Nat.{ℕ, _≤_, _<_}
 use mathlib.Core.Path.{_≡_}
-use mathlib.Core.Bool.{Bool, true, false, _&&_}
+use mathlib.Core.Bool.{false}
 use mathlib.Core.List.{List, [], _∷_}
+use mathlib.Core.Logic.{_≢_}
 use lib.ListN.{length}
-use Rattle.lists.specs.Lists.{all, between}
 use Rattle.mailbox.specs.Layout as Mail
-use Rattle.step.specs.Step.{deliverToItem, deliverToSession}
+use Rattle.step.specs.Step.{isDelivery}
 use Rattle.lockmgr.specs.Calls as Calls
 use Rattle.lockmgr.specs.Calls.{Config}
-use Rattle.lockmgr.specs.Run.{Step, Buffers, Done, doneOn, done, left}
-use Rattle.lockmgr.specs.Drain.{delivery, empty}
+use Rattle.lockmgr.specs.Run.{Step, Buffers, doneOn, left}
+use Rattle.lockmgr.specs.Drain.{delivery, empty, full}
 use Rattle.lockmgr.specs.History.{Call, step, report, drain, reopen, leaves, after}
 use Rattle.bound.specs.Formula.{deliveryBound}
 use Rattle.room.specs.Capacity.{capacityBound}
 use Rattle.clause.specs.Statement.{opened}
-use Rattle.clause.specs.Drains.{isAccepted, drainOf}
-
--- a verb that delivers
-abbrev pub isDelivery : ℕ → Bool
-isDelivery verb = between deliverToItem deliverToSession verb
+use Rattle.clause.specs.Drains.{isDelivered, AllDelivered, drainOf}
 
 -- ---- the rule for callers
 abbrev pub EmptyMail : Buffers → Type 0
@@ -38,28 +34,22 @@ RuleKept b [] = Unit {0}
 RuleKept b (c ∷ l) = KeepsRule b c × RuleKept (leaves b c) l
 
 -- ---- what holds then
--- every step of a list is a delivery, and none is refused
-abbrev pub isDelivered : Done → Bool
-isDelivered d = isDelivery (d .verb) && isAccepted d
-
-abbrev pub AllDelivered : Buffers → List Step → Type 0
-AllDelivered b l = all isDelivered (done b l) ≡ true
-
 -- the delivery of entry k of the mail, as a step
 abbrev pub deliveryAt : Buffers → ℕ → Step
 deliveryAt b k = delivery (Mail.entryAt (b .mail) k)
 
 pub record Progress (c : Config) (b : Buffers) : Type 0 where
-  -- so many messages at the most are on their way
+  -- at most 6 S + M + 1 messages are on their way
   pub few : Mail.countOf (b .mail) ≤ capacityBound (c .sessions) (c .items)
   -- after any further deliveries, each message that is there can be delivered
   pub accepted : (l : List Step) → AllDelivered b l → (k : ℕ) → k < Mail.countOf (left b l .mail)
       → doneOn (left b l) (deliveryAt (left b l) k) .result .answer .refusal ≡ 0
-  -- there are so many of them at the most
+  -- there are no more of them than the formula says
   pub bounded : (l : List Step) → AllDelivered b l → length l ≤ deliveryBound (c .sessions) (c .items) (Mail.countOf (b .mail))
   -- and where none can follow, the mail is empty
   pub emptied : (l : List Step) → AllDelivered b l → ((next : Step) → isDelivered (doneOn (left b l) next) ≡ false) → EmptyMail (left b l)
-  -- a drain that is allowed more empties it
+  -- no drain ends at a message that does not fit, and one that is allowed more than the formula says empties the mail
+  pub never-full : (limit : ℕ) → drainOf limit b .answer .ending ≢ full
   pub drained : (limit : ℕ) → deliveryBound (c .sessions) (c .items) (Mail.countOf (b .mail)) < limit → drainOf limit b .answer .ending ≡ empty
 
 -- for every lock manager that start accepts with room for so many messages, after every list of calls that keeps the rule

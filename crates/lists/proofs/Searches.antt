@@ -172,6 +172,65 @@ sum-changed (suc n) t f g lo hi h = cases (same? t (suc n)) (λ hi′. sum-chang
     cases (yes q) ih = omega (arith, ap f q, ap g q, sum-same n g f (λ a _ hi′. h a (λ z. absurd (omega arith))))
     cases (no q) ih = omega (arith, ih (omega arith), h (suc n) q)
 
+pub sum-none : (f : ℕ → ℕ) → ((a : ℕ) → f a ≡ 0) → (n : ℕ) → sumUpTo n f ≡ 0
+unfolding sumUpTo
+sum-none f z zero = refl
+sum-none f z (suc n) = omega (arith, z (suc n), sum-none f z n)
+
+pub sum-add : (n : ℕ) (f g : ℕ → ℕ) → sumUpTo n (λ a. f a + g a) ≡ sumUpTo n f + sumUpTo n g
+unfolding sumUpTo
+sum-add zero f g = refl
+sum-add (suc n) f g = omega (arith, sum-add n f g)
+
+pub sum-swap : (n m : ℕ) (f : ℕ → ℕ → ℕ) → sumUpTo n (λ a. sumUpTo m (λ b. f a b)) ≡ sumUpTo m (λ b. sumUpTo n (λ a. f a b))
+unfolding sumUpTo
+sum-swap zero m f = sym (sum-none _ (λ _. refl) m)
+sum-swap (suc n) m f = omega (arith, sum-swap n m f, sum-add m (f (suc n)) (λ b. sumUpTo n (λ a. f a b)))
+
+-- no term is greater than the other sum's, and one is less by c
+pub sum-less : (n k c : ℕ) (f g : ℕ → ℕ) → 1 ≤ k → k ≤ n → f k + c ≤ g k → ((a : ℕ) → 1 ≤ a → a ≤ n → f a ≤ g a) → sumUpTo n f + c ≤ sumUpTo n g
+sum-less n k c f g lo hi at each =
+    let more : ℕ → ℕ = λ a. cond (eqb a k) (f a + c) (f a) in
+    let here : more k ≡ f k + c = rw (eqb-self k) refl in
+    omega (
+      arith,
+      sum-changed n k f more lo hi (λ a ne. rw (ne-eqb a k (λ z. ne (sym z))) refl),
+      sum-mono n more g (λ a l h. by-test (λ (b : ℕ). b ≤ g a) (eqb a k) (λ e. let q = eqb-true a k e in rw q at) (λ _. each a l h)),
+    )
+
+-- one term alone
+pub sum-term : (n k : ℕ) (f : ℕ → ℕ) → 1 ≤ k → k ≤ n → f k ≤ sumUpTo n f
+sum-term n k f lo hi = omega (arith, sum-less n k (f k) (λ _. 0) f lo hi (omega arith) (λ a _ _. omega arith))
+
+-- a sum that is not 0 has a term that is not 0
+pub sum-some : (n : ℕ) (f : ℕ → ℕ) → 1 ≤ sumUpTo n f → (a : ℕ) × (1 ≤ a) × (a ≤ n) × (1 ≤ f a)
+unfolding sumUpTo
+sum-some zero f h = absurd (omega arith)
+sum-some (suc n) f h = cases (same? (f (suc n)) 0) (sum-some n f)
+  where
+    cases : Dec (f (suc n) ≡ 0) → (1 ≤ sumUpTo n f → (a : ℕ) × (1 ≤ a) × (a ≤ n) × (1 ≤ f a)) → (a : ℕ) × (1 ≤ a) × (a ≤ suc n) × (1 ≤ f a)
+    cases (yes z) ih = let r = ih (omega arith) in (r .0, r .1, omega (arith, r .2), r .3)
+    cases (no z) ih = (suc n, omega arith, omega arith, omega (arith, z))
+
+-- at most one term is not 0
+pub sum-single : (n c : ℕ) (f : ℕ → ℕ) → ((a : ℕ) → 1 ≤ a → a ≤ n → f a ≤ c)
+    → ((a b : ℕ) → 1 ≤ a → a ≤ n → 1 ≤ b → b ≤ n → 1 ≤ f a → 1 ≤ f b → a ≡ b) → sumUpTo n f ≤ c
+unfolding sumUpTo
+sum-single zero c f le one = omega arith
+sum-single (suc n) c f le one =
+    let last = le (suc n) (omega arith) (omega arith) in
+    let fewer : (a b : ℕ) → 1 ≤ a → a ≤ n → 1 ≤ b → b ≤ n → 1 ≤ f a → 1 ≤ f b → a ≡ b = λ a b l h l′ h′. one a b l (omega arith) l′ (omega arith) in
+    elim (same? (f (suc n)) 0) [
+      | yes z ↦ omega (arith, z, sum-single n c f (λ a l h. le a l (omega arith)) fewer)
+      | no p ↦ omega (
+        arith,
+        sum-single n 0 f (λ a l h. elim (same? (f a) 0) [
+          | yes z ↦ omega (arith, z)
+          | no q ↦ absurd (omega (arith, one a (suc n) l (omega arith) (omega arith) (omega arith) (omega (arith, q)) (omega (arith, p))))
+        ]) fewer,
+      )
+    ]
+
 -- the numbers f 1 to f k, all different and all from 1 to n: what w makes of them adds up to at most what it makes of 1 to n
 pub sum-different : (n k : ℕ) (w f : ℕ → ℕ) → ((i : ℕ) → 1 ≤ i → i ≤ k → (1 ≤ f i) × (f i ≤ n)) → ((i j : ℕ) → 1 ≤ i → i < j → j ≤ k → f i ≢ f j)
     → sumUpTo k (λ i. w (f i)) ≤ sumUpTo n w

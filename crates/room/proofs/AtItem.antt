@@ -16,21 +16,22 @@ use Rattle.deadlock.specs.Counts.{cleansOf, countKind, every-cons, every-nil}
 use Rattle.deadlock.specs.Links.{mayRelease}
 use Rattle.deadlock.specs.World.{isVictim}
 use Rattle.deadlock.specs.Invariant.{Invariant, upRoute}
+use Rattle.deadlock.proofs.Laws.Entries.{every-fromItem, every-take}
 use Rattle.deadlock.proofs.Laws.Lists.{member-occurs, occurs-without-le, updated-other, updated-same}
-use Rattle.deadlock.proofs.Laws.Counts.{every-append, every-map}
+use Rattle.deadlock.proofs.Laws.Counts.{every-append, every-map, held-by}
 use Rattle.deadlock.proofs.Laws.Routes.{take-same}
 use Rattle.deadlock.proofs.Laws.Stages.{stage-facts}
 use Rattle.deadlock.proofs.Laws.Walks.{walk-map}
 use Rattle.deadlock.proofs.Victims.OneOnCycle.{victim-of-up}
 use Rattle.deadlock.proofs.Core.Kept.{known-of}
-use Rattle.bound.proofs.Mail.{every-fromItem, every-taken, sum-item}
+use Rattle.bound.proofs.Mail.{sum-item}
 use Rattle.bound.proofs.Sent.{sentWeight}
 use Rattle.room.specs.Snapshot.{ofVictim, Snapshot, Sound}
-use Rattle.room.specs.Weights.{entryWeight, mailWeight, releaseWeight, weight}
+use Rattle.room.specs.Weights.{entryWeight, mailWeight, releaseWeight, resendWeight, weight}
 use Rattle.room.specs.Phases.{AllowedMessage, AllowedUp, Clearing, HandedOver}
 use Rattle.room.proofs.Members.{member-next, of-member}
 use Rattle.room.proofs.Sending.{every-anew, Sent}
-use Rattle.room.proofs.Holders.{edge-then, held-by, holder-then, the-victim}
+use Rattle.room.proofs.Holders.{edge-then, holder-then, the-victim}
 use Rattle.room.proofs.AtItemWeights.{ahead-less, anew-all, anew-others}
 
 module _ (R : Rules) (L : Laws R) (p : Snapshot) (k : Sound R p) (s : State) (i : Invariant R s) (c : Clearing p R s) (t x : ℕ) (lo : 1 ≤ x) (hi : x ≤ R .M) (l : List Entry) where
@@ -61,10 +62,10 @@ module _ (R : Rules) (L : Laws R) (p : Snapshot) (k : Sound R p) (s : State) (i 
     item-there y ne = updated-other (s .item) x (o .after) y ne
 
     -- an item that was handed over, if its holder is still one of its queue
-    handed : (y : ℕ) → p .state .item y .holder ≡ some (p .victim) → 1 ≤ mayRelease (s .session (p .victim) .stage) → (r : Item) → after .item y ≡ r
+    handed : (y : ℕ) → 1 ≤ mayRelease (s .session (p .victim) .stage) → (r : Item) → after .item y ≡ r
         → ((h : ℕ) → r .holder ≡ some h → 1 ≤ occurs h (p .state .item y .queue)) → HandedOver p after y
     unfolding afterItem
-    handed y was over r e now = record { was = was; over = over; now = λ h q. now h (sym (ap (λ (a : Item). a .holder) e) ∙ q) }
+    handed y over r e now = record { over = over; now = λ h q. now h (sym (ap (λ (a : Item). a .holder) e) ∙ q) }
 
     -- an item whose holder stays
     held-on : (y : ℕ) → after .item y .holder ≡ s .item y .holder → (after .item y .holder ≡ p .state .item y .holder) ⊎ HandedOver p after y
@@ -72,7 +73,7 @@ module _ (R : Rules) (L : Laws R) (p : Snapshot) (k : Sound R p) (s : State) (i 
       where
         cases : (s .item y .holder ≡ p .state .item y .holder) ⊎ HandedOver p s y → (after .item y .holder ≡ p .state .item y .holder) ⊎ HandedOver p after y
         cases (inl q) = inl (e ∙ q)
-        cases (inr q) = inr (handed y (q .was) (q .over) (after .item y) refl (λ h z. q .now h (sym e ∙ z)))
+        cases (inr q) = inr (handed y (q .over) (after .item y) refl (λ h z. q .now h (sym e ∙ z)))
 
     kept-clears : (m : Message) → take true t x (s .mailbox) ≡ taken m l → Kept m o → Clearing p R after
     unfolding afterItem mailWeight
@@ -86,7 +87,7 @@ module _ (R : Rules) (L : Laws R) (p : Snapshot) (k : Sound R p) (s : State) (i 
       ];
       holders = λ y. cases y (same? x y) (d .holder);
       stores = c .stores;
-      mail = let w = every-taken true t x m l (c .mail) e in every-append (w .1) (every-fromItem x (every-map (λ a q. (w .0 .0, q)) (d .allowed)));
+      mail = let w = every-take true t x m l (c .mail) e in every-append (w .1) (every-fromItem x (every-map (λ a q. (w .0 .0, q)) (d .allowed)));
       light = omega (arith, sum-item (entryWeight R p) t x (s .mailbox) m l (o .sends) e, d .light, c .light);
     }
       where
@@ -148,11 +149,15 @@ module _ (R : Rules) (L : Laws R) (p : Snapshot) (k : Sound R p) (s : State) (i 
     unfolding ofVictim
     was = held-by (p .state .item x .holder) (p .victim) of
 
+    member-resend : (b : ℕ) → p .member b ≡ true → resendWeight R p b ≤ R .S
+    unfolding resendWeight
+    member-resend b m = rw m (omega (arith, k .sessions))
+
     handed-over : (q : List ℕ) → s .item x .queue ≡ q → Kept (up release) (handOver R q)
     unfolding handOver weight releaseWeight sentWeight
     handed-over [] e = record {
       queue = λ a. rw e (omega arith);
-      holder = inr (handed (handOver R []) x was over (handOver R [] .after) (item-here (handOver R [])) (λ h z. let y : _≡_ {A = ℕ} 0 1 = cc in absurd (omega arith)));
+      holder = inr (handed (handOver R []) x over (handOver R [] .after) (item-here (handOver R [])) (λ h z. let y : _≡_ {A = ℕ} 0 1 = cc in absurd (omega arith)));
       allowed = every-nil;
       light = omega arith;
     }
@@ -162,7 +167,7 @@ module _ (R : Rules) (L : Laws R) (p : Snapshot) (k : Sound R p) (s : State) (i 
         let less : (b : ℕ) → occurs b rest ≤ occurs b (s .item x .queue) = λ b. rw e (occurs-without-le b a (j ∷ js)) in
         record {
           queue = less;
-          holder = inr (handed (handOver R (j ∷ js)) x was over (handOver R (j ∷ js) .after) (item-here (handOver R (j ∷ js))) (λ h z.
+          holder = inr (handed (handOver R (j ∷ js)) x over (handOver R (j ∷ js) .after) (item-here (handOver R (j ∷ js))) (λ h z.
               let y : a ≡ h = cc in
               let o : 1 ≤ occurs a (s .item x .queue) = rw e (member-occurs a (j ∷ js) (L .next-member j js)) in
               rw (← y) (omega (arith, o, c .queues a x))));
@@ -170,7 +175,7 @@ module _ (R : Rules) (L : Laws R) (p : Snapshot) (k : Sound R p) (s : State) (i 
           light = omega (
             arith,
             anew-all R L p k x lo hi rest (λ b. omega (arith, less b, c .queues b x)) a (cond (eqb x (p .closing)) (R .S) 0)
-                (λ b o m. rw (eq-eqb x (p .closing) (k .closes b x lo hi m o was)) (omega arith)),
+                (λ b o m. rw (eq-eqb x (p .closing) (k .closes b x lo hi m o was)) (member-resend b m)),
           );
         }
 
@@ -230,4 +235,4 @@ module _ (R : Rules) (L : Laws R) (p : Snapshot) (k : Sound R p) (s : State) (i 
 pub item-clears : (R : Rules) (L : Laws R) (p : Snapshot) → Sound R p → (s : State) → Invariant R s → Clearing p R s → (t x : ℕ) → 1 ≤ x → x ≤ R .M
     → (m : Message) (l : List Entry) → take true t x (s .mailbox) ≡ taken m l → Clearing p R (afterItem s x l (itemReceives R t (s .item x) m))
 item-clears R L p k s i c t x lo hi m l e =
-    kept-clears R L p k s i c t x lo hi l (itemReceives R t (s .item x) m) m e (kept R L p k s i c t x lo hi l m e (every-taken true t x m l (c .mail) e .0 .1))
+    kept-clears R L p k s i c t x lo hi l (itemReceives R t (s .item x) m) m e (kept R L p k s i c t x lo hi l m e (every-take true t x m l (c .mail) e .0 .1))

@@ -9,8 +9,8 @@ use native.Mathlib.Omega.{arith}
 use lib.Dec.{eqb}
 use borrow.Author.Tests.{eqb-true}
 use Rattle.lists.specs.Lists.{sumUpTo}
-use Rattle.lists.proofs.Searches.{sum-mono}
-use Rattle.lists.proofs.Tests.{by-test, eqb-self}
+use Rattle.lists.proofs.Searches.{sum-add, sum-mono, sum-single}
+use Rattle.lists.proofs.Tests.{by-answer, by-test, eqb-self}
 use Rattle.message.specs.Kind
 use Rattle.deadlock.specs.Lists.{bit, oneTo}
 use Rattle.deadlock.specs.Machine.{abort, afterSession, clean, cleaning, down, Entry, grant, growing, heldBy, isLive, isNews, junior, Laws, Message, onAbort, onGrant, onProbe, onResend, onWithdrawn, probe, release, releasing, resend, route, Rules, Sends, Session, sessionDrops, sessionReceives, SessionStep, Stage, State, storedProbes, storeProbe, take, taken, toAwaited, toEach, up, victim, waiting, withdrawing, withdrawn}
@@ -18,16 +18,15 @@ use Rattle.deadlock.specs.Counts.{countBehind, countKind, every-cons, every-nil
 use Rattle.deadlock.specs.Links.{awaits, doomed, mayRelease}
 use Rattle.deadlock.specs.World.{HolderIs, isVictim, isWaiting, Live}
 use Rattle.deadlock.specs.Invariant.{downRoute, Invariant, worldOf}
+use Rattle.deadlock.proofs.Laws.Entries.{entry, every-take}
 use Rattle.deadlock.proofs.Laws.Lists.{bit-eqb, bit-le}
 use Rattle.deadlock.proofs.Laws.Routes.{take-same}
-use Rattle.bound.proofs.Mail.{entry, every-taken}
 use Rattle.bound.proofs.Ranges.{came}
 use Rattle.bound.proofs.Sent.{sentWeight}
 use Rattle.bound.proofs.Sums.{sum-le}
 use Rattle.room.specs.Snapshot.{heldByMember, ofMember, ofVictim, Snapshot, Sound, storedCount}
 use Rattle.room.specs.Weights.{queueWeight, releasesWeight, releaseWeight, resendWeight, weight}
 use Rattle.room.specs.Phases.{Allowed, Clearing, HandedOver, Tidy}
-use Rattle.room.proofs.Sums.{sum-add, sum-single}
 use Rattle.room.proofs.Sending.{every-each, every-stored, sent-each, sent-stored, Sent}
 use Rattle.room.proofs.Members.{awaited-of-member, links★, of-member, victim-member}
 use Rattle.room.proofs.NoCycle.{none-to-abort}
@@ -82,7 +81,7 @@ module _ (R : Rules) (L : Laws R) (p : Snapshot) (k : Sound R p) (s : State) (i 
   -- what a waiting session stores
   stored-le : 1 ≤ isWaiting (own .stage) → storedCount R (own .stored) ≤ resendWeight R p t
   unfolding resendWeight
-  stored-le w = by-test (λ (n : ℕ). storedCount R (own .stored) ≤ n) (p .member t) (λ _. stored-few R (own .stored)) (λ f. omega (arith, c .stores t f w))
+  stored-le w = by-answer (p .member t) (λ e. rw e (omega (arith, stored-few R (own .stored)))) (λ e. rw e (omega (arith, c .stores t e w)))
 
   resent : ofMember p x ≡ true → (b : Stage) → own .stage ≡ b → FitsOn (down resend) (onResend R x own b)
   unfolding onResend storedProbes sentWeight weight storedCount
@@ -215,9 +214,9 @@ module _ (R : Rules) (L : Laws R) (p : Snapshot) (k : Sound R p) (s : State) (i 
   unfolding sessionReceives
   fits (up m) e = drops (up m)
   fits (down grant) e = granted (own .stage) refl
-  fits (down resend) e = resent (every-taken false t x (down resend) l (c .mail) e .0 .0) (own .stage) refl
+  fits (down resend) e = resent (every-take false t x (down resend) l (c .mail) e .0 .0) (own .stage) refl
   fits (down withdrawn) e = rolled-back (own .stage) refl
-  fits (probe a j) e = probed a j e (every-taken false t x (probe a j) l (c .mail) e .0 .0) (own .stage) refl
+  fits (probe a j) e = probed a j e (every-take false t x (probe a j) l (c .mail) e .0 .0) (own .stage) refl
   fits (clean v a) e = cleaned R L p k s i c t x v a l e (own .stage) refl
   fits (abort v a) e = aborted v a e (own .stage) refl
 

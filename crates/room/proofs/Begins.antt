@@ -3,7 +3,7 @@ use mathlib.Core.Path.{_≡_, ap, refl, subst, sym}
 use mathlib.Core.Bool.{false, true}
 use mathlib.Core.List.{[], _++_, _∷_, List}
 use mathlib.Core.Option.{some}
-use mathlib.Core.Logic.{_⊎_, inl, inr}
+use mathlib.Core.Logic.{inl, inr}
 use Prim.Native.Nat.{_+_, _≤_, suc, ℕ}
 use native.Mathlib.Omega.{arith}
 use lib.Dec.{eqb}
@@ -16,17 +16,17 @@ use Rattle.deadlock.specs.Counts.{Every, every-cons, every-nil}
 use Rattle.deadlock.specs.Walks.{rest, Walk}
 use Rattle.deadlock.specs.World.{Edge, isVictim, isWaiting}
 use Rattle.deadlock.specs.Invariant.{Invariant, worldOf}
+use Rattle.deadlock.proofs.Laws.Entries.{entry, every-fromSession}
 use Rattle.deadlock.proofs.Laws.Stages.{seen-facts}
-use Rattle.deadlock.proofs.Laws.Walks.{first-step, FirstStep}
+use Rattle.deadlock.proofs.Laws.Walks.{walk-still}
 use Rattle.deadlock.proofs.Links.Kept.{item-high, item-low, session-high, session-low}
 use Rattle.deadlock.proofs.Settled.{none-cycle}
 use Rattle.bound.specs.Potential.{mailSum}
-use Rattle.bound.proofs.Mail.{entry, every-fromSession}
 use Rattle.bound.proofs.Sums.{length-oneTo}
 use Rattle.room.specs.Capacity.{capacityBound}
 use Rattle.room.specs.Snapshot.{ofMember, ofVictim, Snapshot, Sound}
 use Rattle.room.specs.Weights.{entryWeight, mailWeight, weight}
-use Rattle.room.specs.Phases.{Allowed, asked, Asked, clearing, empty, NoVictim, Phase, ProbeFrom, probeFrom, Tidy}
+use Rattle.room.specs.Phases.{Allowed, asked, Asked, clearing, empty, Phase, ProbeFrom, probeFrom, Tidy}
 use Rattle.room.proofs.Sending.{every-stored}
 use Rattle.room.proofs.Holders.{held-now}
 use Rattle.room.proofs.ClearingBegins.{clears-from, release-light}
@@ -44,12 +44,10 @@ module _ (R : Rules) (L : Laws R) (s : State) (k : Invariant R s) (d : Tidy R s)
   asks : (t x : ℕ) → 1 ≤ x → x ≤ R .M
       → Asked R (afterSession s t (s .mailbox)
       (record { after = record { stage = waiting x; held = s .session t .held; stored = s .session t .stored }; sends = (x, up request) ∷ storedProbes R (s .session t) x }))
-  unfolding afterSession fromSession storedProbes NoVictim updated
+  unfolding afterSession fromSession storedProbes updated
   asks t x lo hi = record {
     session = t;
     item = x;
-    low = lo;
-    high = hi;
     probes = fromSession t (probesFrom (s .session t .stored) x (oneTo (R .S)));
     mail = rw e refl;
     all-probes = every-fromSession t (every-stored (λ y m. ProbeFrom t x (entry true t y m)) (s .session t .stored) x (oneTo (R .S)) (λ i j. probeFrom));
@@ -71,19 +69,14 @@ module _ (R : Rules) (L : Laws R) (s : State) (k : Invariant R s) (d : Tidy R s)
     still : (b : ℕ) → E t b → ⊥
     still b w = let f = k .core .links .linked t (w .item) (w .low) (w .high) in omega (arith, w .stands, seen-facts (s .session t .stage) (w .item))
 
-    stays : (u : ℕ) (w : Walk E t u) → (t ≡ u) ⊎ FirstStep t u w → u ≡ t
-    stays u w (inl q) = sym q
-    stays u w (inr f) = absurd (still (f .next) (f .out))
-
     sound : Sound R p
-    unfolding NoVictim
     sound = record {
       sessions = omega arith;
       invariant = k;
       no-own-probe = d .own-stored;
       no-victim = none-victim R L s k e d;
       member-reached = λ u m. subst (Walk E t) (sym (eqb-true u t m)) rest;
-      reached-member = λ u w. eq-eqb u t (stays u w (first-step w));
+      reached-member = λ u w. eq-eqb u t (walk-still still w);
       cycle-or-still = inr still;
       one-cycle = λ u c. absurd (none-cycle R L s k e u c);
       most-junior = λ u m. inl (eqb-true u t m);

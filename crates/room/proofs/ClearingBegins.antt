@@ -7,25 +7,24 @@ use Prim.Native.Nat.{_*_, _+_, _≤_, ℕ}
 use native.Mathlib.Omega.{arith}
 use lib.Dec.{eqb}
 use borrow.Author.Tests.{eqb-true}
-use Rattle.lists.proofs.Searches.{sum-mono}
+use Rattle.lists.proofs.Searches.{sum-add, sum-mono, sum-term}
 use Rattle.lists.proofs.Tests.{by-test, eqb-self}
 use Rattle.deadlock.specs.Lists.{bit, updated}
 use Rattle.deadlock.specs.Machine.{afterSession, Entry, fromSession, Laws, Rules, Session, SessionStep, waiting}
 use Rattle.deadlock.specs.Counts.{Every}
 use Rattle.deadlock.specs.Links.{mayRelease}
 use Rattle.deadlock.specs.World.{isVictim, isWaiting}
+use Rattle.deadlock.proofs.Laws.Counts.{held-by}
 use Rattle.deadlock.proofs.Laws.Stages.{stage-facts}
 use Rattle.bound.proofs.Sums.{sum-le}
 use Rattle.room.specs.Capacity.{capacityBound}
-use Rattle.room.specs.Snapshot.{ofMember, ofVictim, Snapshot, Sound, storedCount}
-use Rattle.room.specs.Weights.{aheadWeight, mailWeight, queueWeight, releasesWeight, releaseWeight}
-use Rattle.room.specs.Phases.{Allowed, Clearing, NoVictim}
-use Rattle.room.proofs.Sums.{sum-add, sum-term}
-use Rattle.room.proofs.Holders.{held-by}
+use Rattle.room.specs.Snapshot.{NoVictim, ofMember, ofVictim, Snapshot, Sound, storedCount}
+use Rattle.room.specs.Weights.{aheadWeight, mailWeight, passWeight, queueWeight, releasesWeight, releaseWeight}
+use Rattle.room.specs.Phases.{Allowed, Clearing}
 use Rattle.room.proofs.Members.{victim-member}
 use Rattle.room.proofs.Entrances.{entrances}
 
--- an item with queue weight q, held by a member or not (m), before the clean or not (f), held by the victim or not (v)
+-- an item with queue weight q, held by a member or not (m), ahead of the clean or not (f), held by the victim or not (v)
 item-le : (m f v : Bool) (q : ℕ) → (v ≡ true → m ≡ true) → cond (m && f) (q + bit (not v)) 0 + cond v (1 + q) 0 ≤ (cond m q 0 + cond m q 0) + 1
 item-le true true true q h = omega arith
 item-le true true false q h = omega arith
@@ -53,12 +52,12 @@ module _ (R : Rules) (L : Laws R) (p : Snapshot) (k : Sound R p) where
         ap (λ (b : Bool). cond b (R .S) 0) f,
       )
 
-  -- a clean, with any items before it
+  -- a clean, with any items ahead
   pub clean-light : (f : ℕ → Bool) → 1 + aheadWeight R p f + releasesWeight R p ≤ 5 * R .S + R .M + 1
-  unfolding aheadWeight releasesWeight
+  unfolding aheadWeight passWeight releasesWeight
   clean-light f =
       let g : ℕ → ℕ = λ y. cond (ofMember p y) (queueWeight R p y) 0 in
-      let a : ℕ → ℕ = λ y. cond (ofMember p y && f y) (queueWeight R p y + bit (not (ofVictim p y))) 0 in
+      let a : ℕ → ℕ = λ y. cond (ofMember p y && f y) (passWeight R p y) 0 in
       let r : ℕ → ℕ = λ y. cond (ofVictim p y) (1 + queueWeight R p y) 0 in
       omega (
         arith,
@@ -74,7 +73,7 @@ module _ (R : Rules) (L : Laws R) (p : Snapshot) (k : Sound R p) where
 pub clears-from : (R : Rules) (p : Snapshot) → NoVictim (p .state) → (l : List Entry) (o : SessionStep) → 1 ≤ isVictim (o .after .stage) + mayRelease (o .after .stage)
     → Every (Allowed p) (l ++ fromSession (p .victim) (o .sends)) → mailWeight R p (l ++ fromSession (p .victim) (o .sends)) ≤ capacityBound (R .S) (R .M)
     → Clearing p R (afterSession (p .state) (p .victim) l o)
-unfolding afterSession updated NoVictim
+unfolding afterSession updated
 clears-from R p nv l o over m w = record {
   victim-stage = rw (eqb-self (p .victim)) over;
   only-victim = λ u ne. by-test (λ (r : Session). isVictim (r .stage) ≡ 0) (eqb (p .victim) u) (λ e. absurd (ne (sym (eqb-true (p .victim) u e)))) (λ _. nv u);

@@ -7,7 +7,7 @@ use native.Mathlib.Omega.{arith}
 use lib.Dec.{eqb}
 use borrow.Author.Tests.{ne-eqb}
 use Rattle.lists.specs.Lists.{member, sumUpTo}
-use Rattle.lists.proofs.Searches.{sum-mono}
+use Rattle.lists.proofs.Searches.{sum-less, sum-mono, sum-single, sum-some, sum-swap, sum-term}
 use Rattle.lists.proofs.Tests.{and-both, by-answer, by-test, eqb-self, same?}
 use Rattle.deadlock.specs.Lists.{bit}
 use Rattle.deadlock.specs.Machine.{isLive, Laws, Rules}
@@ -21,8 +21,7 @@ use Rattle.deadlock.proofs.Laws.Walks.{first-step, FirstStep, path-walk, walk-e
 use Rattle.deadlock.proofs.Victims.OneOnCycle.{one-edge, one-queue}
 use Rattle.bound.proofs.Sums.{sum-le}
 use Rattle.room.specs.Snapshot.{ofMember, Snapshot, Sound, storedCount}
-use Rattle.room.specs.Weights.{ownWeight, queueWeight}
-use Rattle.room.proofs.Sums.{sum-less, sum-single, sum-some, sum-swap, sum-term}
+use Rattle.room.specs.Weights.{ownWeight, queueWeight, resendWeight}
 use Rattle.room.proofs.Members.{Edge★, links★, member-holds, member-walk}
 
 module _ (R : Rules) (L : Laws R) (p : Snapshot) (k : Sound R p) where
@@ -130,8 +129,9 @@ module _ (R : Rules) (L : Laws R) (p : Snapshot) (k : Sound R p) where
   -- ---- all initiators
   -- a session's weight is spread over the initiators, and so is a queue's
   own-le : (t : ℕ) → 1 ≤ t → t ≤ R .S → ownWeight R p t ≤ sumUpTo (R .S) (λ i. part i t)
-  unfolding ownWeight storedCount
-  own-le t lo hi = by-test (λ (n : ℕ). n ≤ sumUpTo (R .S) (λ i. part i t)) (p .member t)
+  unfolding ownWeight resendWeight storedCount
+  own-le t lo hi =
+      by-answer (p .member t)
       (λ e. rw e (omega (arith, sum-term (R .S) t (λ i. bit (eqb t i)) lo hi, ap bit (eqb-self t))))
       (λ e. rw e (omega (
         arith,

@@ -1,12 +1,11 @@
 -- Who holds an item now, and, while the victim is one, in the snapshot, since nothing is handed over until it releases; who is the victim, and what an abort tells.
 use mathlib.Core.Path.{_∙_, _≡_, ap, subst, sym}
-use mathlib.Core.Bool.{false, false≢true, true}
+use mathlib.Core.Bool.{false, true}
 use mathlib.Core.List.{_∷_, List}
 use mathlib.Core.Logic.{_⊎_, inl, inr}
-use mathlib.Core.Option.{none, Option, some}
+use mathlib.Core.Option.{some}
 use Prim.Native.Nat.{_+_, _≤_, ℕ}
 use native.Mathlib.Omega.{arith}
-use borrow.Author.Tests.{eqb-true}
 use Rattle.lists.proofs.Tests.{same?}
 use Rattle.deadlock.specs.Lists.{bit}
 use Rattle.deadlock.specs.Machine.{abort, Entry, growing, heldBy, releasing, route, Rules, Stage, State, take, taken, victim, waiting}
@@ -14,17 +13,11 @@ use Rattle.deadlock.specs.Counts.{Every}
 use Rattle.deadlock.specs.Links.{mayRelease}
 use Rattle.deadlock.specs.World.{AbortTo, CycleOf, Edge, isVictim, OfAbort}
 use Rattle.deadlock.specs.Invariant.{downRoute, Invariant, worldOf}
-use Rattle.deadlock.proofs.Laws.Counts.{every-head}
+use Rattle.deadlock.proofs.Laws.Counts.{every-head, held-by}
 use Rattle.deadlock.proofs.Laws.Lists.{bit-one}
 use Rattle.deadlock.proofs.Laws.Routes.{take-same}
 use Rattle.room.specs.Snapshot.{Snapshot}
 use Rattle.room.specs.Phases.{Clearing, HandedOver}
-
--- the test, as an equation
-pub held-by : (o : Option ℕ) (t : ℕ) → heldBy o t ≡ true → o ≡ some t
-unfolding heldBy
-held-by none t e = absurd (false≢true e)
-held-by (some h) t e = ap some (eqb-true h t e)
 
 -- a victim does not release
 victim-or-releases : (a : Stage) → isVictim a + mayRelease a ≤ 1

@@ -17,15 +17,16 @@ use Rattle.deadlock.specs.Links.{awaits, doomed, mayRelease}
 use Rattle.deadlock.specs.Walks.{FirstApart, onward, rest, Walk}
 use Rattle.deadlock.specs.World.{FreeIsEmpty, WaitEdge}
 use Rattle.deadlock.specs.Invariant.{Invariant, upRoute}
+use Rattle.deadlock.proofs.Laws.Entries.{every-fromItem, every-take}
 use Rattle.deadlock.proofs.Laws.Counts.{every-append, every-map}
 use Rattle.deadlock.proofs.Laws.Lists.{bit-member, bit-or, occurs-last-other, occurs-last-same, updated-other, updated-same}
 use Rattle.deadlock.proofs.Laws.Routes.{take-same}
 use Rattle.deadlock.proofs.Laws.Walks.{walk-append}
 use Rattle.bound.specs.Potential.{mailSum}
 use Rattle.bound.specs.Statement.{isTaken}
-use Rattle.bound.proofs.Mail.{every-fromItem, every-taken, sum-fromItem}
+use Rattle.bound.proofs.Mail.{sum-fromItem}
 use Rattle.bound.proofs.Sent.{sentWeight}
-use Rattle.room.specs.Phases.{Asked, HeldFrom, NoVictim, Phase, probeFrom, ProbeFrom, probing, Probing, Single, singleGrant, singleProbe}
+use Rattle.room.specs.Phases.{Asked, HeldFrom, Phase, probeFrom, ProbeFrom, probing, Probing, Single, singleGrant, singleProbe, Tidy}
 
 -- ---- walks with edges of one place added
 module _ {E F : ℕ → ℕ → Type 0} (t : ℕ) (split : (a b : ℕ) → F a b → E a b ⊎ (a ≡ t)) where
@@ -66,12 +67,16 @@ unfolding sentWeight
 one-single x m q = (omega arith, every-cons q every-nil)
 
 -- ---- the request
-module _ (R : Rules) (s : State) (k : Invariant R s) (a : Asked R s) where
+module _ (R : Rules) (s : State) (k : Invariant R s) (d : Tidy R s) (a : Asked R s) where
   abbrev T : ℕ
   T = a .session
 
   abbrev X : ℕ
   X = a .item
+
+  -- the item is one of the machine
+  range : (1 ≤ X) × (X ≤ R .M)
+  range = d .awaited T X (omega (arith, ap (λ (b : Stage). awaits b X) (a .stage), ap bit (eqb-self X)))
 
   abbrev OfRoute : Entry → Type 0
   OfRoute e = (e .toItem ≡ true) × (e .session ≡ T) × (e .item ≡ X)
@@ -85,7 +90,7 @@ module _ (R : Rules) (s : State) (k : Invariant R s) (a : Asked R s) where
 
   pub only-route : (d : Bool) (t x : ℕ) (o : Taken) → take d t x (s .mailbox) ≡ o → isTaken o ≡ true → (d ≡ true) × (t ≡ T) × (x ≡ X)
   only-route d t x noEntry e h = absurd (false≢true h)
-  only-route d t x (taken m l) e h = every-taken d t x m l all-route e .0
+  only-route d t x (taken m l) e h = every-take d t x m l all-route e .0
 
   pub first-taken : take true T X (s .mailbox) ≡ taken (up request) (a .probes)
   unfolding take isOnRoute
@@ -98,7 +103,7 @@ module _ (R : Rules) (s : State) (k : Invariant R s) (a : Asked R s) where
   not-there : NotThere
   unfolding upRoute countKind
   not-there =
-      let f = k .core .links .linked T X (a .low) (a .high) in
+      let f = k .core .links .linked T X (range .0) (range .1) in
       let q = a .stage in
       omega (
         arith,
@@ -126,8 +131,8 @@ module _ (R : Rules) (s : State) (k : Invariant R s) (a : Asked R s) where
     leads-on (inl q) = subst (Walk (WaitEdge R items) T) (sym q) rest
     leads-on (inr q) = onward rest (record {
       item = X;
-      low = a .low;
-      high = a .high;
+      low = range .0;
+      high = range .1;
       stands = subst (λ (y : Item). 1 ≤ occurs T (y .queue)) (sym at-item) q;
       held = ap (λ (y : Item). y .holder) at-item ∙ held;
     })
@@ -137,7 +142,7 @@ module _ (R : Rules) (s : State) (k : Invariant R s) (a : Asked R s) where
       where
         at-queue : (i .holder ≡ some b) → ((1 ≤ occurs u (s .item X .queue)) × (s .item X .holder ≡ some h)) ⊎ (u ≡ T) → WaitEdge R (s .item) u b ⊎ (u ≡ T)
         at-queue q (inr z) = inr z
-        at-queue q (inl z) = inl (record { item = X; low = a .low; high = a .high; stands = z .0; held = z .1 ∙ (sym held ∙ q) })
+        at-queue q (inl z) = inl (record { item = X; low = range .0; high = range .1; stands = z .0; held = z .1 ∙ (sym held ∙ q) })
 
         cases : Dec (X ≡ e .item) → WaitEdge R (s .item) u b ⊎ (u ≡ T)
         cases (yes q) =
@@ -157,7 +162,7 @@ module _ (R : Rules) (s : State) (k : Invariant R s) (a : Asked R s) where
     after = afterItem s X (a .probes) o
 
     joined : Probing R after
-    unfolding afterItem NoVictim
+    unfolding afterItem
     joined = record {
       from = T;
       mail = every-append (every-map at-probe (a .all-probes)) (every-fromItem X (every-map (λ p z. (z, there)) (single .1)));

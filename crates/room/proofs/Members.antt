@@ -8,11 +8,11 @@ use native.Mathlib.Omega.{arith}
 use Rattle.deadlock.specs.Machine.{Laws, Rules, waiting}
 use Rattle.deadlock.specs.Lists.{occurs}
 use Rattle.deadlock.specs.Walks.{FirstApart, onward, rest, Walk}
-use Rattle.deadlock.specs.World.{Edge, FreeIsEmpty, HolderIs, Links, Queued}
+use Rattle.deadlock.specs.World.{Edge, HolderIs, Links}
 use Rattle.deadlock.specs.Invariant.{worldOf}
 use Rattle.deadlock.proofs.Laws.Stages.{Awaits, awaits-item, awaits-one, awaitsWaiting}
-use Rattle.deadlock.proofs.Laws.Walks.{cycle-back, cycle-one-way-in, cycle-turned, first-step, FirstStep, walk-append}
-use Rattle.deadlock.proofs.Victims.OneOnCycle.{one-edge}
+use Rattle.deadlock.proofs.Laws.Walks.{cycle-back, cycle-one-way-in, cycle-turned, walk-append, walk-still}
+use Rattle.deadlock.proofs.Victims.OneOnCycle.{one-edge, queue-has-holder}
 use Rattle.deadlock.proofs.Core.Kept.{links-of}
 use Rattle.room.specs.Snapshot.{heldByMember, ofMember, Snapshot, Sound}
 
@@ -34,19 +34,15 @@ module _ (R : Rules) (L : Laws R) (p : Snapshot) (k : Sound R p) where
   member-next t h m e = member-walk t h m (onward rest e)
 
   -- the victim waits for nobody
-  abbrev pub Still : Type 0
+  abbrev Still : Type 0
   Still = (b : ℕ) → Edge★ (p .victim) b → ⊥
 
-  -- where the victim waits for nobody it is the only member
-  pub still-alone : Still → (t : ℕ) → p .member t ≡ true → t ≡ p .victim
-  still-alone q t m = cases (k .member-reached t m) (first-step (k .member-reached t m))
-    where
-      cases : (w : Walk Edge★ (p .victim) t) → (p .victim ≡ t) ⊎ FirstStep (p .victim) t w → t ≡ p .victim
-      cases w (inl e) = sym e
-      cases w (inr f) = absurd (q (f .next) (f .out))
+  -- where it does so it is the only member
+  still-alone : Still → (t : ℕ) → p .member t ≡ true → t ≡ p .victim
+  still-alone q t m = walk-still q (k .member-reached t m)
 
   -- a member other than the victim lies on a cycle
-  pub member-cycle : (t : ℕ) → p .member t ≡ true → t ≢ p .victim → FirstApart Edge★ t t
+  member-cycle : (t : ℕ) → p .member t ≡ true → t ≢ p .victim → FirstApart Edge★ t t
   member-cycle t m ne = cases (k .cycle-or-still)
     where
       cases : FirstApart Edge★ (p .victim) (p .victim) ⊎ Still → FirstApart Edge★ t t
@@ -82,19 +78,10 @@ module _ (R : Rules) (L : Laws R) (p : Snapshot) (k : Sound R p) where
       cases none q m = absurd (false≢true m)
       cases (some h) q m = (h, q, m)
 
-  -- an item with somebody in its queue is held
-  pub queue-held : (t x : ℕ) → Queued (worldOf (p .state)) t x → (h : ℕ) × HolderIs (worldOf (p .state)) x h
-  unfolding FreeIsEmpty occurs
-  queue-held t x a = cases (p .state .item x .holder) refl
-    where
-      cases : (o : Option ℕ) → p .state .item x .holder ≡ o → (h : ℕ) × HolderIs (worldOf (p .state)) x h
-      cases none e = absurd (omega (arith, a, ap (occurs t) (links★ .idle x e)))
-      cases (some h) e = (h, e)
-
   -- two members do not stand in one queue
   pub one-in-queue : (t u x : ℕ) → 1 ≤ x → x ≤ R .M → p .member t ≡ true → p .member u ≡ true → 1 ≤ occurs t (p .state .item x .queue) → 1 ≤ occurs u (p .state .item x .queue) → t ≡ u
   one-in-queue t u x lo hi m n a b =
-      let h = queue-held t x a in
+      let h = queue-has-holder links★ t x a in
       one-before t u (h .0) m n (record { item = x; low = lo; high = hi; stands = a; held = h .1 }) (record { item = x; low = lo; high = hi; stands = b; held = h .1 })
 
   -- the item that a waiting member awaits is held by a member

@@ -10,37 +10,40 @@ use lib.Dec.{eqb}
 use lib.ListN.{length}
 use Rattle.lists.proofs.Tests.{by-test, eqb-self}
 use Rattle.deadlock.specs.Lists.{bit, occurs, updated}
-use Rattle.deadlock.specs.Machine.{abort, afterItem, afterSession, Call, deliverToItem, deliverToSession, down, Entry, fromItem, fromSession, grant, growing, heldBy, inQueue, isLive, isNews, isOnRoute, Item, itemReceives, ItemStep, itemTakes, junior, Laws, Message, move, ofMachine, onAbort, onGrant, onProbe, passProbe, probe, releaseCall, releasing, reopen, request, requestCall, route, Rules, Session, sessionDrops, sessionReceives, SessionStep, Stage, State, storeProbe, take, Taken, taken, toAwaited, victim, waiting}
+use Rattle.deadlock.specs.Machine.{abort, afterItem, afterSession, Call, deliverToItem, deliverToSession, down, Entry, fromItem, fromSession, grant, growing, heldBy, inQueue, isLive, isNews, isOnRoute, Item, itemReceives, ItemStep, itemTakes, junior, Laws, Message, move, onAbort, onGrant, onProbe, passProbe, probe, releaseCall, releasing, reopen, request, requestCall, route, Rules, Session, sessionDrops, sessionReceives, SessionStep, Stage, State, storeProbe, take, Taken, taken, toAwaited, victim, waiting}
 use Rattle.message.specs.Kind
 use Rattle.deadlock.specs.Counts.{countKind, Every, every-cons, every-nil, kindOf}
 use Rattle.deadlock.specs.Links.{awaits, waits}
 use Rattle.deadlock.specs.Walks.{onward, Walk}
-use Rattle.deadlock.specs.World.{Edge, FreeIsEmpty, isVictim}
+use Rattle.deadlock.specs.World.{Edge, isVictim}
 use Rattle.deadlock.specs.Invariant.{Invariant, upRoute, worldOf}
-use Rattle.deadlock.proofs.Laws.Counts.{every-append, every-map}
+use Rattle.deadlock.proofs.Laws.Entries.{entry, every-fromItem, every-fromSession, every-take}
+use Rattle.deadlock.proofs.Laws.Counts.{every-append, every-map, held-by}
 use Rattle.deadlock.proofs.Laws.Lists.{bit-one, updated-unchanged, zero-or-more}
 use Rattle.deadlock.proofs.Laws.Walks.{walk-map}
-use Rattle.deadlock.proofs.Victims.OneOnCycle.{edge-against, edge-along}
+use Rattle.deadlock.proofs.Victims.OneOnCycle.{edge-against, edge-along, queue-has-holder}
+use Rattle.deadlock.proofs.Core.Kept.{links-of}
 use Rattle.bound.specs.Statement.{delivers}
-use Rattle.bound.proofs.Mail.{entry, every-fromItem, every-fromSession, every-taken, sum-item, sum-session, sum-take}
+use Rattle.bound.proofs.Mail.{sum-item, sum-session, sum-take}
 use Rattle.bound.proofs.Ranges.{came}
 use Rattle.bound.proofs.Sent.{sentWeight}
-use Rattle.room.specs.Phases.{Asked, HeldFrom, NoVictim, Phase, probing, Probing, Single, singleAbort, singleGrant, singleProbe, Tidy}
+use Rattle.room.specs.Snapshot.{NoVictim}
+use Rattle.room.specs.Phases.{Asked, HeldFrom, Phase, probing, Probing, Single, singleAbort, singleGrant, singleProbe, Tidy}
 use Rattle.room.proofs.Joining.{first-taken, length-sum, no-single, one-single, OneSingle, only-route, request-done}
-use Rattle.room.proofs.Holders.{held-by, told-cycle}
+use Rattle.room.proofs.Holders.{told-cycle}
 use Rattle.room.proofs.Told.{told-phase}
 
 -- the only delivery is that of the request
-pub asked-goes-on : (R : Rules) (L : Laws R) (s : State) → Invariant R s → Tidy R s → Asked R s → (c : Call) → ofMachine R c ≡ true → delivers s c ≡ true → Phase R (move R s c)
+pub asked-goes-on : (R : Rules) (s : State) → Invariant R s → Tidy R s → Asked R s → (c : Call) → delivers s c ≡ true → Phase R (move R s c)
 unfolding move delivers itemTakes
-asked-goes-on R L s k d a (requestCall t x) o e = absurd (false≢true e)
-asked-goes-on R L s k d a (releaseCall t x) o e = absurd (false≢true e)
-asked-goes-on R L s k d a (reopen t) o e = absurd (false≢true e)
-asked-goes-on R L s k d a (deliverToSession t x) o e = absurd (false≢true (only-route R s k a false t x (take false t x (s .mailbox)) refl e .0))
-asked-goes-on R L s k d a (deliverToItem t x) o e =
-    let q = only-route R s k a true t x (take true t x (s .mailbox)) refl e in
+asked-goes-on R s k d a (requestCall t x) e = absurd (false≢true e)
+asked-goes-on R s k d a (releaseCall t x) e = absurd (false≢true e)
+asked-goes-on R s k d a (reopen t) e = absurd (false≢true e)
+asked-goes-on R s k d a (deliverToSession t x) e = absurd (false≢true (only-route R s k d a false t x (take false t x (s .mailbox)) refl e .0))
+asked-goes-on R s k d a (deliverToItem t x) e =
+    let q = only-route R s k d a true t x (take true t x (s .mailbox)) refl e in
     subst₂ (λ (b y : ℕ). Phase R (itemTakes R s b y (take true b y (s .mailbox)))) (sym (q .1)) (sym (q .2))
-    (subst (λ (p : Taken). Phase R (itemTakes R s (a .session) (a .item) p)) (sym (first-taken R s k a)) (request-done R s k a))
+    (subst (λ (p : Taken). Phase R (itemTakes R s (a .session) (a .item) p)) (sym (first-taken R s k d a)) (request-done R s k d a))
 
 -- ---- probes, aborts and grants
 -- none of them is a request
@@ -97,11 +100,11 @@ module _ (R : Rules) (s : State) (a : Probing R s) where
   module _ (t x : ℕ) (m : Message) (l : List Entry) (e : take false t x (s .mailbox) ≡ taken m l) where
     -- what was taken, and what is left
     heard : OnWay (entry false t x m) × Every OnWay l
-    heard = every-taken false t x m l (a .mail) e
+    heard = every-take false t x m l (a .mail) e
 
     session-on : (o : SessionStep) → isVictim (o .after .stage) ≡ 0 → sentWeight (λ _ _. 1) (o .sends) ≤ 1
         → Every (λ (p : ℕ × Message). Single (p .1) × HeldFrom R s (a .from) (p .0)) (o .sends) → Phase R (afterSession s t l o)
-    unfolding afterSession NoVictim updated
+    unfolding afterSession updated
     session-on o nv f h = probing (goes-on (afterSession s t l o) (λ z. refl)
         (λ u. by-test (λ (r : Session). isVictim (r .stage) ≡ 0) (eqb t u) (λ _. nv) (λ _. a .no-victim u))
         (every-append (heard .1) (every-fromSession t h))
@@ -115,7 +118,6 @@ module _ (R : Rules) (s : State) (a : Probing R s) where
         )))
 
     dropped : Phase R (afterSession s t l (sessionDrops (s .session t)))
-    unfolding NoVictim
     dropped = session-on (sessionDrops (s .session t)) (a .no-victim t) (no-single .0) every-nil
 
     granted : (b : Stage) → Phase R (afterSession s t l (onGrant R x (s .session t) b))
@@ -125,7 +127,7 @@ module _ (R : Rules) (s : State) (a : Probing R s) where
     granted (victim p y) = dropped
     granted (releasing p) = dropped
 
-  module _ (k : Invariant R s) (d : Tidy R s) where
+  module _ (L : Laws R) (k : Invariant R s) (d : Tidy R s) where
     module _ (t x i j : ℕ) (l : List Entry) (e : take false t x (s .mailbox) ≡ taken (probe i j) l) (live : isLive (s .session t .stage) ≡ true) where
       -- a session that takes the probe holds its item
       holds : s .item x .holder ≡ some t
@@ -141,18 +143,16 @@ module _ (R : Rules) (s : State) (a : Probing R s) where
 
       -- the item that it awaits is held by itself or by whom it waits for
       awaited-held : (y : ℕ) → s .session t .stage ≡ waiting y → HeldFrom R s (a .from) y
-      unfolding upRoute FreeIsEmpty occurs
+      unfolding upRoute
       awaited-held y q = cases (zero-or-more (occurs t (s .item y .queue)))
         where
           range : (1 ≤ y) × (y ≤ R .M)
           range = d .awaited t y (omega (arith, ap (λ (b : Stage). awaits b y) q, ap bit (eqb-self y)))
 
-          queued : 1 ≤ occurs t (s .item y .queue) → (o : Option ℕ) → s .item y .holder ≡ o → HeldFrom R s (a .from) y
-          queued w none h = absurd (omega (arith, w, ap (occurs t) (k .core .idle y h)))
-          queued w (some b) h = record { holder = b; held = h; walk = onward leads-here (record { item = y; low = range .0; high = range .1; stands = w; held = h }) }
-
           cases : (occurs t (s .item y .queue) ≡ 0) ⊎ (1 ≤ occurs t (s .item y .queue)) → HeldFrom R s (a .from) y
-          cases (inr w) = queued w (s .item y .holder) refl
+          cases (inr w) =
+              let h = queue-has-holder (links-of R L s (k .core)) t y w in
+              record { holder = h .0; held = h .1; walk = onward leads-here (record { item = y; low = range .0; high = range .1; stands = w; held = h .1 }) }
           cases (inl z) =
               let f = k .core .links .linked t y (range .0) (range .1) in
               let h = bit-one (heldBy (s .item y .holder) t) (omega (arith, ap (λ (b : Stage). waits b y) q, ap bit (eqb-self y), no-request true t y (a .mail))) in
@@ -160,20 +160,20 @@ module _ (R : Rules) (s : State) (a : Probing R s) where
 
       passed-on : (n : ℕ) (b : Stage) → s .session t .stage ≡ b
           → (sentWeight (λ _ _. 1) (toAwaited b (probe i n)) ≤ 1) × Every (λ (p : ℕ × Message). Single (p .1) × HeldFrom R s (a .from) (p .0)) (toAwaited b (probe i n))
-      unfolding toAwaited NoVictim
+      unfolding toAwaited
       passed-on n growing q = (no-single .0, every-nil)
       passed-on n (waiting y) q = (one-single y (probe i n) singleProbe .0, every-cons (singleProbe, awaited-held y q) every-nil)
       passed-on n (victim p y) q = absurd (omega (arith, a .no-victim t, ap isVictim q))
       passed-on n (releasing p) q = (no-single .0, every-nil)
 
       stored : Phase R (afterSession s t l (storeProbe R (s .session t) i (junior R j t) (toAwaited (s .session t .stage) (probe i (junior R j t)))))
-      unfolding storeProbe NoVictim
+      unfolding storeProbe
       stored =
           let f = passed-on (junior R j t) (s .session t .stage) refl in
           by-test (λ (o : SessionStep). Phase R (afterSession s t l o)) (isNews R (s .session t .stored) i (junior R j t))
           (λ _. session-on t x (probe i j) l e _ (a .no-victim t) (f .0) (f .1)) (λ _. dropped t x (probe i j) l e)
 
-    module _ (L : Laws R) (t x : ℕ) (tlo : 1 ≤ t) (thi : t ≤ R .S) (l : List Entry) where
+    module _ (t x : ℕ) (tlo : 1 ≤ t) (thi : t ≤ R .S) (l : List Entry) where
       probed : (i j : ℕ) → take false t x (s .mailbox) ≡ taken (probe i j) l → Phase R (afterSession s t l (onProbe R t (s .session t) i j (s .session t .stage)))
       unfolding onProbe
       probed i j e = by-test (λ (o : SessionStep). Phase R (afterSession s t l o)) (isLive (s .session t .stage)) (λ live. stored t x i j l e live) (λ _. dropped t x (probe i j) l e)
@@ -194,11 +194,11 @@ module _ (R : Rules) (s : State) (a : Probing R s) where
       at-session _ e (singleAbort {v} {i}) = aborted v i e (s .session t .stage) refl
       at-session _ e singleGrant = granted t x (down grant) l e (s .session t .stage)
 
-pub item-probes : (R : Rules) (L : Laws R) (s : State) → Invariant R s → Tidy R s → Probing R s → (t x : ℕ) → 1 ≤ x → x ≤ R .M
-    → (m : Message) (l : List Entry) → take true t x (s .mailbox) ≡ taken m l → Probing R (afterItem s x l (itemReceives R t (s .item x) m))
-unfolding afterItem NoVictim
-item-probes R L s k d a t x lo hi m l e =
-    let q = every-taken true t x m l (a .mail) e in
+pub item-probes : (R : Rules) (s : State) → Probing R s → (t x : ℕ) (m : Message) (l : List Entry) → take true t x (s .mailbox) ≡ taken m l
+    → Probing R (afterItem s x l (itemReceives R t (s .item x) m))
+unfolding afterItem
+item-probes R s a t x m l e =
+    let q = every-take true t x m l (a .mail) e in
     let o = itemReceives R t (s .item x) m in
     let f = kept R s a t x m (q .0 .0) in
     goes-on R s a (afterItem s x l o) (λ z. ap (λ (y : Item). updated (s .item) x y z) (f .0) ∙ updated-unchanged (s .item) x z) (a .no-victim)
@@ -212,6 +212,6 @@ item-probes R L s k d a t x lo hi m l e =
       a .few,
     ))
 
-pub session-probes : (R : Rules) (L : Laws R) (s : State) → Invariant R s → Tidy R s → Probing R s → (t x : ℕ) → 1 ≤ t → t ≤ R .S → 1 ≤ x → x ≤ R .M
+pub session-probes : (R : Rules) (L : Laws R) (s : State) → Invariant R s → Tidy R s → Probing R s → (t x : ℕ) → 1 ≤ t → t ≤ R .S
     → (m : Message) (l : List Entry) → take false t x (s .mailbox) ≡ taken m l → Phase R (afterSession s t l (sessionReceives R t x (s .session t) m))
-session-probes R L s k d a t x tlo thi lo hi m l e = at-session R s a k d L t x tlo thi l m e (heard R s a t x m l e .0 .0)
+session-probes R L s k d a t x tlo thi m l e = at-session R s a L k d t x tlo thi l m e (heard R s a t x m l e .0 .0)

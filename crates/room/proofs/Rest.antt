@@ -9,10 +9,10 @@ use Rattle.deadlock.specs.Links.{awaits}
 use Rattle.deadlock.specs.World.{isVictim}
 use Rattle.deadlock.specs.Invariant.{Invariant}
 use Rattle.deadlock.proofs.Settled.{none-cleans, none-withdraws}
-use Rattle.room.specs.Phases.{NoVictim, Tidy}
+use Rattle.room.specs.Snapshot.{NoVictim}
+use Rattle.room.specs.Phases.{Tidy}
 
 pub none-victim : (R : Rules) (L : Laws R) (s : State) → Invariant R s → s .mailbox ≡ [] → Tidy R s → NoVictim s
-unfolding NoVictim
 none-victim R L s k e d t = cases (s .session t .stage) refl
   where
     cases : (a : Stage) → s .session t .stage ≡ a → isVictim a ≡ 0

@@ -8,7 +8,7 @@ use Prim.Native.Nat.{_+_, _≤_, ℕ}
 use native.Mathlib.Omega.{arith}
 use lib.Dec.{eqb}
 use borrow.Author.Tests.{eqb-true, le-ltb, ne-eqb}
-use Rattle.lists.proofs.Searches.{sum-mono}
+use Rattle.lists.proofs.Searches.{sum-add, sum-mono, sum-none}
 use Rattle.lists.proofs.Tests.{and-both, by-test, eqb-self}
 use Rattle.deadlock.specs.Lists.{bit, occurs}
 use Rattle.deadlock.specs.Machine.{clean, cleaning, cleared, Entry, growing, heldBy, Laws, onClean, rebroadcast, rebroadcasts, releasing, Rules, Sends, Stage, State, take, taken, up, victim, waiting, withdrawing}
@@ -17,6 +17,7 @@ use Rattle.deadlock.specs.Links.{awaits}
 use Rattle.deadlock.specs.Walks.{Walk}
 use Rattle.deadlock.specs.World.{CleanGoesDown, CleanUnderWay, Edge, isVictim}
 use Rattle.deadlock.specs.Invariant.{downRoute, Invariant, worldOf}
+use Rattle.deadlock.proofs.Laws.Entries.{entry}
 use Rattle.deadlock.proofs.Laws.Counts.{every-append}
 use Rattle.deadlock.proofs.Laws.Lists.{bit-eqb, zero-or-more}
 use Rattle.deadlock.proofs.Laws.Routes.{take-same}
@@ -24,13 +25,10 @@ use Rattle.deadlock.proofs.Laws.Stages.{stage-facts}
 use Rattle.deadlock.proofs.Laws.Walks.{walk-map}
 use Rattle.deadlock.proofs.Victims.OneOnCycle.{one-queue, victim-of-down}
 use Rattle.deadlock.proofs.Core.Kept.{known-of}
-use Rattle.deadlock.proofs.Coverage.Sums.{sumUpTo-zero}
-use Rattle.bound.proofs.Mail.{entry}
 use Rattle.bound.proofs.Sent.{sent-append, sentWeight}
-use Rattle.room.specs.Snapshot.{left, ofMember, ofVictim, Snapshot, Sound, storedCount}
-use Rattle.room.specs.Weights.{aheadDown, aheadUp, aheadWeight, holderAt, queueWeight, weight}
+use Rattle.room.specs.Snapshot.{aheadDown, aheadUp, holderAt, ofMember, ofVictim, remaining, Snapshot, Sound, storedCount}
+use Rattle.room.specs.Weights.{aheadWeight, passWeight, queueWeight, weight}
 use Rattle.room.specs.Phases.{Allowed, Clearing}
-use Rattle.room.proofs.Sums.{sum-add}
 use Rattle.room.proofs.Sending.{every-each, sent-each, Sent}
 use Rattle.room.proofs.Members.{awaited-of-member, Edge★, links★, member-next, of-member, one-before}
 use Rattle.room.proofs.Holders.{edge-then, held-then, holder-then, the-victim}
@@ -39,9 +37,9 @@ use Rattle.room.proofs.SessionKept.{dropped, Fits, same-stage, waits-no
 -- nothing stored
 none-stored : (R : Rules) → storedCount R (λ (_ : ℕ). 0) ≡ 0
 unfolding storedCount
-none-stored R = sumUpTo-zero (isStored (λ (_ : ℕ). 0)) (λ _. refl) (R .S)
+none-stored R = sum-none (isStored (λ (_ : ℕ). 0)) (λ _. refl) (R .S)
 
--- a term of the sum that is left out once, with its two other terms
+-- at each item: the rebroadcast (h), and what is ahead of a clean from t (u), are no more than what is ahead of the clean to t (d)
 term-left : (h u d m w : Bool) (n : ℕ) → (h ≡ true → (u ≡ false) × ((d ≡ true) × ((m ≡ true) × (w ≡ false)))) → (u ≡ true → d ≡ true)
     → cond h (1 + n) 0 + cond (m && u) (n + bit (not w)) 0 ≤ cond (m && d) (n + bit (not w)) 0
 term-left true u d m w n f g = let q = f refl in rw (q .0, q .1 .0, q .1 .1 .0, q .1 .1 .1) (omega arith)
@@ -93,23 +91,23 @@ module _ (R : Rules) (L : Laws R) (p : Snapshot) (k : Sound R p) (s : State) (i 
     unfolding ofVictim heldBy
     not-victim's y h = rw h (ne-eqb t (p .victim) ne)
 
-    left-here : left p t ≡ p .far t
-    unfolding left
+    left-here : remaining p t ≡ p .far t
+    unfolding remaining
     left-here = rw (ne-eqb t (p .victim) ne)
 
-    holder-at : (y : ℕ) → p .state .item y .holder ≡ some t → holderAt R p y ≡ t
+    holder-at : (y : ℕ) → p .state .item y .holder ≡ some t → holderAt p y ≡ t
     unfolding holderAt
     holder-at y h = rw h refl
 
-    no-more-up : (y : ℕ) → p .state .item y .holder ≡ some t → aheadUp R p t y ≡ false
+    no-more-up : (y : ℕ) → p .state .item y .holder ≡ some t → aheadUp p t y ≡ false
     unfolding aheadUp
     no-more-up y h = rw (holder-at y h, left-here) (le-ltb (p .far t) (p .far t) (omega arith))
 
-    ahead-held : (y : ℕ) → p .state .item y .holder ≡ some t → not (eqb y x) ≡ true → aheadDown R p t x y ≡ true
+    ahead-held : (y : ℕ) → p .state .item y .holder ≡ some t → not (eqb y x) ≡ true → aheadDown p t x y ≡ true
     unfolding aheadDown
-    ahead-held y h q = rw (holder-at y h, le-ltb (left p t) (left p t) (omega arith), eqb-self t, q) refl
+    ahead-held y h q = rw (holder-at y h, le-ltb (remaining p t) (remaining p t) (omega arith), eqb-self t, q) refl
 
-    up-down : (y : ℕ) → aheadUp R p t y ≡ true → aheadDown R p t x y ≡ true
+    up-down : (y : ℕ) → aheadUp p t y ≡ true → aheadDown p t x y ≡ true
     unfolding aheadUp aheadDown
     up-down y h = rw (left-here, h) refl
 
@@ -117,21 +115,22 @@ module _ (R : Rules) (L : Laws R) (p : Snapshot) (k : Sound R p) (s : State) (i 
     sentTerm y = cond (others y) (1 + queueWeight R p y) 0
 
     abbrev upTerm : ℕ → ℕ
-    upTerm y = cond (ofMember p y && aheadUp R p t y) (queueWeight R p y + bit (not (ofVictim p y))) 0
+    upTerm y = cond (ofMember p y && aheadUp p t y) (passWeight R p y) 0
 
     abbrev downTerm : ℕ → ℕ
-    downTerm y = cond (ofMember p y && aheadDown R p t x y) (queueWeight R p y + bit (not (ofVictim p y))) 0
+    downTerm y = cond (ofMember p y && aheadDown p t x y) (passWeight R p y) 0
 
     each-covered : (y : ℕ) → 1 ≤ y → y ≤ R .M → sentTerm y + upTerm y ≤ downTerm y
-    each-covered y lo hi = term-left (others y) (aheadUp R p t y) (aheadDown R p t x y) (ofMember p y) (ofVictim p y) (queueWeight R p y)
+    unfolding passWeight
+    each-covered y lo hi = term-left (others y) (aheadUp p t y) (aheadDown p t x y) (ofMember p y) (ofVictim p y) (queueWeight R p y)
         (λ h. let q = holder-here y lo hi h in (
           no-more-up y q,
           (ahead-held y q (and-both (s .session t .held y) (not (eqb y x)) h .1), (of-member R L p k y t q here-member, not-victim's y q)),
         ))
         (up-down y)
 
-    -- the rebroadcasts to them, together with what is before a clean from t
-    rebroadcasts-weigh : sentWeight (λ y m. weight R p true t y m) (rebroadcasts R x (s .session t)) + aheadWeight R p (aheadUp R p t) ≤ aheadWeight R p (aheadDown R p t x)
+    -- the rebroadcasts to them, together with what is ahead of a clean from t
+    rebroadcasts-weigh : sentWeight (λ y m. weight R p true t y m) (rebroadcasts R x (s .session t)) + aheadWeight R p (aheadUp p t) ≤ aheadWeight R p (aheadDown p t x)
     unfolding rebroadcasts aheadWeight weight
     rebroadcasts-weigh = omega (
       arith,

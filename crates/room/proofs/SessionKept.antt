@@ -11,9 +11,10 @@ use Rattle.deadlock.specs.Machine.{afterSession, Entry, growing, Message, relea
 use Rattle.deadlock.specs.Counts.{every-nil}
 use Rattle.deadlock.specs.Links.{mayRelease}
 use Rattle.deadlock.specs.World.{isVictim, isWaiting}
+use Rattle.deadlock.proofs.Laws.Entries.{entry, every-fromSession, every-take}
 use Rattle.deadlock.proofs.Laws.Counts.{every-append}
 use Rattle.deadlock.proofs.Laws.Lists.{updated-other, updated-same}
-use Rattle.bound.proofs.Mail.{entry, every-fromSession, every-taken, sum-session}
+use Rattle.bound.proofs.Mail.{sum-session}
 use Rattle.bound.proofs.Sent.{sentWeight}
 use Rattle.room.specs.Snapshot.{Snapshot, storedCount}
 use Rattle.room.specs.Weights.{entryWeight, mailWeight, weight}
@@ -94,7 +95,7 @@ module _ (R : Rules) (p : Snapshot) (s : State) (t : ℕ) where
           (s .session) t (o .after)
           (λ n w. omega (arith, f .turns .stores n w, c .stores t n (let z = waiting-item (o .after .stage) w in rw (f .turns .waited (z .0) (z .1)) (omega arith))))
           (λ u _. c .stores u);
-      mail = every-append (every-taken false t x m l (c .mail) e .1) (every-fromSession t (f .allowed));
+      mail = every-append (every-take false t x m l (c .mail) e .1) (every-fromSession t (f .allowed));
       light = omega (arith, sum-session (entryWeight R p) t x (s .mailbox) m l (o .sends) e, f .covered, c .light);
     }
       where
@@ -102,7 +103,6 @@ module _ (R : Rules) (p : Snapshot) (s : State) (t : ℕ) where
             → (s .item y .holder ≡ p .state .item y .holder) ⊎ HandedOver p (afterSession s t l o) y
         over y (inl q) = inl q
         over y (inr h) = inr (record {
-          was = h .was;
           over =
               by-session (λ u r. u ≡ p .victim → 1 ≤ mayRelease (r .stage)) (s .session) t (o .after)
               (λ q. omega (arith, h .over, f .turns .over-stays, ap (λ (u : ℕ). mayRelease (s .session u .stage)) q))

@@ -92,9 +92,9 @@ module _ (R : Rules) (L : Laws R) where
     probes-go-on a (requestCall t x) o h = absurd (false≢true h)
     probes-go-on a (releaseCall t x) o h = absurd (false≢true h)
     probes-go-on a (deliverToItem t x) o h =
-        at-item (Phase R) t x (λ m l e. probing (item-probes R L s k d a t x (item-low R t x o) (item-high R t x o) m l e)) (take true t x (s .mailbox)) refl h
+        at-item (Phase R) t x (λ m l e. probing (item-probes R s a t x m l e)) (take true t x (s .mailbox)) refl h
     probes-go-on a (deliverToSession t x) o h =
-        at-session (Phase R) t x (session-probes R L s k d a t x (session-low R t x o) (session-high R t x o) (item-low R t x o) (item-high R t x o))
+        at-session (Phase R) t x (session-probes R L s k d a t x (session-low R t x o) (session-high R t x o))
         (take false t x (s .mailbox)) refl h
     probes-go-on a (reopen t) o h = absurd (false≢true h)
 
@@ -110,7 +110,7 @@ module _ (R : Rules) (L : Laws R) where
 
     goes-on : Phase R s → (c : Call) → ofMachine R c ≡ true → delivers s c ≡ true → Phase R (move R s c)
     goes-on (empty e) c o h = absurd (none-there e c h)
-    goes-on (asked a) c o h = asked-goes-on R L s k d a c o h
+    goes-on (asked a) c o h = asked-goes-on R s k d a c h
     goes-on (probing a) c o h = probes-go-on a c o h
     goes-on (clearing p q a) c o h = clearing p q (clears-on p q a c o h)
 

@@ -26,9 +26,9 @@ use Rattle.bound.specs.Potential.{distanceIn, mailSum, waitsLeft}
 use Rattle.bound.proofs.Distance.{distance-some, one-less}
 use Rattle.bound.proofs.Mail.{sum-append}
 use Rattle.room.specs.Capacity.{capacityBound}
-use Rattle.room.specs.Snapshot.{left, ofMember, Snapshot, Sound}
-use Rattle.room.specs.Weights.{aheadUp, entryWeight, mailWeight, weight}
-use Rattle.room.specs.Phases.{Allowed, AllowedMessage, clearing, HeldFrom, NoVictim, Phase, Probing, Single, singleAbort, singleGrant, singleProbe, Tidy}
+use Rattle.room.specs.Snapshot.{aheadUp, ofMember, remaining, Snapshot, Sound}
+use Rattle.room.specs.Weights.{entryWeight, mailWeight, weight}
+use Rattle.room.specs.Phases.{Allowed, AllowedMessage, clearing, HeldFrom, Phase, Probing, Single, singleAbort, singleGrant, singleProbe, Tidy}
 use Rattle.room.proofs.Members.{of-member}
 use Rattle.room.proofs.ClearingBegins.{clean-light, clears-from}
 
@@ -89,8 +89,8 @@ module _ (R : Rules) (L : Laws R) (s : State) (k : Invariant R s) (d : Tidy R s)
   this-member : (u : ℕ) → Walk E t u → told .member u ≡ true
   this-member u w = cycle-member u (cycle-turned (one-edge lk) (o .cycle) w)
 
-  falls : (u h : ℕ) → told .member u ≡ true → E u h → left told h + 1 ≤ told .far u
-  unfolding left waitsLeft
+  falls : (u h : ℕ) → told .member u ≡ true → E u h → remaining told h + 1 ≤ told .far u
+  unfolding remaining waitsLeft
   falls u h m e =
       let q : waitsLeft R (distanceIn R s) h t + 1 ≤ distanceIn R s u t =
       rw (edge-waitsFor R s lk (k .in-range) u h e) at (one-less R s u t (distance-some R L s k t u (o .cycle) (on-this u m))) in
@@ -104,7 +104,6 @@ module _ (R : Rules) (L : Laws R) (s : State) (k : Invariant R s) (d : Tidy R s)
       one-queue lk u y (f .item) lo hi (f .low) (f .high) q (subst (λ (b : ℕ). Queued (worldOf s) b (f .item)) (sym z) (f .stands))
 
   told-sound : Sound R told
-  unfolding NoVictim
   told-sound = record {
     sessions = omega arith;
     invariant = k;
@@ -147,5 +146,5 @@ module _ (R : Rules) (L : Laws R) (s : State) (k : Invariant R s) (d : Tidy R s)
           arith,
           sum-append (entryWeight R told) l (fromSession t ((y, clean v i) ∷ [])),
           singles-weigh R told m,
-          clean-light R L told told-sound (aheadUp R told t),
+          clean-light R L told told-sound (aheadUp told t),
         )))

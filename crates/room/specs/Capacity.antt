@@ -1,4 +1,4 @@
--- How many messages a mailbox must take so that no delivery is ever refused for want of room, with S sessions and M items.
+-- A capacity with which no delivery is refused for want of room where sessions call at an empty mailbox only, with S sessions and M items.
 use Prim.Native.Nat.{_*_, _+_, ℕ}
 
 unfoldable pub capacityBound : ℕ → ℕ → ℕ

@@ -15,7 +15,7 @@ use Rattle.deadlock.specs.Walks.{FirstApart, Walk}
 use Rattle.deadlock.specs.World.{Edge, isVictim, isWaiting}
 use Rattle.deadlock.specs.Invariant.{downRoute, Invariant, worldOf}
 use Rattle.room.specs.Capacity.{capacityBound}
-use Rattle.room.specs.Snapshot.{ofMember, ofVictim, Snapshot, Sound, storedCount}
+use Rattle.room.specs.Snapshot.{NoVictim, ofMember, ofVictim, Snapshot, Sound, storedCount}
 use Rattle.room.specs.Weights.{mailWeight}
 
 -- what holds in every reached state besides the invariant: no session is told of its own probe, no probe comes before the grant, and whatever is awaited
@@ -26,10 +26,6 @@ pub record Tidy (R : Rules) (s : State) : Type 0 where
   pub grant-first : (t x : ℕ) → countBehind Kind.probe Kind.grant (downRoute s t x) ≡ 0
   pub awaited : (t x : ℕ) → 1 ≤ awaits (s .session t .stage) x → (1 ≤ x) × (x ≤ R .M)
 
--- nobody is a victim
-unfoldable pub NoVictim : State → Type 0
-NoVictim s = (t : ℕ) → isVictim (s .session t .stage) ≡ 0
-
 -- ---- a request on its way
 -- a probe on its way from t to item x
 pub data ProbeFrom (t x : ℕ) : Entry → Type 0 where
@@ -39,8 +35,6 @@ pub data ProbeFrom (t x : ℕ) : Entry → Type 0 where
 pub record Asked (R : Rules) (s : State) : Type 0 where
   pub session : ℕ
   pub item : ℕ
-  pub low : 1 ≤ item
-  pub high : item ≤ R .M
   pub probes : List Entry
   pub mail : s .mailbox ≡ record { toItem = true; session = session; item = item; message = up request } ∷ probes
   pub all-probes : Every (ProbeFrom session item) probes
@@ -62,7 +56,8 @@ pub record HeldFrom (R : Rules) (s : State) (t y : ℕ) : Type 0 where
   pub held : s .item y .holder ≡ some holder
   pub walk : Walk (Edge R (worldOf s)) t holder
 
--- since t joined a queue or was granted its item: probes, aborts and grants at items that are held by sessions t leads to; every cycle has t on it
+-- since the session `from` joined a queue or was granted its item: probes, aborts and grants, at items that it holds or a session that it leads to; every
+-- cycle has it on it
 pub record Probing (R : Rules) (s : State) : Type 0 where
   pub from : ℕ
   pub mail : Every (λ (e : Entry). Single (e .message) × HeldFrom R s from (e .item)) (s .mailbox)
@@ -90,12 +85,12 @@ module _ (p : Snapshot) where
   abbrev pub Allowed : Entry → Type 0
   Allowed e = (ofMember p (e .item) ≡ true) × AllowedMessage (e .session) (e .item) (e .message)
 
-  -- item x of the victim was handed over, to a session of its queue or to nobody
+  -- the victim releases, and item x was handed over, to a session of its queue or to nobody
   pub record HandedOver (s : State) (x : ℕ) : Type 0 where
-    pub was : p .state .item x .holder ≡ some (p .victim)
     pub over : 1 ≤ mayRelease (s .session (p .victim) .stage)
     pub now : (h : ℕ) → s .item x .holder ≡ some h → 1 ≤ occurs h (p .state .item x .queue)
 
+  -- what holds from the snapshot on, until the mailbox is empty
   pub record Clearing (R : Rules) (s : State) : Type 0 where
     -- the victim is one, or releases
     pub victim-stage : 1 ≤ isVictim (s .session (p .victim) .stage) + mayRelease (s .session (p .victim) .stage)
@@ -119,6 +114,7 @@ pub data Phase (R : Rules) (s : State) : Type 0 where
   probing : Probing R s → Phase R s
   clearing : (p : Snapshot) → Sound R p → Clearing p R s → Phase R s
 
+-- what holds of every state that is reached where sessions call at an empty mailbox only
 pub record Orderly (R : Rules) (s : State) : Type 0 where
   pub invariant : Invariant R s
   pub tidy : Tidy R s

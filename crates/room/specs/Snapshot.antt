@@ -1,12 +1,12 @@
 -- What stays fixed while a cycle is dissolved, or an item is handed over: the state when the victim was told of the cycle, or before the release, and what it shows.
 use mathlib.Core.Path.{_≡_}
-use mathlib.Core.Bool.{Bool, cond, false, true}
+use mathlib.Core.Bool.{_&&_, _||_, Bool, cond, false, not, true}
 use mathlib.Core.Option.{none, Option, some}
 use mathlib.Core.Logic.{_⊎_}
 use Prim.Native.Nat.{_+_, _≤_, ℕ}
-use lib.Dec.{eqb}
+use lib.Dec.{eqb, ltb}
 use Rattle.lists.specs.Lists.{sumUpTo}
-use Rattle.deadlock.specs.Machine.{heldBy, Rules, State}
+use Rattle.deadlock.specs.Machine.{heldBy, holderOr0, Rules, State}
 use Rattle.deadlock.specs.Counts.{isStored}
 use Rattle.deadlock.specs.Walks.{FirstApart, Walk}
 use Rattle.deadlock.specs.World.{Edge, HolderIs, isVictim, Queued}
@@ -26,9 +26,9 @@ unfoldable pub storedCount : Rules → (ℕ → ℕ) → ℕ
 storedCount R f = sumUpTo (R .S) (isStored f)
 
 module _ (p : Snapshot) where
-  -- the waits that are left when a clean comes to session u: none at the victim
-  unfoldable pub left : ℕ → ℕ
-  left u = cond (eqb u (p .victim)) 0 (p .far u)
+  -- the waits that remain when a clean comes to session u: none at the victim
+  unfoldable pub remaining : ℕ → ℕ
+  remaining u = cond (eqb u (p .victim)) 0 (p .far u)
 
   abbrev pub heldByMember : Option ℕ → Bool
   heldByMember none = false
@@ -42,7 +42,23 @@ module _ (p : Snapshot) where
   unfoldable pub ofVictim : ℕ → Bool
   ofVictim y = heldBy (p .state .item y .holder) (p .victim)
 
--- what the fixed state knows
+  -- the holder of item y, or 0
+  unfoldable pub holderAt : ℕ → ℕ
+  holderAt y = holderOr0 (p .state .item y .holder)
+
+  -- the items ahead of a clean from t: those whose holders are nearer to the victim
+  unfoldable pub aheadUp : ℕ → ℕ → Bool
+  aheadUp t y = ltb (remaining (holderAt y)) (p .far t)
+
+  -- the items ahead of a clean from item x to u: also the others that u holds
+  unfoldable pub aheadDown : ℕ → ℕ → ℕ → Bool
+  aheadDown u x y = ltb (remaining (holderAt y)) (remaining u) || (eqb (holderAt y) u && not (eqb y x))
+
+-- nobody is a victim
+abbrev pub NoVictim : State → Type 0
+NoVictim s = (t : ℕ) → isVictim (s .session t .stage) ≡ 0
+
+-- what holds of a snapshot
 pub record Sound (R : Rules) (p : Snapshot) : Type 0 where
   -- there is a session
   pub sessions : 1 ≤ R .S
@@ -51,7 +67,7 @@ pub record Sound (R : Rules) (p : Snapshot) : Type 0 where
   -- nobody stores a probe of its own
   pub no-own-probe : (t : ℕ) → p .state .session t .stored t ≡ 0
   -- nobody is a victim yet
-  pub no-victim : (t : ℕ) → isVictim (p .state .session t .stage) ≡ 0
+  pub no-victim : NoVictim (p .state)
   -- the members are the sessions that are reached from the victim
   pub member-reached : (u : ℕ) → p .member u ≡ true → Walk (Edge R (worldOf (p .state))) (p .victim) u
   pub reached-member : (u : ℕ) → Walk (Edge R (worldOf (p .state))) (p .victim) u → p .member u ≡ true
@@ -62,6 +78,6 @@ pub record Sound (R : Rules) (p : Snapshot) : Type 0 where
   -- the victim is the most junior member
   pub most-junior : (u : ℕ) → p .member u ≡ true → (u ≡ p .victim) ⊎ (R .senior u (p .victim) ≡ true)
   -- each wait leaves fewer waits
-  pub far-falls : (t h : ℕ) → p .member t ≡ true → Edge R (worldOf (p .state)) t h → left p h + 1 ≤ p .far t
+  pub far-falls : (t h : ℕ) → p .member t ≡ true → Edge R (worldOf (p .state)) t h → remaining p h + 1 ≤ p .far t
   -- a member that waits for the victim waits at the closing item
   pub closes : (t y : ℕ) → 1 ≤ y → y ≤ R .M → p .member t ≡ true → Queued (worldOf (p .state)) t y → HolderIs (worldOf (p .state)) y (p .victim) → y ≡ p .closing

@@ -1,23 +1,23 @@
 -- What each message weighs: at least the number of messages that it can still turn into at one time. No delivery makes the mailbox heavier.
-use mathlib.Core.Bool.{_&&_, _||_, Bool, cond, not}
+use mathlib.Core.Bool.{_&&_, Bool, cond, not}
 use mathlib.Core.List.{List}
 use Prim.Native.Nat.{_+_, ℕ}
-use lib.Dec.{eqb, ltb}
+use lib.Dec.{eqb}
 use Rattle.lists.specs.Lists.{member, sumUpTo}
 use Rattle.deadlock.specs.Lists.{bit}
-use Rattle.deadlock.specs.Machine.{abort, clean, down, Downward, Entry, grant, holderOr0, Message, probe, rebroadcast, release, request, resend, Rules, up, Upward, withdraw, withdrawn}
+use Rattle.deadlock.specs.Machine.{abort, clean, down, Downward, Entry, grant, Message, probe, rebroadcast, release, request, resend, Rules, up, Upward, withdraw, withdrawn}
 use Rattle.bound.specs.Potential.{mailSum}
-use Rattle.room.specs.Snapshot.{left, ofMember, ofVictim, Snapshot, storedCount}
+use Rattle.room.specs.Snapshot.{aheadDown, aheadUp, ofMember, ofVictim, Snapshot, storedCount}
 
 module _ (R : Rules) (p : Snapshot) where
   -- ---- sessions in a queue
-  -- a resend to t: the probes that t stores, or itself. A member may come to store any; the others store what they stored
+  -- a resend to t: itself, and the probes that t stores. A member may come to store any; the others store what they stored
   unfoldable pub resendWeight : ℕ → ℕ
   resendWeight t = cond (p .member t) (R .S) (1 + storedCount R (p .state .session t .stored))
 
   -- what an item sends anew for t: a probe of its own, and a resend unless it is a member
   unfoldable pub ownWeight : ℕ → ℕ
-  ownWeight t = cond (p .member t) 1 (2 + storedCount R (p .state .session t .stored))
+  ownWeight t = cond (p .member t) 1 (1 + resendWeight t)
 
   -- and for the whole queue of item y
   unfoldable pub queueWeight : ℕ → ℕ
@@ -32,22 +32,13 @@ module _ (R : Rules) (p : Snapshot) where
   unfoldable pub releasesWeight : ℕ
   releasesWeight = sumUpTo (R .M) (λ y. cond (ofVictim p y) (1 + queueWeight y) 0) + R .S
 
-  -- ---- the clean, by the items that it still has before it
-  -- what is sent anew at each of them, and a rebroadcast to those that the victim does not hold
+  -- ---- the clean, by the items that it still has ahead
+  -- what is sent anew there, and a rebroadcast unless the victim holds the item
+  unfoldable pub passWeight : ℕ → ℕ
+  passWeight y = queueWeight y + bit (not (ofVictim p y))
+
   unfoldable pub aheadWeight : (ℕ → Bool) → ℕ
-  aheadWeight ahead = sumUpTo (R .M) (λ y. cond (ofMember p y && ahead y) (queueWeight y + bit (not (ofVictim p y))) 0)
-
-  -- the holder of item y, or 0
-  unfoldable pub holderAt : ℕ → ℕ
-  holderAt y = holderOr0 (p .state .item y .holder)
-
-  -- before a clean from t: the items whose holders have fewer waits left
-  unfoldable pub aheadUp : ℕ → ℕ → Bool
-  aheadUp t y = ltb (left p (holderAt y)) (p .far t)
-
-  -- before a clean from item x to u: also the other items that u holds
-  unfoldable pub aheadDown : ℕ → ℕ → ℕ → Bool
-  aheadDown u x y = ltb (left p (holderAt y)) (left p u) || (eqb (holderAt y) u && not (eqb y x))
+  aheadWeight ahead = sumUpTo (R .M) (λ y. cond (ofMember p y && ahead y) (passWeight y) 0)
 
   -- ---- messages between session t and item x, on their way to the item (true) or to the session (false)
   abbrev pub upwardWeight : ℕ → Upward → ℕ
@@ -65,7 +56,7 @@ module _ (R : Rules) (p : Snapshot) where
   weight d t x (up m) = upwardWeight x m
   weight d t x (down m) = downwardWeight t m
   weight d t x (probe i j) = 1
-  weight d t x (clean v i) = 1 + cond d (aheadWeight (aheadUp t)) (aheadWeight (aheadDown t x)) + releasesWeight
+  weight d t x (clean v i) = 1 + cond d (aheadWeight (aheadUp p t)) (aheadWeight (aheadDown p t x)) + releasesWeight
   weight d t x (abort v i) = 1
 
   abbrev pub entryWeight : Entry → ℕ

@@ -49,6 +49,10 @@ deliverToItem = 3
 abbrev pub deliverToSession : ℕ
 deliverToSession = 4
 
+-- one of the last two
+abbrev pub isDelivery : ℕ → Bool
+isDelivery verb = between deliverToItem deliverToSession verb
+
 -- the place of the entry that a step delivers, the earliest of its route; a request or a release delivers none, and its place is past the end
 unfoldable pub delivered : ℕ → ℕ → ℕ → List Entry → ℕ
 delivered verb t x entries =
@@ -104,7 +108,7 @@ maskForbids verb x held = eqb verb request && has x held || eqb verb release && 
 
 -- a delivery finds no entry: RULES 8.8
 abbrev pub nothingToDeliver : ℕ → ℕ → List Entry → Bool
-nothingToDeliver verb k entries = between deliverToItem deliverToSession verb && eqb k (length entries)
+nothingToDeliver verb k entries = isDelivery verb && eqb k (length entries)
 
 -- there is no room for the entries after a step: RULES 8.9
 abbrev pub overfull : ℕ → List Entry → Bool

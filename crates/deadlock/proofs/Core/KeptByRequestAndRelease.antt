@@ -1,12 +1,11 @@
 -- A request or a release at an item: edges of the wait-for graph come, go or turn, and no cycle of a victim changes.
 use mathlib.Core.Path.{_∙_, _≡_, ap, refl, subst, sym}
-use mathlib.Core.Bool.{_||_, false≢true, true}
+use mathlib.Core.Bool.{_||_, true}
 use mathlib.Core.List.{[], _∷_, List}
 use mathlib.Core.Option.{none, Option, some}
 use mathlib.Core.Logic.{_≢_, _⊎_, inl, inr}
 use Prim.Native.Nat.{_+_, _≤_, ℕ}
 use native.Mathlib.Omega.{arith}
-use borrow.Author.Tests.{eqb-true}
 use Rattle.lists.specs.Lists.{member}
 use Rattle.lists.proofs.Tests.{by-test, same?}
 use Rattle.deadlock.specs.Lists.{bit, occurs, without}
@@ -18,7 +17,7 @@ use Rattle.deadlock.specs.Walks.{FirstApart, onward, rest, Walk}
 use Rattle.deadlock.specs.World.{ClearEdge, Edge, FreeIsEmpty, HolderIs, isVictim, isWaiting, Known, Live, Mail, Passed, Probes, Queued, stageOf, VictimIn, Victims, World}
 use Rattle.deadlock.proofs.Laws.Lists.{bit-member, bit-one, bit-or, occurs-append, occurs-last-other, occurs-last-same, occurs-without-le, updated-other, updated-same, zero-or-more}
 use Rattle.deadlock.proofs.Laws.Stages.{awaits-item, awaits-one, seen-facts, stage-facts}
-use Rattle.deadlock.proofs.Laws.Counts.{cleansOf-append, cleansOf-sentTo, cleansSent-handOver, TellsTo}
+use Rattle.deadlock.proofs.Laws.Counts.{cleansOf-append, cleansOf-sentTo, cleansSent-handOver, held-by, TellsTo}
 use Rattle.deadlock.proofs.Laws.Walks.{cycle-next, first-edge-of, path-cut, path-map, walk-back, walk-map}
 use Rattle.deadlock.proofs.Victims.OneOnCycle.{avoid-down-back, came-map, one-edge, one-request-at, told-map, victim-of-down}
 use Rattle.deadlock.proofs.Probes.PathsStay.{item-probes, ItemTakes, up-le, worldAfterItem}
@@ -253,12 +252,7 @@ module _ {R : Rules} (L : Laws R) {w : World} (known : Known R w) (t x : ℕ) (l
     release-no-edge b e = let f = known .links .linked t (e .item) (e .low) (e .high) in omega (arith, e .stands, release-awaits-none (e .item))
 
     pub release-holder : HolderIs w x t
-    unfolding heldBy
-    release-holder = cases (w .item x .holder) (bit-one _ release-holds)
-      where
-        cases : (o : Option ℕ) → heldBy o t ≡ true → o ≡ some t
-        cases none e = absurd (false≢true e)
-        cases (some k) e = ap some (eqb-true k t e)
+    release-holder = held-by (w .item x .holder) t (bit-one _ release-holds)
 
     -- whoever is the next holder, or nobody
     module _ (i′ : Item) {out : Sends} (less : (a : ℕ) → occurs a (i′ .queue) ≤ occurs a (w .item x .queue)) (ar : ItemTakes w t x (up release) out mail) where

@@ -21,10 +21,9 @@ use Rattle.deadlock.proofs.Laws.Routes.{countKind-append, sentTo-append
 use Rattle.deadlock.proofs.Laws.Stages.{seen-facts}
 use Rattle.deadlock.proofs.Laws.Seniority.{senior-not-senior}
 use Rattle.deadlock.proofs.Laws.Counts.{cleansOf-some, cleansSent-probe, cleansSent-probesAnew, not-inQueue}
-use Rattle.deadlock.proofs.Victims.OneOnCycle.{clean-up-is, one-request-at}
+use Rattle.deadlock.proofs.Victims.OneOnCycle.{clean-up-is, one-request-at, queue-has-holder}
 use Rattle.deadlock.proofs.Probes.PathsStay.{ItemTakes, up-le, withdrawnItem, worldAfterItem}
 use Rattle.deadlock.proofs.Probes.KeptByWithdraw.{withdraws-stage}
-use Rattle.deadlock.proofs.Victims.CyclesStay.{queue-has-holder}
 use Rattle.deadlock.proofs.Coverage.Sums.{countKind-resends, except-mono, except-zero, freshProbes-head, freshProbes-no-clean, freshProbes-skip, no-clean-sent, probesBy-append, probesBy-probesTo, sumOver-append, sumOver-mono, sumOver-without, unlessCleaned-mono, unlessCleaned-open, unlessCleaned-shut}
 use Rattle.deadlock.proofs.Coverage.AfterItem.{declared-or-covered, DeclaredKept, down-kind-ge, item-coverage, probeReaches-ge, probeReaches-new, rebroadcastDue-ge, up-kind-ge}
 
@@ -269,7 +268,7 @@ module _ {R : Rules} (L : Laws R) {w : World} (known : Known R w) (cov : Coverag
           cases (inr z) =
               let c = cleansOf-some (w .up t x) z in
               let k = known .victims .clean-up-on-cycle (c .0) t x (c .1) in
-              let h = queue-has-holder known (withdrawnItem w t x) lo hi ar t x (k .stands) in
+              let h = queue-has-holder (known .links) t x (k .stands) in
               let e : Edge R w t (h .0) = record { item = x; low = lo; high = hi; stands = k .stands; held = h .1 } in
               absurd (omega (arith, clean-up-is known t t x (withdraws-now .0) e rest z, known .mail .up-le t t x, known .victims .one-clean t, withdraws-now .1))
 

@@ -6,6 +6,7 @@ use mathlib.Core.Logic.{_⊎_, inl, inr}
 use Prim.Native.Nat.{_≤_, ℕ}
 use native.Mathlib.Omega.{arith}
 use borrow.Author.Tests.{ne-eqb}
+use Rattle.lists.proofs.Searches.{sum-none}
 use Rattle.lists.proofs.Tests.{eqb-self, same?}
 use Rattle.deadlock.specs.Lists.{bit, occurs}
 use Rattle.deadlock.specs.Machine.{cleaning, growing, isLive, Laws, releasing, rolledBack, Rules, shrinking, Stage, victim, waiting, withdrawing}
@@ -19,7 +20,7 @@ use Rattle.deadlock.proofs.Laws.Lists.{bit-eqb, bit-one}
 use Rattle.deadlock.proofs.Laws.Stages.{seen-facts, stage-facts}
 use Rattle.deadlock.proofs.Laws.Walks.{cycle-next, cycle-turned, path-has-cycle, path-prefix, walk-append, walk-lastApart, walk-path}
 use Rattle.deadlock.proofs.Victims.OneOnCycle.{no-self-edge, one-edge}
-use Rattle.deadlock.proofs.Coverage.Sums.{except-zero, sumOver-zero, sumUpTo-zero}
+use Rattle.deadlock.proofs.Coverage.Sums.{except-zero, sumOver-zero}
 
 -- the most senior of a list
 module _ (R : Rules) (L : Laws R) where
@@ -84,7 +85,7 @@ module _ {R : Rules} (L : Laws R) {w : World} (lk : Links R w) (vs : Victims R w
   no-rebroadcastDue z h = omega (arith, ap (countKind Kind.rebroadcast) (up0 h z), cases (w .session h .held z))
     where
       cases : (b : Bool) → cond b (cleansElsewhere R w h z) 0 ≡ 0
-      cases true = sumUpTo-zero (except z (λ y. countKind Kind.clean (w .down h y))) (λ y. except-zero z (λ y. countKind Kind.clean (w .down h y)) y (ap (countKind Kind.clean) (down0 h y))) (R .M)
+      cases true = sum-none (except z (λ y. countKind Kind.clean (w .down h y))) (λ y. except-zero z (λ y. countKind Kind.clean (w .down h y)) y (ap (countKind Kind.clean) (down0 h y))) (R .M)
       cases false = refl
 
   no-cleansFromQueue : (z : ℕ) → cleansFromQueue R w z ≡ 0

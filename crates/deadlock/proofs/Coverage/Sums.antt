@@ -7,7 +7,7 @@ use Prim.Native.Nat.{_+_, _≤_, suc, zero, ℕ}
 use native.Mathlib.Omega.{arith}
 use lib.Dec.{eqb}
 use borrow.Author.Tests.{eqb-false, eqb-true, ne-eqb}
-use Rattle.lists.specs.Lists.{filter, sumUpTo}
+use Rattle.lists.specs.Lists.{filter}
 use Rattle.lists.proofs.Tests.{by-test, eqb-self, same?}
 use Rattle.deadlock.specs.Lists.{bit, occurs, without}
 use Rattle.deadlock.specs.Machine.{Message, probe, probesFrom, probesTo, rebroadcast, rebroadcasts, resends, Rules, Sends, Session, toEach, up}
@@ -86,11 +86,6 @@ pub sumOver-without : (f : ℕ → ℕ) (t : ℕ) → f t ≡ 0 → (l : List �
 unfolding sumOver without
 sumOver-without f t z [] = refl
 sumOver-without f t z (a ∷ l) = by-test (λ (q : List ℕ). sumOver f q ≡ f a + sumOver f l) (eqb a t) {x = l} {y = a ∷ without t l} (λ e. omega (arith, z, ap f (eqb-true a t e))) (λ _. omega (arith, sumOver-without f t z l))
-
-pub sumUpTo-zero : (f : ℕ → ℕ) → ((a : ℕ) → f a ≡ 0) → (k : ℕ) → sumUpTo k f ≡ 0
-unfolding sumUpTo
-sumUpTo-zero f z zero = refl
-sumUpTo-zero f z (suc k) = omega (arith, z (suc k), sumUpTo-zero f z k)
 
 pub sumOver-zero : (f : ℕ → ℕ) → ((a : ℕ) → f a ≡ 0) → (l : List ℕ) → sumOver f l ≡ 0
 unfolding sumOver

@@ -1,6 +1,6 @@
 -- Laws of the counts of messages, of cleans and of probes.
 use mathlib.Core.Path.{_≡_, ap, refl}
-use mathlib.Core.Bool.{Bool, cond, false, true}
+use mathlib.Core.Bool.{Bool, cond, false, false≢true, true}
 use mathlib.Core.List.{[], _++_, _∷_, List, map}
 use mathlib.Core.Option.{none, Option, some}
 use Prim.Native.Nat.{_+_, _≤_, ℕ}
@@ -10,7 +10,7 @@ use borrow.Author.Tests.{eqb-true, ne-eqb}
 use Rattle.lists.specs.Lists.{filter}
 use Rattle.lists.proofs.Tests.{by-test, eqb-self, same?}
 use Rattle.deadlock.specs.Lists.{bit, occurs}
-use Rattle.deadlock.specs.Machine.{abort, clean, down, Downward, grant, growing, inQueue, Item, itemReceives, Message, onRebroadcast, passProbe, probe, probesAnew, probesFrom, probesTo, rebroadcast, rebroadcasts, release, releasing, request, resend, resends, Rules, Sends, Session, Stage, toAwaited, toEach, up, Upward, victim, waiting, withdraw, withdrawn}
+use Rattle.deadlock.specs.Machine.{abort, clean, down, Downward, grant, growing, heldBy, inQueue, Item, itemReceives, Message, onRebroadcast, passProbe, probe, probesAnew, probesFrom, probesTo, rebroadcast, rebroadcasts, release, releasing, request, resend, resends, Rules, Sends, Session, Stage, toAwaited, toEach, up, Upward, victim, waiting, withdraw, withdrawn}
 use Rattle.message.specs.Kind
 use Rattle.deadlock.specs.Counts.{behind-cons, behind-nil, behindRequest, cleanOf, cleansOf, cleansSent, countKind, EachBehind, Every, every-cons, every-nil, kindOf, OfProbe, sentTo}
 use Rattle.deadlock.proofs.Laws.Lists.{bit-le, member-occurs, not-member-occurs}
@@ -260,6 +260,12 @@ inQueue-queued R t r e = member-occurs t (r .queue) e
 pub not-inQueue : (R : Rules) (t : ℕ) (r : Item) → inQueue R t r ≡ false → occurs t (r .queue) ≡ 0
 unfolding inQueue
 not-inQueue R t r e = not-member-occurs t (r .queue) e
+
+-- the holder, by its test
+pub held-by : (o : Option ℕ) (t : ℕ) → heldBy o t ≡ true → o ≡ some t
+unfolding heldBy
+held-by none t e = absurd (false≢true e)
+held-by (some h) t e = ap some (eqb-true h t e)
 
 -- what a session sends to the item that it awaits
 pub cleansSent-toAwaited : (v : ℕ) (s : Stage) (i j : ℕ) → cleansSent v (toAwaited s (probe i j)) ≡ 0

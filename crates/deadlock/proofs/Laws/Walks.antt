@@ -85,6 +85,14 @@ module _ {E : ℕ → ℕ → Type 0} where
       cases (inl q) = inr (record { next = t; out = rw q e; walk = rest; less = omega arith })
       cases (inr f) = inr (record { next = f .next; out = f .out; walk = onward (f .walk) e; less = omega (arith, f .less) })
 
+  -- a walk from a place that no edge leaves stays there
+  pub walk-still : {a t : ℕ} → ((b : ℕ) → E a b → ⊥) → Walk E a t → t ≡ a
+  walk-still {a} {t} still w = cases (first-step w)
+    where
+      cases : (a ≡ t) ⊎ FirstStep a t w → t ≡ a
+      cases (inl q) = sym q
+      cases (inr f) = absurd (still (f .next) (f .out))
+
   module _ (det : (a b c : ℕ) → E a b → E a c → b ≡ c) where
     record Shorter (u t k : ℕ) : Type 0 where
       pub walk : Walk E u t

@@ -1,21 +1,19 @@
 -- What an item's step leaves of the clauses on victims, if it keeps the cycles of the victims.
-use mathlib.Core.Path.{_≡_, ap, refl}
+use mathlib.Core.Path.{_≡_, ap}
 use mathlib.Core.Bool.{true}
-use mathlib.Core.Option.{none, Option, some}
 use mathlib.Core.Logic.{_⊎_, inl, inr}
 use Prim.Native.Nat.{_+_, _≤_, ℕ}
 use native.Mathlib.Omega.{arith}
 use Rattle.lists.proofs.Tests.{same?}
-use Rattle.deadlock.specs.Lists.{occurs}
 use Rattle.deadlock.specs.Machine.{abort, clean, down, growing, Item, Message, probe, releasing, request, Rules, Sends, Stage, up, victim, waiting}
 use Rattle.message.specs.Kind
 use Rattle.deadlock.specs.Counts.{cleanOf, cleansOf, cleansSent, Every, sentTo}
 use Rattle.deadlock.specs.Walks.{FirstApart, onward, rest, Walk}
-use Rattle.deadlock.specs.World.{AbortTo, CleanGoesDown, CleanGoesUp, CleanUnderWay, CycleOf, Edge, FreeIsEmpty, HolderIs, isWaiting, Known, Mail, OfAbort, Queued, stageOf, VictimIn, Victims, World}
+use Rattle.deadlock.specs.World.{AbortTo, CleanGoesDown, CleanGoesUp, CleanUnderWay, CycleOf, Edge, HolderIs, isWaiting, Known, Mail, OfAbort, Queued, stageOf, VictimIn, Victims, World}
 use Rattle.deadlock.proofs.Laws.Lists.{zero-or-more}
 use Rattle.deadlock.proofs.Laws.Counts.{cleansOf-append, every-append, every-map}
 use Rattle.deadlock.proofs.Laws.Walks.{walk-append, walk-back, walk-keep}
-use Rattle.deadlock.proofs.Victims.OneOnCycle.{victim-of-down, victim-of-up}
+use Rattle.deadlock.proofs.Victims.OneOnCycle.{queue-has-holder, victim-of-down, victim-of-up}
 use Rattle.deadlock.proofs.Probes.PathsStay.{ItemTakes, up-behind, up-le, worldAfterItem}
 
 pub abortTo-map : (R : Rules) (w w′ : World) (a : ℕ) (s : Stage)
@@ -70,14 +68,6 @@ module _ {R : Rules} {w : World} (known : Known R w)
   up-cleansOf-le v a z (no p) d = omega (arith, ap (cleansOf v) (ar .up-off a z (inl p)))
   up-cleansOf-le v a z (yes p) (no q) = omega (arith, ap (cleansOf v) (ar .up-off a z (inr q)))
 
-  pub queue-has-holder : (a z : ℕ) → Queued w a z → (h : ℕ) × HolderIs w z h
-  unfolding FreeIsEmpty occurs
-  queue-has-holder a z s = cases (w .item z .holder) refl
-    where
-      cases : (o : Option ℕ) → w .item z .holder ≡ o → (h : ℕ) × HolderIs w z h
-      cases none e = absurd (omega (arith, s, ap (occurs a) (known .links .idle z e)))
-      cases (some h) e = (h, e)
-
   module _ (ok2 : (v h : ℕ) → VictimIn w v → Edge R after v h → CycleStays v) (ok4 : (v : ℕ) → CleanUnderWay w v → CycleStays v)
       (oka : (a : ℕ) → 1 ≤ isWaiting (stageOf w a) → CycleOf R w a (λ u. R .senior u a ≡ true) → CycleStays a)
       (tots : (v : ℕ) → mail .total v + cleanOf v m ≡ w .total v + cleansSent v out) (cleans : (v : ℕ) → cleanOf v m ≡ cleansSent v out)
@@ -88,7 +78,7 @@ module _ {R : Rules} {w : World} (known : Known R w)
         let p0 : 1 ≤ cleansOf v (w .up a z) = omega (arith, p, up-cleansOf-le v a z (same? t a) (same? x z)) in
         let c = known .victims .clean-up-on-cycle v a z p0 in
         let k = ok4 v (victim-of-up known v a z p0) in
-        let h = queue-has-holder a z (c .stands) in
+        let h = queue-has-holder (known .links) a z (c .stands) in
         let e : Edge R w a (h .0) = record { item = z; low = c .low; high = c .high; stands = c .stands; held = h .1 } in
         record { low = c .low; high = c .high; stands = k .edge-stays a (h .0) (c .walk) e .0; walk = stays-walk k (c .walk) }
 

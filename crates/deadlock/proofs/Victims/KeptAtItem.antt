@@ -18,10 +18,10 @@ use Rattle.deadlock.proofs.Laws.Lists.{bit-eqb, updated-unchanged}
 use Rattle.deadlock.proofs.Laws.Stages.{stage-facts}
 use Rattle.deadlock.proofs.Laws.Counts.{behind-head, cleansOf-sentTo, cleansSent-onRebroadcast, cleansSent-probe, cleansSent-probesAnew, every-append, every-map, inQueue-queued}
 use Rattle.deadlock.proofs.Laws.Walks.{walk-map}
-use Rattle.deadlock.proofs.Victims.OneOnCycle.{edge-against, edge-along}
+use Rattle.deadlock.proofs.Victims.OneOnCycle.{edge-against, edge-along, queue-has-holder}
 use Rattle.deadlock.proofs.Probes.PathsStay.{ItemTakes, worldAfterItem}
 use Rattle.deadlock.proofs.Probes.ClosedPath.{cycle-abort, declare-cycle, declared-cycle-of, DeclaredCycle}
-use Rattle.deadlock.proofs.Victims.CyclesStay.{abortTo-map, CycleStays, item-victims, queue-has-holder, stays-cycle-of}
+use Rattle.deadlock.proofs.Victims.CyclesStay.{abortTo-map, CycleStays, item-victims, stays-cycle-of}
 
 -- anything but an abort
 abbrev pub NoAbort : Message → Type 0
@@ -183,5 +183,5 @@ module _ {R : Rules} (L : Laws R) {w : World} (known : Known R w) (t x : ℕ) (l
     pub clean-victims : Victims R after
     unfolding itemReceives
     clean-victims =
-        let h = queue-has-holder known (w .item x) lo hi ar t x (clean-from-queue .stands) in
+        let h = queue-has-holder (known .links) t x (clean-from-queue .stands) in
         unchanged-victims ar tots (λ v. clean-counted v (w .item x .holder) (h .0) (h .1)) (λ v a p. clean-moved (w .item x .holder) v a refl p) (λ a. noAborts-ofAbort R after a (noAborts-passClean (w .item x .holder)))

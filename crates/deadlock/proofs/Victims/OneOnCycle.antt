@@ -1,18 +1,18 @@
 -- What follows from the clauses on victims: one edge from each session, one victim on a cycle, and where its clean is.
-use mathlib.Core.Path.{_∙_, _≡_, ap, sym}
+use mathlib.Core.Path.{_∙_, _≡_, ap, refl, sym}
 use mathlib.Core.List.{_++_, _∷_, List}
 use mathlib.Core.Logic.{_⊎_, inl, inr}
 use Prim.Native.Nat.{_≤_, ℕ}
 use native.Mathlib.Omega.{arith}
-use mathlib.Core.Option.{Option}
+use mathlib.Core.Option.{none, Option, some}
 use Rattle.lists.proofs.Tests.{eqb-self}
 use Rattle.deadlock.specs.Machine.{down, grant, heldBy, Item, Message, Rules}
 use Rattle.message.specs.Kind
 use Rattle.deadlock.specs.Counts.{cleansOf, countKind}
 use Rattle.deadlock.specs.Links.{}
 use Rattle.deadlock.specs.Walks.{LastApart, onward, Path, Walk}
-use Rattle.deadlock.specs.World.{CameTo, CleanGoesDown, CleanUnderWay, ClearEdge, CycleMate, Edge, HolderIs, Known, Links, Live, Passed, Queued, stageOf, ToldOf, VictimIn, WaitEdge, World}
-use Rattle.deadlock.specs.Lists.{bit}
+use Rattle.deadlock.specs.World.{CameTo, CleanGoesDown, CleanUnderWay, ClearEdge, CycleMate, Edge, FreeIsEmpty, HolderIs, Known, Links, Live, Passed, Queued, stageOf, ToldOf, VictimIn, WaitEdge, World}
+use Rattle.deadlock.specs.Lists.{bit, occurs}
 use Rattle.deadlock.proofs.Laws.Routes.{countKind-append}
 use Rattle.deadlock.proofs.Laws.Stages.{awaits-item, awaits-one, seen-facts, stage-facts}
 use Rattle.deadlock.proofs.Laws.Counts.{cleansOf-append, cleansOf-le, cleansOf-some}
@@ -43,6 +43,15 @@ module _ {R : Rules} {w : World} (lk : Links R w) where
 
   pub same-item-edge : (a b c : ℕ) (p : Edge R w a b) (q : Edge R w a c) → p .item ≡ q .item
   same-item-edge a b c p q = one-queue a (p .item) (q .item) (p .low) (p .high) (q .low) (q .high) (p .stands) (q .stands)
+
+  -- an item with somebody in its queue is held
+  pub queue-has-holder : (a x : ℕ) → Queued w a x → (h : ℕ) × HolderIs w x h
+  unfolding FreeIsEmpty occurs
+  queue-has-holder a x s = cases (w .item x .holder) refl
+    where
+      cases : (o : Option ℕ) → w .item x .holder ≡ o → (h : ℕ) × HolderIs w x h
+      cases none e = absurd (omega (arith, s, ap (occurs a) (lk .idle x e)))
+      cases (some h) e = (h, e)
 
   -- one request at most is on its way from a session to an item
   pub one-request-at : {t x : ℕ} {q : List Message} → 1 ≤ x → x ≤ R .M → w .up t x ≡ q → countKind Kind.request q ≤ 1
