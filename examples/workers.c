@@ -9,10 +9,11 @@
  *
  * One mutex guards the lock manager. Whoever makes a call holds it, drains the
  * mail and undoes what victims have edited before letting it go. So the mail is
- * empty at every call (rule 1 of the header), a session whose work is over can
- * be reopened at once, and nobody learns of a grant before the item is as it
- * should be. A worker that waits sleeps on a condition and looks at the stage of
- * its session. The items themselves are guarded by their locks alone.
+ * empty at every call (rule 1 of the header, under which each drain is proved to
+ * empty it again), a session whose work is over can be reopened at once, and
+ * nobody learns of a grant before the item is as it should be. A worker that
+ * waits sleeps on a condition and looks at the stage of its session. The items
+ * themselves are guarded by their locks alone.
  *
  * The exit status is 0 if no two sessions ever edited an item at once, the
  * catalogue has in the end exactly what was committed, and all sessions and

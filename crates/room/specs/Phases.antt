@@ -104,7 +104,9 @@ module _ (p : Snapshot) where
     pub holders : (x : ℕ) → (s .item x .holder ≡ p .state .item x .holder) ⊎ HandedOver s x
     -- whoever waits and is no member stores no more than before
     pub stores : (t : ℕ) → p .member t ≡ false → 1 ≤ isWaiting (s .session t .stage) → storedCount R (s .session t .stored) ≤ storedCount R (p .state .session t .stored)
+    -- every message is one of those that are allowed
     pub mail : Every Allowed (s .mailbox)
+    -- and together they weigh no more than the capacity
     pub light : mailWeight R p (s .mailbox) ≤ capacityBound (R .S) (R .M)
 
 -- ---- the phases together

@@ -30,6 +30,7 @@ module _ (p : Snapshot) where
   unfoldable pub remaining : ℕ → ℕ
   remaining u = cond (eqb u (p .victim)) 0 (p .far u)
 
+  -- this holder is a member
   abbrev pub heldByMember : Option ℕ → Bool
   heldByMember none = false
   heldByMember (some h) = p .member h

@@ -28,7 +28,7 @@ module _ (R : Rules) (p : Snapshot) where
   unfoldable pub releaseWeight : ℕ → ℕ
   releaseWeight y = 1 + queueWeight y + cond (eqb y (p .closing)) (R .S) 0
 
-  -- the releases of all that the victim holds
+  -- the releases of all that the victim holds, the closing item among them
   unfoldable pub releasesWeight : ℕ
   releasesWeight = sumUpTo (R .M) (λ y. cond (ofVictim p y) (1 + queueWeight y) 0) + R .S
 
@@ -62,5 +62,6 @@ module _ (R : Rules) (p : Snapshot) where
   abbrev pub entryWeight : Entry → ℕ
   entryWeight e = weight (e .toItem) (e .session) (e .item) (e .message)
 
+  -- the whole mailbox
   unfoldable pub mailWeight : List Entry → ℕ
   mailWeight l = mailSum entryWeight l
