@@ -1,4 +1,4 @@
--- What an item sends anew weighs no more than the weights of its queue say; and a clean that passes an item has that item no longer before it.
+-- What an item sends anew weighs no more than the weights of its queue say; and a clean that passes an item has that item no longer ahead.
 use mathlib.Core.Path.{_≡_, ap, refl}
 use mathlib.Core.Bool.{_&&_, _||_, Bool, cond, false, not, true}
 use mathlib.Core.List.{List}
@@ -103,7 +103,7 @@ module _ (R : Rules) (L : Laws R) (p : Snapshot) (k : Sound R p) (x : ℕ) (lo :
     unfolding holderAt
     holder-here = ap holderOr0 held
 
-    -- past item x: it is before a clean from t, and not before one to its holder
+    -- past item x: it is ahead of a clean from t, and not ahead of one to its holder
     here-before : aheadUp p t x ≡ true
     unfolding aheadUp
     here-before = lt-ltb (remaining p (holderAt p x)) (p .far t) (rw holder-here (omega (arith, near)))
