@@ -8,7 +8,7 @@ use native.Mathlib.Omega.{arith}
 use lib.Dec.{eqb}
 use lib.ListN.{length, getD}
 use borrow.Author.Tests.{eqb-true, eqb-false, ne-eqb}
-use Rattle.lists.specs.Lists.{between, member, distinct, all, filter, removeAt}
+use Rattle.lists.specs.Lists.{between, member, distinct, allOf, filter, removeAt}
 use Rattle.lists.proofs.Laws.{all-getD}
 use Rattle.lists.proofs.Tests.{by-answer, cond-agrees, within}
 use Rattle.message.specs.Kind
@@ -110,7 +110,7 @@ module _ (senior : ℕ → ℕ → Bool) (S M : ℕ) (next : List ℕ → ℕ) w
     unfolding ItemRules.handedOver readSends readMessage
     handed-over n q rest l e = rw (readHolder-some n l, anew-agrees n rest rest, e) refl
 
-    vacated-agrees : (q : List ℕ) → all (between 1 S) q ≡ true → distinct q ≡ true → (0 < length q → next q < length q)
+    vacated-agrees : (q : List ℕ) → allOf (between 1 S) q ≡ true → distinct q ≡ true → (0 < length q → next q < length q)
         → readItemStep (ItemRules.vacated senior next q) ≡ Machine.handOver R q
     unfolding ItemRules.vacated Machine.handOver readHolder readSends
     vacated-agrees [] w d h = refl
@@ -120,7 +120,7 @@ module _ (senior : ℕ → ℕ → Bool) (S M : ℕ) (next : List ℕ → ℕ) w
         let n = getD l (next l) 0 in
         handed-over n l (removeAt (next l) l) (within 1 S n (all-getD (between 1 S) l (next l) 0 w inside) .0) (ReadingLists.removeAt-without l (next l) d inside)
 
-    on-release : all (between 1 S) (k .queue) ≡ true → distinct (k .queue) ≡ true → (0 < length (k .queue) → next (k .queue) < length (k .queue)) → Agrees Kind.release
+    on-release : allOf (between 1 S) (k .queue) ≡ true → distinct (k .queue) ≡ true → (0 < length (k .queue) → next (k .queue) < length (k .queue)) → Agrees Kind.release
     unfolding received itemReceives readMessage ItemRules.onRelease Machine.onRelease readSends
     on-release w d h =
         cond-agrees readItemStep (eqb (k .holder) t) _ (heldBy-agrees (k .holder) t t-low) (λ e. vacated-agrees (k .queue) w d h) (λ e. refl)

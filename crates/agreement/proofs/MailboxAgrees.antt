@@ -6,7 +6,7 @@ use mathlib.Core.List.{List, [], _∷_, _++_, map}
 use Prim.Native.Nat.{ℕ, suc}
 use lib.Dec.{eqb, eqb·zero-suc, eqb·suc-suc}
 use lib.ListN.{length, getD}
-use Rattle.lists.specs.Lists.{all, findIndex, removeAt}
+use Rattle.lists.specs.Lists.{allOf, findIndex, removeAt}
 use Rattle.lists.proofs.Tests.{and-both, eqb-sym}
 use Rattle.message.specs.declared.Message.{Message}
 use Rattle.mailbox.specs.Entry as Entry
@@ -55,12 +55,12 @@ takenAt k l =
     (Machine.taken (readMessage (getD l k unused .kind) (getD l k unused .a) (getD l k unused .b)) (readEntries (removeAt k l)))
 
 module _ (S M : ℕ) where
-  pub take-agrees : (d : Bool) (t x : ℕ) (l : List Entry) → all (Entry.wellFormed S M) l ≡ true
-      → Machine.take d t x (readEntries l) ≡ takenAt (earliest (directionOf d) t x l) l
-  unfolding Machine.take Machine.putBack readEntries takenAt findIndex removeAt all
+  pub take-agrees : (d : Bool) (t x : ℕ) (l : List Entry) → allOf (Entry.wellFormed S M) l ≡ true
+      → Machine.takeFirst d t x (readEntries l) ≡ takenAt (earliest (directionOf d) t x l) l
+  unfolding Machine.takeFirst Machine.putBack readEntries takenAt findIndex removeAt allOf
   take-agrees d t x [] w = refl
   take-agrees d t x (e ∷ l) w =
-      let h = and-both (Entry.wellFormed S M e) (all (Entry.wellFormed S M) l) w in
+      let h = and-both (Entry.wellFormed S M e) (allOf (Entry.wellFormed S M) l) w in
       let same = route-agrees d t x e (entry-facts S M e (h .0) .kinds .direction) in
       rw (← same) (go (onRoute (directionOf d) t x e) (findIndex (onRoute (directionOf d) t x) l) (take-agrees d t x l (h .1)))
     where
@@ -69,7 +69,7 @@ module _ (S M : ℕ) where
       again true m r = refl
       again false m r = refl
 
-      go : (b : Bool) (k : ℕ) → Machine.take d t x (readEntries l) ≡ takenAt k l
-          → cond b (Machine.taken (readMessage (e .kind) (e .a) (e .b)) (readEntries l)) (Machine.putBack (readEntry e) (Machine.take d t x (readEntries l))) ≡ takenAt (cond b 0 (suc k)) (e ∷ l)
+      go : (b : Bool) (k : ℕ) → Machine.takeFirst d t x (readEntries l) ≡ takenAt k l
+          → cond b (Machine.taken (readMessage (e .kind) (e .a) (e .b)) (readEntries l)) (Machine.putBack (readEntry e) (Machine.takeFirst d t x (readEntries l))) ≡ takenAt (cond b 0 (suc k)) (e ∷ l)
       go true k ih = rw (eqb·zero-suc (length l)) refl
       go false k ih = rw (ih, eqb·suc-suc k (length l)) (again (eqb k (length l)) _ _)

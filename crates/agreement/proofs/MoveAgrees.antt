@@ -8,7 +8,7 @@ use native.Mathlib.Omega.{arith}
 use lib.Dec.{eqb}
 use lib.ListN.{length, getD}
 use borrow.Author.Tests.{eqb-true, eqb-false}
-use Rattle.lists.specs.Lists.{between, all, removeAt}
+use Rattle.lists.specs.Lists.{between, allOf, removeAt}
 use Rattle.lists.proofs.Laws.{all-getD, all-join, all-map, all-removeAt, findIndex-found, findIndex-length}
 use Rattle.lists.proofs.Tests.{and-both, within}
 use Rattle.bitset.specs.Bitset.{has}
@@ -88,7 +88,7 @@ pub record StateWellFormed (S M : ℕ) (sessions : ℕ → Session) (locks : ℕ
   pub session : (t : ℕ) → between 1 S t ≡ true → SessionRecord.wellFormed S M (sessions t) ≡ true
   pub juniors : (t : ℕ) → between 1 S t ≡ true → length (sessions t .juniors) ≡ 64
   pub lock : (x : ℕ) → between 1 M x ≡ true → LockWellFormed S (locks x)
-  pub entries : all (Entry.wellFormed S M) l ≡ true
+  pub entries : allOf (Entry.wellFormed S M) l ≡ true
 
 -- session t of the machine
 pub session-at : (S : ℕ) (sessions : ℕ → Session) (t : ℕ) → between 1 S t ≡ true → readSessions S sessions t ≡ readSession (sessions t)
@@ -103,7 +103,7 @@ module _ (S M : ℕ) (sessions : ℕ → Session) (locks : ℕ → Lock) (l : Li
   unfolding Machine.afterSession
   session-state rest r g h = rw (sessions-replaced S sessions g t (r .session) t-range h, readEntries-append rest (map (fromSession t) (r .sends)), from-session t (r .sends)) refl
 
-  pub session-state-kept : (rest : List Entry) → all (Entry.wellFormed S M) rest ≡ true → (r : SessionRules.After) → SessionKept S M t r → (g : ℕ → Session) → Replaced S sessions g t (r .session)
+  pub session-state-kept : (rest : List Entry) → allOf (Entry.wellFormed S M) rest ≡ true → (r : SessionRules.After) → SessionKept S M t r → (g : ℕ → Session) → Replaced S sessions g t (r .session)
       → StateWellFormed S M g locks (rest ++ map (fromSession t) (r .sends))
   session-state-kept rest e r k g h = record {
     session = λ j f. at j f (eqb t j) refl .0;
@@ -132,7 +132,7 @@ module _ (senior : ℕ → ℕ → Bool) (next : List ℕ → ℕ) (S M : ℕ) (
   unfolding Machine.afterItem
   item-state rest r g h = rw (items-replaced M locks g x (r .lock) x-range h, readEntries-append rest (map (fromItem x) (r .sends)), from-item x (r .sends)) refl
 
-  item-state-kept : (rest : List Entry) → all (Entry.wellFormed S M) rest ≡ true → (r : ItemRules.After) → ItemKept S M x r → (g : ℕ → Lock) → Replaced M locks g x (r .lock)
+  item-state-kept : (rest : List Entry) → allOf (Entry.wellFormed S M) rest ≡ true → (r : ItemRules.After) → ItemKept S M x r → (g : ℕ → Lock) → Replaced M locks g x (r .lock)
       → StateWellFormed S M sessions g (rest ++ map (fromItem x) (r .sends))
   item-state-kept rest e r k g h = record {
     session = w .session;
@@ -200,10 +200,10 @@ module _ (senior : ℕ → ℕ → Bool) (next : List ℕ → ℕ) (S M : ℕ) (
     entry-item : entryOf t x l d .item ≡ x
     entry-item = eqb-true (entryOf t x l d .item) x (and-both (eqb (entryOf t x l d .direction) (directionOf d) && eqb (entryOf t x l d .session) t) (eqb (entryOf t x l d .item) x) on-route .1)
 
-    others-formed : all (Entry.wellFormed S M) (othersOf t x l d) ≡ true
+    others-formed : allOf (Entry.wellFormed S M) (othersOf t x l d) ≡ true
     others-formed = all-removeAt (Entry.wellFormed S M) (placeOf t x l d) l (w .entries)
 
-    pub taken-eq : Machine.take d t x (readEntries l) ≡ Machine.taken (readMessage (entryOf t x l d .kind) (entryOf t x l d .a) (entryOf t x l d .b)) (readEntries (othersOf t x l d))
+    pub taken-eq : Machine.takeFirst d t x (readEntries l) ≡ Machine.taken (readMessage (entryOf t x l d .kind) (entryOf t x l d .a) (entryOf t x l d .b)) (readEntries (othersOf t x l d))
     unfolding takenAt
     taken-eq = take-agrees S M d t x l (w .entries) ∙ rw (found) refl
 

@@ -11,7 +11,7 @@ use lib.ListN.{length, getD, set, drop, replicate}
 use lib.Seq.{getD-set-same, getD-set-other, getD-drop}
 use borrow.Author.Tests.{eqb-true, eqb-false, ne-eqb}
 use Rattle.lists.specs.Lists as Product
-use Rattle.lists.specs.Lists.{between, all}
+use Rattle.lists.specs.Lists.{between, allOf}
 use Rattle.lists.proofs.Laws.{zeros-getD}
 use Rattle.lists.proofs.Tests.{and-agrees, between-intro, within, cond-same}
 use Rattle.bitset.specs.Bitset.{has, insert, remove}
@@ -136,7 +136,7 @@ module _ (f : ℕ → ℕ) (x : ℕ) where
   probes-none zero k h = refl
   probes-none (suc n) k h = rw (h k (omega arith)) (probes-none n (suc k) (λ j l. h j (omega arith)))
 
-module _ (S : ℕ) (js : List ℕ) (few : S ≤ 64) (len : length js ≡ 64) (zeros : all (λ j. eqb j 0) (drop S js) ≡ true) where
+module _ (S : ℕ) (js : List ℕ) (few : S ≤ 64) (len : length js ≡ 64) (zeros : allOf (λ j. eqb j 0) (drop S js) ≡ true) where
   stored-above : (i : ℕ) → 1 + S ≤ i → readStored js i ≡ 0
   unfolding readStored
   stored-above i l =

@@ -5,7 +5,7 @@ use mathlib.Core.List.{List, [], _∷_, _++_, map}
 use Prim.Native.Nat.{ℕ, _≤_}
 use lib.Dec.{eqb}
 use borrow.Author.Tests.{eqb-true, eqb-false, ne-eqb, not-true}
-use Rattle.lists.specs.Lists.{between, all, every, member}
+use Rattle.lists.specs.Lists.{between, allOf, every, member}
 use Rattle.lists.proofs.Laws.{all-none}
 use Rattle.lists.proofs.Searches.{every-intro}
 use Rattle.lists.proofs.Tests.{and-both, and-intro, between-intro, by-test, or-neither}
@@ -36,11 +36,11 @@ over-read s h = go (eqb (s .stage) Stage.rolledBack) refl h
         let shrinks = and-both (eqb (s .stage) Stage.shrinking) (eqb (s .held) 0) (sym (or-false (eqb (s .stage) Stage.shrinking && eqb (s .held) 0)) ∙ h) .0 in
         rw (eqb-true (s .stage) Stage.shrinking shrinks) refl
 
-entries-read : (t : ℕ) (l : List Entry) → noEntryNames t l ≡ true → all (λ (e : Machine.Entry). not (Machine.ofSession t e)) (readEntries l) ≡ true
-unfolding all readEntries noEntryNames entryNames Machine.ofSession
+entries-read : (t : ℕ) (l : List Entry) → noEntryNames t l ≡ true → allOf (λ (e : Machine.Entry). not (Machine.ofSession t e)) (readEntries l) ≡ true
+unfolding allOf readEntries noEntryNames entryNames Machine.ofSession
 entries-read t [] h = refl
 entries-read t (e ∷ l) h =
-    let p = and-both (not (entryNames t e)) (all (λ e. not (entryNames t e)) l) h in
+    let p = and-both (not (entryNames t e)) (allOf (λ e. not (entryNames t e)) l) h in
     let other = or-neither (eqb (e .session) t) _ (not-true _ (p .0)) .0 in
     and-intro (ap not (ne-eqb t (e .session) (λ q. eqb-false (e .session) t other (sym q)))) (entries-read t l (p .1))
 

@@ -7,7 +7,7 @@ use native.Mathlib.Omega.{arith}
 use lib.Dec.{eqb}
 use lib.ListN.{length, drop}
 use borrow.Author.Tests.{eqb-true}
-use Rattle.lists.specs.Lists.{all}
+use Rattle.lists.specs.Lists.{allOf}
 use Rattle.lists.proofs.Tests.{between-intro, cond-agrees, eqb-sym}
 use Rattle.bitset.specs.Bitset.{has}
 use Rattle.message.specs.Kind
@@ -44,7 +44,7 @@ step-eq : {g : Machine.Stage} {h k : ℕ → Bool} {p q : ℕ → ℕ} {m n : Ma
 step-eq {g} e f d = λ i. record { after = record { stage = g; held = e i; stored = f i }; sends = d i }
 
 module _ (senior : ℕ → ℕ → Bool) (next : List ℕ → ℕ) (S M : ℕ) (few-sessions : S ≤ 64) (few-items : M ≤ 64) (y mask : ℕ) (js : List ℕ)
-    (low : mask < 2 ^ M) (len : length js ≡ 64) (zeros : all (λ j. eqb j 0) (drop S js) ≡ true) where
+    (low : mask < 2 ^ M) (len : length js ≡ 64) (zeros : allOf (λ j. eqb j 0) (drop S js) ≡ true) where
   abbrev R : Machine.Rules
   R = rules S M senior next
 

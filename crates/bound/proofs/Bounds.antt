@@ -6,7 +6,7 @@ use native.Mathlib.Omega.{arith}
 use native.Mathlib.Nat.{mul-le-mul-left}
 use lib.Dec.{eqb}
 use lib.ListN.{length}
-use Rattle.lists.specs.Lists.{count}
+use Rattle.lists.specs.Lists.{countUpTo}
 use Rattle.lists.proofs.Searches.{count-le, lowest-le}
 use Rattle.lists.proofs.Tests.{by-test}
 use Rattle.deadlock.specs.Machine.{abort, clean, down, Downward, Entry, grant, growing, isNews, Message, probe, rebroadcast, release, releasing, request, resend, Rules, Session, Stage, State, up, Upward, victim, waiting, withdraw, withdrawn}
@@ -19,7 +19,7 @@ module _ (R : Rules) where
   -- ---- sessions
   pub store-le : (f : ℕ → ℕ) → storeWeight R f ≤ storeCost (R .S)
   unfolding storeWeight storeCost
-  store-le f = sum-le (R .S) (2 * R .S) (λ i. 2 * count (R .S) (isNews R f i)) (λ i. omega (arith, count-le (R .S) (isNews R f i)))
+  store-le f = sum-le (R .S) (2 * R .S) (λ i. 2 * countUpTo (R .S) (isNews R f i)) (λ i. omega (arith, count-le (R .S) (isNews R f i)))
 
   stage-le : (a : Stage) → stageWeight R a ≤ waitCost (R .S) (R .M)
   unfolding waitCost

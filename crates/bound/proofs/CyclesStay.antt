@@ -8,7 +8,7 @@ use native.Mathlib.Omega.{arith}
 use Rattle.lists.specs.Lists.{member}
 use Rattle.lists.proofs.Tests.{by-test}
 use Rattle.deadlock.specs.Lists.{occurs}
-use Rattle.deadlock.specs.Machine.{abort, afterItem, clean, down, Entry, grantOrQueue, handOver, heldBy, itemDrops, itemReceives, ItemStep, Laws, Message, onRelease, onRequest, probe, rebroadcast, release, request, Rules, State, take, taken, up, withdraw, withdrawn}
+use Rattle.deadlock.specs.Machine.{abort, afterItem, clean, down, Entry, grantOrQueue, handOver, heldBy, itemDrops, itemReceives, ItemStep, Laws, Message, onRelease, onRequest, probe, rebroadcast, release, request, Rules, State, takeFirst, taken, up, withdraw, withdrawn}
 use Rattle.deadlock.specs.World.{Known}
 use Rattle.deadlock.specs.Invariant.{Invariant, mailOf, worldOf}
 use Rattle.deadlock.proofs.Laws.Lists.{occurs-without-le, updated-unchanged}
@@ -25,7 +25,7 @@ module _ (R : Rules) (L : Laws R) (s : State) (k : Invariant R s) (t x : ℕ) (l
   abbrev Stay : ItemStep → Type 0
   Stay o = CyclesStay R s (afterItem s x l o)
 
-  takes : (m : Message) → take true t x (s .mailbox) ≡ taken m l → (o : ItemStep) → ItemTakes (worldOf s) t x m (o .sends) (mailOf (afterItem s x l o))
+  takes : (m : Message) → takeFirst true t x (s .mailbox) ≡ taken m l → (o : ItemStep) → ItemTakes (worldOf s) t x m (o .sends) (mailOf (afterItem s x l o))
   takes m e o = item-takes R L s (k .core) t x m l e o
 
   -- the item stays as it was
@@ -33,7 +33,7 @@ module _ (R : Rules) (L : Laws R) (s : State) (k : Invariant R s) (t x : ℕ) (l
   unfolding afterItem
   unchanged o e v c u b w d = rw (e, updated-unchanged (s .item) x (d .item)) (d .stands, d .held)
 
-  requested : take true t x (s .mailbox) ≡ taken (up request) l → (h : Option ℕ) → s .item x .holder ≡ h → Stay (grantOrQueue R t (s .item x .queue) h)
+  requested : takeFirst true t x (s .mailbox) ≡ taken (up request) l → (h : Option ℕ) → s .item x .holder ≡ h → Stay (grantOrQueue R t (s .item x .queue) h)
   unfolding grantOrQueue afterItem
   requested e none free v c =
       let ar = takes (up request) e (grantOrQueue R t (s .item x .queue) none) in
@@ -42,7 +42,7 @@ module _ (R : Rules) (L : Laws R) (s : State) (k : Invariant R s) (t x : ℕ) (l
       let ar = takes (up request) e (grantOrQueue R t (s .item x .queue) (some h)) in
       queued-stays L knownNow t x lo hi _ _ (ar .head) h held ar v (cycle-of R L s k v c) .edge-stays
 
-  handed-over : take true t x (s .mailbox) ≡ taken (up release) l → (q : List ℕ) → s .item x .queue ≡ q → Stay (handOver R q)
+  handed-over : takeFirst true t x (s .mailbox) ≡ taken (up release) l → (q : List ℕ) → s .item x .queue ≡ q → Stay (handOver R q)
   unfolding handOver afterItem occurs
   handed-over e [] p v c =
       let o = handOver R [] in
@@ -54,14 +54,14 @@ module _ (R : Rules) (L : Laws R) (s : State) (k : Invariant R s) (t x : ℕ) (l
       released-stays L knownNow t x lo hi _ _ (ar .head) (o .after) (λ a. omega (arith, occurs-without-le a (R .next j js) (j ∷ js), ap (occurs a) p)) ar v
       (cycle-of R L s k v c) .edge-stays
 
-  withdrew : take true t x (s .mailbox) ≡ taken (up withdraw) l → Stay (itemReceives R t (s .item x) (up withdraw))
+  withdrew : takeFirst true t x (s .mailbox) ≡ taken (up withdraw) l → Stay (itemReceives R t (s .item x) (up withdraw))
   unfolding itemReceives afterItem
   withdrew e v c =
       let o = itemReceives R t (s .item x) (up withdraw) in
       let ar : ItemTakes (worldOf s) t x (up withdraw) ((t, down withdrawn) ∷ []) (mailOf (afterItem s x l o)) = takes (up withdraw) e o in
       withdraw-stays-clean L knownNow lo hi ar v c .edge-stays
 
-  pub item-stays : (m : Message) → take true t x (s .mailbox) ≡ taken m l → Stay (itemReceives R t (s .item x) m)
+  pub item-stays : (m : Message) → takeFirst true t x (s .mailbox) ≡ taken m l → Stay (itemReceives R t (s .item x) m)
   unfolding itemReceives onRequest onRelease
   item-stays (up request) e =
       by-test Stay (heldBy (s .item x .holder) t || member t (s .item x .queue)) (λ _. unchanged (itemDrops (s .item x)) refl) (λ _. requested e (s .item x .holder) refl)

@@ -4,7 +4,7 @@ use mathlib.Core.Bool.{Bool, cond, false, true}
 use mathlib.Core.List.{[], _++_, _∷_, List}
 use Prim.Native.Nat.{_+_, ℕ}
 use native.Mathlib.Omega.{arith}
-use Rattle.deadlock.specs.Machine.{Entry, fromItem, fromSession, isOnRoute, Message, noEntry, putBack, Sends, take, Taken, taken}
+use Rattle.deadlock.specs.Machine.{Entry, fromItem, fromSession, isOnRoute, Message, noEntry, putBack, Sends, takeFirst, Taken, taken}
 use Rattle.deadlock.proofs.Laws.Entries.{entry, entry-is}
 use Rattle.bound.specs.Potential.{mailSum}
 use Rattle.bound.proofs.Sent.{sentWeight}
@@ -27,13 +27,13 @@ module _ (f : Entry → ℕ) where
 
   module _ (d : Bool) (t x : ℕ) where
     -- what is taken had its part
-    pub sum-take : (l : List Entry) (m : Message) (r : List Entry) → take d t x l ≡ taken m r → mailSum f l ≡ f (entry d t x m) + mailSum f r
-    unfolding mailSum take putBack
+    pub sum-take : (l : List Entry) (m : Message) (r : List Entry) → takeFirst d t x l ≡ taken m r → mailSum f l ≡ f (entry d t x m) + mailSum f r
+    unfolding mailSum takeFirst putBack
     sum-take [] m r e = cc
-    sum-take (a ∷ l) m r e = cases (isOnRoute d t x a) refl (take d t x l) refl (sum-take l) e
+    sum-take (a ∷ l) m r e = cases (isOnRoute d t x a) refl (takeFirst d t x l) refl (sum-take l) e
       where
-        cases : (b : Bool) → isOnRoute d t x a ≡ b → (o : Taken) → take d t x l ≡ o
-            → ((m : Message) (r : List Entry) → take d t x l ≡ taken m r → mailSum f l ≡ f (entry d t x m) + mailSum f r)
+        cases : (b : Bool) → isOnRoute d t x a ≡ b → (o : Taken) → takeFirst d t x l ≡ o
+            → ((m : Message) (r : List Entry) → takeFirst d t x l ≡ taken m r → mailSum f l ≡ f (entry d t x m) + mailSum f r)
             → cond b (taken (a .message) l) (putBack a o) ≡ taken m r
             → f a + mailSum f l ≡ f (entry d t x m) + mailSum f r
         cases true h o q ih e =
@@ -47,11 +47,11 @@ module _ (f : Entry → ℕ) where
             omega (arith, ih m′ r′ q, ap (λ (n : Message). f (entry d t x n)) z, ap (mailSum f) y)
 
   -- a message at a session
-  pub sum-session : (t x : ℕ) (l : List Entry) (m : Message) (r : List Entry) (o : Sends) → take false t x l ≡ taken m r
+  pub sum-session : (t x : ℕ) (l : List Entry) (m : Message) (r : List Entry) (o : Sends) → takeFirst false t x l ≡ taken m r
       → mailSum f (r ++ fromSession t o) + f (entry false t x m) ≡ mailSum f l + sentWeight (λ y a. f (entry true t y a)) o
   sum-session t x l m r o e = omega (arith, sum-append r (fromSession t o), sum-fromSession t o, sum-take false t x l m r e)
 
   -- a message at an item
-  pub sum-item : (t x : ℕ) (l : List Entry) (m : Message) (r : List Entry) (o : Sends) → take true t x l ≡ taken m r
+  pub sum-item : (t x : ℕ) (l : List Entry) (m : Message) (r : List Entry) (o : Sends) → takeFirst true t x l ≡ taken m r
       → mailSum f (r ++ fromItem x o) + f (entry true t x m) ≡ mailSum f l + sentWeight (λ u a. f (entry false u x a)) o
   sum-item t x l m r o e = omega (arith, sum-append r (fromItem x o), sum-fromItem x o, sum-take true t x l m r e)

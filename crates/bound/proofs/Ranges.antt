@@ -7,7 +7,7 @@ use native.Mathlib.Omega.{arith}
 use borrow.Author.Tests.{ne-eqb}
 use Rattle.lists.proofs.Tests.{by-test, same?}
 use Rattle.deadlock.specs.Lists.{bit, occurs}
-use Rattle.deadlock.specs.Machine.{Entry, junior, probe, route, Rules, State, take, taken}
+use Rattle.deadlock.specs.Machine.{Entry, junior, probe, route, Rules, State, takeFirst, taken}
 use Rattle.deadlock.specs.Counts.{EachBehind}
 use Rattle.deadlock.specs.World.{CameTo, Live, MustAvoidDown, TellsDown}
 use Rattle.deadlock.specs.Invariant.{downRoute, Invariant, worldOf}
@@ -16,7 +16,7 @@ use Rattle.deadlock.proofs.Laws.Routes.{take-same}
 use Rattle.deadlock.proofs.Laws.Walks.{first-edge-of, path-has-start, path-walk-from}
 
 module _ (R : Rules) (s : State) (k : Invariant R s)
-    (t x i j : ℕ) (l : List Entry) (e : take false t x (s .mailbox) ≡ taken (probe i j) l) (live : Live (worldOf s) t) where
+    (t x i j : ℕ) (l : List Entry) (e : takeFirst false t x (s .mailbox) ≡ taken (probe i j) l) (live : Live (worldOf s) t) where
   abbrev Range : ℕ → Type 0
   Range a = (1 ≤ a) × (a ≤ R .S)
 

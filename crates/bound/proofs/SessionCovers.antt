@@ -9,7 +9,7 @@ use lib.Dec.{eqb}
 use borrow.Author.Tests.{ne-eqb}
 use Rattle.lists.proofs.Tests.{by-test, eqb-self}
 use Rattle.deadlock.specs.Lists.{bit, oneTo}
-use Rattle.deadlock.specs.Machine.{abort, clean, cleaning, cleared, down, Entry, grant, growing, isLive, isNews, junior, Laws, Message, onAbort, onClean, onGrant, onProbe, onResend, onWithdrawn, probe, rebroadcast, rebroadcasts, release, releasing, resend, Rules, Sends, Session, sessionDrops, sessionReceives, SessionStep, Stage, State, storedProbes, storeProbe, take, taken, toAwaited, toEach, up, victim, waiting, withdrawing, withdrawn}
+use Rattle.deadlock.specs.Machine.{abort, clean, cleaning, cleared, down, Entry, grant, growing, isLive, isNews, junior, Laws, Message, onAbort, onClean, onGrant, onProbe, onResend, onWithdrawn, probe, rebroadcast, rebroadcasts, release, releasing, resend, Rules, Sends, Session, sessionDrops, sessionReceives, SessionStep, Stage, State, storedProbes, storeProbe, takeFirst, taken, toAwaited, toEach, up, victim, waiting, withdrawing, withdrawn}
 use Rattle.deadlock.specs.Counts.{cleansOf}
 use Rattle.deadlock.specs.World.{CleanUnderWay, isCleaning}
 use Rattle.deadlock.specs.Invariant.{downRoute, Invariant, worldOf}
@@ -70,7 +70,7 @@ module _ (R : Rules) (L : Laws R) (s : State) (k : Invariant R s) (t x : ℕ) (l
   awaited-le i j (victim p y) = omega arith
   awaited-le i j (releasing p) = omega arith
 
-  probed : (i j : ℕ) → take false t x (s .mailbox) ≡ taken (probe i j) l → SessionCovered (probe i j) (onProbe R t own i j (own .stage))
+  probed : (i j : ℕ) → takeFirst false t x (s .mailbox) ≡ taken (probe i j) l → SessionCovered (probe i j) (onProbe R t own i j (own .stage))
   unfolding onProbe storeProbe sessionWeight weight
   probed i j e =
       by-test (SessionCovered (probe i j)) (isLive (own .stage))
@@ -100,7 +100,7 @@ module _ (R : Rules) (L : Laws R) (s : State) (k : Invariant R s) (t x : ℕ) (l
   aborted v i (victim p y) e = dropped (abort v i)
   aborted v i (releasing p) e = dropped (abort v i)
 
-  module _ (v i : ℕ) (e : take false t x (s .mailbox) ≡ taken (clean v i) l) where
+  module _ (v i : ℕ) (e : takeFirst false t x (s .mailbox) ≡ taken (clean v i) l) where
     clean-of-victim : CleanUnderWay (worldOf s) v
     unfolding downRoute cleansOf
     clean-of-victim = victim-of-down (known-of R L s (k .core)) v t x (omega (arith, ap (cleansOf v) (take-same false t x (s .mailbox) (clean v i) l e), ap bit (eqb-self v)))
@@ -136,7 +136,7 @@ module _ (R : Rules) (L : Laws R) (s : State) (k : Invariant R s) (t x : ℕ) (l
   rolled-back (victim withdrawing y) e = omega (arith, ap (stageWeight R) e, each-item (up release) refl (own .held))
   rolled-back (releasing p) e = dropped (down withdrawn)
 
-  pub session-covers : (m : Message) → take false t x (s .mailbox) ≡ taken m l → SessionCovered m (sessionReceives R t x own m)
+  pub session-covers : (m : Message) → takeFirst false t x (s .mailbox) ≡ taken m l → SessionCovered m (sessionReceives R t x own m)
   unfolding sessionReceives
   session-covers (up m) e = dropped (up m)
   session-covers (down grant) e = granted (own .stage) refl

@@ -5,7 +5,7 @@ use Prim.Native.Nat.{_*_, _+_, _≤_, ℕ}
 use native.Mathlib.Omega.{arith}
 use lib.Dec.{eqb}
 use borrow.Author.Tests.{ne-eqb}
-use Rattle.lists.specs.Lists.{count}
+use Rattle.lists.specs.Lists.{countUpTo}
 use Rattle.lists.proofs.Searches.{sum-changed}
 use Rattle.deadlock.specs.Lists.{updated}
 use Rattle.deadlock.specs.Machine.{isNews, Laws, Rules}
@@ -29,7 +29,7 @@ module _ {R : Rules} (L : Laws R) where
       → storeWeight R (updated f i j) + 2 ≤ storeWeight R f
   unfolding storeWeight isNews
   store-falls f i j ri rj news =
-      let n : ℕ → ℕ = λ a. 2 * count (R .S) (newsAfter a) in
+      let n : ℕ → ℕ = λ a. 2 * countUpTo (R .S) (newsAfter a) in
       let some : eqb j 0 ≡ false = ne-eqb j 0 (λ z. absurd (omega (arith, rj .0))) in
       omega (
         arith,

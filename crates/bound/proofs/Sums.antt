@@ -7,7 +7,7 @@ use native.Mathlib.Omega.{arith}
 use lib.Dec.{eqb}
 use lib.ListN.{getD, length, length-append}
 use borrow.Author.Tests.{ne-eqb}
-use Rattle.lists.specs.Lists.{between, count, distinct, member, sumUpTo}
+use Rattle.lists.specs.Lists.{between, countUpTo, distinct, member, sumUpTo}
 use Rattle.lists.proofs.Laws.{all-intro, getD-member}
 use Rattle.lists.proofs.Searches.{count-one-more, distinct-length}
 use Rattle.lists.proofs.Tests.{and-intro, between-intro, by-test, eqb-self, fails}
@@ -23,15 +23,15 @@ sum-le (suc n) c f h = omega (arith, h (suc n), sum-le n c f h)
 
 -- ---- counts
 -- whatever passes the one test passes the other
-count-more : (n : ℕ) (p q : ℕ → Bool) → ((j : ℕ) → p j ≡ true → q j ≡ true) → count n p ≤ count n q
-unfolding count
+count-more : (n : ℕ) (p q : ℕ → Bool) → ((j : ℕ) → p j ≡ true → q j ≡ true) → countUpTo n p ≤ countUpTo n q
+unfolding countUpTo
 count-more zero p q h = omega arith
 count-more (suc n) p q h =
-    by-test (λ (a : ℕ). a ≤ count (suc n) q) (p (suc n)) (λ e. rw (h (suc n) e) (omega (arith, count-more n p q h)))
-    (λ _. by-test (λ (a : ℕ). count n p ≤ a) (q (suc n)) (λ _. omega (arith, count-more n p q h)) (λ _. count-more n p q h))
+    by-test (λ (a : ℕ). a ≤ countUpTo (suc n) q) (p (suc n)) (λ e. rw (h (suc n) e) (omega (arith, count-more n p q h)))
+    (λ _. by-test (λ (a : ℕ). countUpTo n p ≤ a) (q (suc n)) (λ _. omega (arith, count-more n p q h)) (λ _. count-more n p q h))
 
 -- and k passes only that
-pub count-less : (n : ℕ) (p q : ℕ → Bool) (k : ℕ) → 1 ≤ k → k ≤ n → p k ≡ false → q k ≡ true → ((j : ℕ) → p j ≡ true → q j ≡ true) → count n p + 1 ≤ count n q
+pub count-less : (n : ℕ) (p q : ℕ → Bool) (k : ℕ) → 1 ≤ k → k ≤ n → p k ≡ false → q k ≡ true → ((j : ℕ) → p j ≡ true → q j ≡ true) → countUpTo n p + 1 ≤ countUpTo n q
 count-less n p q k lo hi f g h =
     let r : ℕ → Bool = λ j. q j && not (eqb j k) in
     omega (

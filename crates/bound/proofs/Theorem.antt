@@ -9,7 +9,7 @@ use lib.ListN.{length}
 use Rattle.lists.proofs.Searches.{sum-changed}
 use Rattle.lists.proofs.Tests.{eqb-self}
 use Rattle.deadlock.specs.Lists.{bit, updated}
-use Rattle.deadlock.specs.Machine.{afterItem, afterSession, clean, deliverToItem, deliverToSession, Entry, itemReceives, itemTakes, Laws, Message, move, noEntry, ofMachine, releaseCall, reopen, requestCall, route, Rules, Session, sessionReceives, sessionTakes, State, take, Taken, taken, waitsFor}
+use Rattle.deadlock.specs.Machine.{afterItem, afterSession, clean, deliverToItem, deliverToSession, Entry, itemReceives, itemTakes, Laws, Message, move, noEntry, ofMachine, releaseCall, reopen, requestCall, route, Rules, Session, sessionReceives, sessionTakes, State, takeFirst, Taken, taken, waitsFor}
 use Rattle.deadlock.specs.Counts.{cleansOf}
 use Rattle.deadlock.specs.Invariant.{Invariant, upRoute}
 use Rattle.deadlock.proofs.Laws.Lists.{updated-other, updated-same}
@@ -35,7 +35,7 @@ module _ (R : Rules) (L : Laws R) (s : State) (k : Invariant R s) (t x : ℕ) (l
   queue-short = length-le (R .S) (s .item x .queue) (λ a. let f = k .core .links .linked a x lo hi in omega (arith, seen-facts (s .session a .stage) x)) (k .in-range x .queue)
 
   -- ---- a message at an item
-  module _ (m : Message) (l : List Entry) (e : take true t x (s .mailbox) ≡ taken m l) where
+  module _ (m : Message) (l : List Entry) (e : takeFirst true t x (s .mailbox) ≡ taken m l) where
     abbrev after : State
     after = afterItem s x l (itemReceives R t (s .item x) m)
 
@@ -72,14 +72,14 @@ module _ (R : Rules) (L : Laws R) (s : State) (k : Invariant R s) (t x : ℕ) (l
         item-covers R (distanceIn R after) t (s .item x) queue-short m clean-goes-on,
       )
 
-  item-delivery : (p : Taken) → take true t x (s .mailbox) ≡ p → isTaken p ≡ true → Invariant R (itemTakes R s t x p) → potential R (itemTakes R s t x p) + 1 ≤ potential R s
+  item-delivery : (p : Taken) → takeFirst true t x (s .mailbox) ≡ p → isTaken p ≡ true → Invariant R (itemTakes R s t x p) → potential R (itemTakes R s t x p) + 1 ≤ potential R s
   unfolding itemTakes
   item-delivery noEntry e h kr = absurd (false≢true h)
   item-delivery (taken m l) e h kr = item-falls m l e kr
 
   -- ---- a message at a session
   module _ (low : 1 ≤ t) (high : t ≤ R .S) where
-    session-falls : (m : Message) (l : List Entry) → take false t x (s .mailbox) ≡ taken m l
+    session-falls : (m : Message) (l : List Entry) → takeFirst false t x (s .mailbox) ≡ taken m l
         → potential R (afterSession s t l (sessionReceives R t x (s .session t) m)) + 1 ≤ potential R s
     unfolding potential mailWeight afterSession distanceIn waitsFor
     session-falls m l e =
@@ -93,7 +93,7 @@ module _ (R : Rules) (L : Laws R) (s : State) (k : Invariant R s) (t x : ℕ) (l
           session-covers R L s k t x low high l m e,
         )
 
-    session-delivery : (p : Taken) → take false t x (s .mailbox) ≡ p → isTaken p ≡ true → potential R (sessionTakes R s t x p) + 1 ≤ potential R s
+    session-delivery : (p : Taken) → takeFirst false t x (s .mailbox) ≡ p → isTaken p ≡ true → potential R (sessionTakes R s t x p) + 1 ≤ potential R s
     unfolding sessionTakes
     session-delivery noEntry e h = absurd (false≢true h)
     session-delivery (taken m l) e h = session-falls m l e
@@ -104,9 +104,9 @@ falls R L s k (requestCall t x) e h = absurd (false≢true h)
 falls R L s k (releaseCall t x) e h = absurd (false≢true h)
 falls R L s k (reopen t) e h = absurd (false≢true h)
 falls R L s k (deliverToItem t x) e h =
-    item-delivery R L s k t x (item-low R t x e) (item-high R t x e) (take true t x (s .mailbox)) refl h (invariant-move R L s k (deliverToItem t x) e)
+    item-delivery R L s k t x (item-low R t x e) (item-high R t x e) (takeFirst true t x (s .mailbox)) refl h (invariant-move R L s k (deliverToItem t x) e)
 falls R L s k (deliverToSession t x) e h =
-    session-delivery R L s k t x (item-low R t x e) (item-high R t x e) (session-low R t x e) (session-high R t x e) (take false t x (s .mailbox)) refl h
+    session-delivery R L s k t x (item-low R t x e) (item-high R t x e) (session-low R t x e) (session-high R t x e) (takeFirst false t x (s .mailbox)) refl h
 
 pub theorem : Statement
 theorem R L = record { falls = falls R L; bounded = bounded R }

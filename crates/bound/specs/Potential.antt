@@ -3,7 +3,7 @@ use mathlib.Core.Bool.{Bool, cond}
 use mathlib.Core.List.{[], _∷_, List}
 use Prim.Native.Nat.{_*_, _+_, ℕ}
 use lib.Dec.{eqb}
-use Rattle.lists.specs.Lists.{count, lowest, sumUpTo}
+use Rattle.lists.specs.Lists.{countUpTo, lowest, sumUpTo}
 use Rattle.deadlock.specs.Machine.{abort, clean, down, Downward, Entry, grant, growing, isNews, Message, probe, reached, rebroadcast, release, releasing, request, resend, Rules, Session, Stage, State, up, Upward, victim, waiting, withdraw, withdrawn}
 use Rattle.bound.specs.Formula.{cleanCost, hopCost, itemsCost, queueCost, resendCost, waitCost}
 
@@ -54,7 +54,7 @@ module _ (R : Rules) where
 
   -- for each initiator twice the number of juniors that would be news
   unfoldable pub storeWeight : (ℕ → ℕ) → ℕ
-  storeWeight f = sumUpTo (R .S) (λ i. 2 * count (R .S) (isNews R f i))
+  storeWeight f = sumUpTo (R .S) (λ i. 2 * countUpTo (R .S) (isNews R f i))
 
   unfoldable pub sessionWeight : Session → ℕ
   sessionWeight r = stageWeight (r .stage) + storeWeight (r .stored)

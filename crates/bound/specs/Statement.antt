@@ -3,7 +3,7 @@ use mathlib.Core.Path.{_≡_}
 use mathlib.Core.Bool.{Bool, false, true}
 use Prim.Native.Nat.{_+_, _≤_, ℕ}
 use lib.ListN.{length}
-use Rattle.deadlock.specs.Machine.{Call, deliverToItem, deliverToSession, Laws, move, noEntry, ofMachine, releaseCall, reopen, requestCall, Rules, State, take, Taken, taken}
+use Rattle.deadlock.specs.Machine.{Call, deliverToItem, deliverToSession, Laws, move, noEntry, ofMachine, releaseCall, reopen, requestCall, Rules, State, takeFirst, Taken, taken}
 use Rattle.deadlock.specs.Invariant.{Invariant}
 use Rattle.bound.specs.Formula.{deliveryBound}
 use Rattle.bound.specs.Potential.{potential}
@@ -16,8 +16,8 @@ isTaken (taken m l) = true
 unfoldable pub delivers : State → Call → Bool
 delivers s (requestCall t x) = false
 delivers s (releaseCall t x) = false
-delivers s (deliverToItem t x) = isTaken (take true t x (s .mailbox))
-delivers s (deliverToSession t x) = isTaken (take false t x (s .mailbox))
+delivers s (deliverToItem t x) = isTaken (takeFirst true t x (s .mailbox))
+delivers s (deliverToSession t x) = isTaken (takeFirst false t x (s .mailbox))
 delivers s (reopen t) = false
 
 -- in a state with the invariant, and so in every state that is reached, a delivery makes the potential fall

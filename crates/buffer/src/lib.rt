@@ -3,7 +3,7 @@ ghost use mathlib.Core.Path.{_≡_};
 ghost use Prim.Native.Nat.{_+_, _≤_, _<_};
 ghost use lib.Dec.{eqb};
 ghost use lib.ListN.{length, getD, replicate};
-ghost use Rattle.lists.specs.Lists.{all};
+ghost use Rattle.lists.specs.Lists.{allOf};
 ghost use Rattle.buffer.specs.Bytes.{slice, fromBytes, toBytes, splice};
 
 // The byte at i, as a wide number.
@@ -124,7 +124,7 @@ pub fn put_bytes(t: &mut [u8], at: usize, bytes: &[u8]) -> usize
 // Whether n bytes from `at` on are zero; with no early exit, so that the loop is done by vectors.
 pub fn is_zero(t: &[u8], at: usize, n: usize) -> bool
     requires { ⌜ at + n ≤ length (now t) ⌝ }
-    ensures { λ r. ⌜ r ≡ all (λ b. eqb b 0) (slice (now (t .entry)) at n) ⌝ }
+    ensures { λ r. ⌜ r ≡ allOf (λ b. eqb b 0) (slice (now (t .entry)) at n) ⌝ }
 {
     let mut acc: u8 = 0;
     let mut i: usize = 0;

@@ -7,7 +7,7 @@ use native.Mathlib.Omega.{arith}
 use lib.Dec.{eqb}
 use lib.ListN.{length}
 use borrow.Author.Tests.{eq-eqb, eqb-true, eqb-false}
-use Rattle.lists.specs.Lists.{all}
+use Rattle.lists.specs.Lists.{allOf}
 use Rattle.lists.proofs.Laws.{all-weaken}
 use Rattle.lists.proofs.Tests.{and-both, and-intro, by-test}
 use Rattle.mailbox.specs.Entry.{Entry, toItem}
@@ -50,7 +50,7 @@ is-delivery e = by-test (λ (n : ℕ). Step.isDelivery n ≡ true) (eqb (e .dire
 
 -- ---- a drain is its single deliveries
 all-delivered : (n : ℕ) (b : Buffers) → Formed (b .table) (b .mail) → AllDelivered b (deliveries n b)
-unfolding deliveries done all
+unfolding deliveries done allOf
 all-delivered zero b f = refl
 all-delivered (suc n) b f =
     by-test (AllDelivered b) (eqb (ending b) limited)
@@ -60,7 +60,7 @@ all-delivered (suc n) b f =
     (λ _. refl)
 
 pub drain-delivers : (limit : ℕ) (b : Buffers) → AllDelivered b (drainSteps limit b)
-unfolding drainSteps done all
+unfolding drainSteps done allOf
 drain-delivers limit b =
     by-test (AllDelivered b) (eqb (drainRefusal b) 0) (λ q. all-delivered limit b (buffers-zero (b .table) (b .mail) (eqb-true (drainRefusal b) 0 q))) (λ _. refl)
 
@@ -70,7 +70,7 @@ unfolding steps leaves stepsOf
 one-call limit b = append-nil (done b (drainSteps limit b))
 
 pub drain-is-steps : DrainIsSteps
-unfolding drain drainSteps done all after leaves stepsOf
+unfolding drain drainSteps done allOf after leaves stepsOf
 drain-is-steps limit b = record {
   made = refl;
   left = rw (steps-left b (drainSteps limit b)) refl;
@@ -107,12 +107,12 @@ module _ (conf : Config) where
   -- any list of deliveries, none of them refused
   few : (steps : List Run.Step) (table : List ℕ) (l : List Entry) → Good conf table l → Invariant R (stateOf conf table l)
       → AllDelivered (buffers table (Mail.mailBytes (conf .capacity) l)) steps → length steps ≤ potential R (stateOf conf table l)
-  unfolding done all
+  unfolding done allOf
   few [] table l g k h = omega arith
   few (c ∷ steps) table l g k h =
       let b = buffers table (Mail.mailBytes (conf .capacity) l) in
       let d = doneOn b c in
-      let both = and-both (isDelivered d) (all isDelivered (done (leftBy d) steps)) h in
+      let both = and-both (isDelivered d) (allOf isDelivered (done (leftBy d) steps)) h in
       let first = and-both (Step.isDelivery (c .verb)) (isAccepted d) (both .0) in
       by-step conf table l g (c .verb) (c .session) (c .item)
       (λ (r : Stepped). r .answer .refusal ≡ 0 → AllDelivered (buffers (r .table) (r .mail)) steps → length (c ∷ steps) ≤ potential R (stateOf conf table l))

@@ -8,7 +8,7 @@ use native.Mathlib.Omega.{arith}
 use lib.Dec.{eqb}
 use lib.ListN.{length, getD}
 use borrow.Author.Tests.{eq-eqb, ne-eqb, eqb-true, eqb-false}
-use Rattle.lists.specs.Lists.{all, between}
+use Rattle.lists.specs.Lists.{allOf, between}
 use Rattle.lists.proofs.Laws.{all-getD, findIndex-le}
 use Rattle.lists.proofs.Tests.{and-both, and-intro, between-intro, by-answer, by-test, eqb-self}
 use Rattle.mailbox.specs.Entry.{Entry, onRoute, toItem, unused, wellFormed}
@@ -98,11 +98,11 @@ module _ (conf : Config) where
 
   -- deliveries, none of them refused
   deliveries-keep : (steps : List Run.Step) (b : Buffers) → Kept conf b → AllDelivered b steps → Kept conf (left b steps)
-  unfolding left done all
+  unfolding left done allOf
   deliveries-keep [] b k h = k
   deliveries-keep (c ∷ steps) b k h =
       let d = doneOn b c in
-      let both = and-both (isDelivered d) (all isDelivered (done (leftBy d) steps)) h in
+      let both = and-both (isDelivered d) (allOf isDelivered (done (leftBy d) steps)) h in
       let first = and-both (Step.isDelivery (c .verb)) (isAccepted d) (both .0) in
       deliveries-keep steps (leftBy d)
       (by-kept b k (λ (a : Buffers). Kept conf (leftBy (doneOn a c))) (λ table l g r. step-keeps table l g r c (λ e _. absurd (false≢true (sym e ∙ first .0)))))

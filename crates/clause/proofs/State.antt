@@ -7,7 +7,7 @@ use native.Mathlib.Omega.{arith}
 use lib.Dec.{eqb}
 use lib.ListN.{length}
 use borrow.Author.Tests.{eq-eqb, ne-eqb}
-use Rattle.lists.specs.Lists.{between, all}
+use Rattle.lists.specs.Lists.{between, allOf}
 use Rattle.lists.proofs.Searches.{distinct-length}
 use Rattle.lists.proofs.Tests.{within}
 use Rattle.session.specs.Seniority.{senior}
@@ -57,7 +57,7 @@ pub record Good (conf : Config) (table : List ℕ) (l : List Entry) : Type 0 whe
   pub low : 1 ≤ conf .capacity
   pub high : conf .capacity ≤ Mail.maxCapacity
   pub room : length l ≤ conf .capacity
-  pub entries : all (Entry.wellFormed (conf .sessions) (conf .items)) l ≡ true
+  pub entries : allOf (Entry.wellFormed (conf .sessions) (conf .items)) l ≡ true
 
 module _ (conf : Config) (table : List ℕ) (l : List Entry) (g : Good conf table l) where
   pub few-sessions : conf .sessions ≤ 64

@@ -109,7 +109,7 @@ module _ (conf : Config) (table : List ℕ) (l : List Entry) (g : Good conf tabl
     formed = State.all-formed conf table l g
 
     -- where an entry is found the machine takes it
-    taken : (d : Bool) → eqb (Agrees.placeOf t x l d) (length l) ≡ false → Bound.isTaken (Machine.take d t x (readEntries l)) ≡ true
+    taken : (d : Bool) → eqb (Agrees.placeOf t x l d) (length l) ≡ false → Bound.isTaken (Machine.takeFirst d t x (readEntries l)) ≡ true
     taken d found = ap Bound.isTaken (Agrees.taken-eq (seniorOf conf) (nextOf conf) (conf .sessions) (conf .items) few-sessions few-items (Table.session table) (locks table) l formed t x t-range x-range d found)
 
     request-done : Done Step.request

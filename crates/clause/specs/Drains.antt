@@ -6,7 +6,7 @@ use mathlib.Core.List.{List, [], _∷_, map}
 use mathlib.Core.Logic.{_≢_}
 use lib.Dec.{eqb}
 use lib.ListN.{length}
-use Rattle.lists.specs.Lists.{all}
+use Rattle.lists.specs.Lists.{allOf}
 use Rattle.mailbox.specs.Layout as Mail
 use Rattle.step.specs.Step.{isDelivery}
 use Rattle.lockmgr.specs.Calls as Calls
@@ -30,7 +30,7 @@ abbrev pub isDelivered : Done → Bool
 isDelivered d = isDelivery (d .verb) && isAccepted d
 
 abbrev pub AllDelivered : Buffers → List Step → Type 0
-AllDelivered b l = all isDelivered (done b l) ≡ true
+AllDelivered b l = allOf isDelivered (done b l) ≡ true
 
 -- a drain of two buffers
 abbrev pub drainOf : ℕ → Buffers → DrainResult
@@ -42,7 +42,7 @@ pub record IsSteps (limit : ℕ) (b : Buffers) : Type 0 where
   pub left : buffers (drainOf limit b .table) (drainOf limit b .mail) ≡ after b (map callOf (drainSteps limit b))
   pub same-left : after b (History.drain limit ∷ []) ≡ after b (map callOf (drainSteps limit b))
   pub same-steps : steps b (History.drain limit ∷ []) ≡ steps b (map callOf (drainSteps limit b))
-  pub accepted : all isAccepted (done b (drainSteps limit b)) ≡ true
+  pub accepted : allOf isAccepted (done b (drainSteps limit b)) ≡ true
 
 abbrev pub DrainIsSteps : Type 0
 DrainIsSteps = (limit : ℕ) (b : Buffers) → IsSteps limit b

@@ -9,7 +9,7 @@ use lib.Dec.{eqb}
 use Rattle.lists.specs.Lists.{member}
 use Rattle.lists.proofs.Tests.{and-both, by-test}
 use Rattle.deadlock.specs.Lists.{occurs, without}
-use Rattle.deadlock.specs.Machine.{abort, accepted, afterAnswer, afterItem, afterSession, Answer, Call, clean, deliverToItem, deliverToSession, down, grantOrQueue, handOver, heldBy, itemDrops, itemReceives, ItemStep, itemTakes, Laws, Message, move, noEntry, ofMachine, onRelease, onRequest, probe, rebroadcast, refused, release, releaseCall, reopen, request, requestCall, route, Rules, run, sessionReceives, sessionTakes, start, State, step, Stepped, take, Taken, taken, up, withdraw}
+use Rattle.deadlock.specs.Machine.{abort, accepted, afterAnswer, afterItem, afterSession, Answer, Call, clean, deliverToItem, deliverToSession, down, grantOrQueue, handOver, heldBy, itemDrops, itemReceives, ItemStep, itemTakes, Laws, Message, move, noEntry, ofMachine, onRelease, onRequest, probe, rebroadcast, refused, release, releaseCall, reopen, request, requestCall, route, Rules, run, sessionReceives, sessionTakes, start, State, step, Stepped, takeFirst, Taken, taken, up, withdraw}
 use Rattle.message.specs.Kind
 use Rattle.deadlock.specs.Counts.{countKind, kindOf, probeOf}
 use Rattle.deadlock.proofs.Laws.Counts.{down-kinds}
@@ -74,14 +74,14 @@ module _ (R : Rules) (L : Laws R) (s : State) (k : Invariant R s) where
   abbrev CoveredState : State → Type 0
   CoveredState r = Coverage R (worldOf r)
 
-  coverage-after-item : (t x : ℕ) → 1 ≤ x → x ≤ R .M → (p : Taken) → take true t x (s .mailbox) ≡ p → CoveredState (itemTakes R s t x p)
+  coverage-after-item : (t x : ℕ) → 1 ≤ x → x ≤ R .M → (p : Taken) → takeFirst true t x (s .mailbox) ≡ p → CoveredState (itemTakes R s t x p)
   unfolding itemTakes afterItem
   coverage-after-item t x lo hi noEntry e = k .coverage
   coverage-after-item t x lo hi (taken m l) e =
       let o = itemReceives R t (s .item x) m in
       cover-item t x lo hi (mailOf (afterItem s x l o)) m (item-takes R L s (k .core) t x m l e o)
 
-  coverage-after-session : (t x : ℕ) → 1 ≤ x → x ≤ R .M → (p : Taken) → take false t x (s .mailbox) ≡ p → CoveredState (sessionTakes R s t x p)
+  coverage-after-session : (t x : ℕ) → 1 ≤ x → x ≤ R .M → (p : Taken) → takeFirst false t x (s .mailbox) ≡ p → CoveredState (sessionTakes R s t x p)
   unfolding sessionTakes afterSession upRoute downRoute
   coverage-after-session t x lo hi noEntry e = k .coverage
   coverage-after-session t x lo hi (taken m l) e =
@@ -100,8 +100,8 @@ module _ (R : Rules) (L : Laws R) (s : State) (k : Invariant R s) where
   unfolding move ofMachine
   coverage-after-move (requestCall t x) e = coverage-after-call t _ (request-call-covered L (known-of R L s (k .core)) (k .core .probes) (k .coverage) range-of t _ (session-low R t x e, session-high R t x e) x (s .session t .stage) refl)
   coverage-after-move (releaseCall t x) e = coverage-after-call t _ (release-call-covered L (known-of R L s (k .core)) (k .core .probes) (k .coverage) range-of t _ x (s .session t .stage) refl)
-  coverage-after-move (deliverToItem t x) e = coverage-after-item t x (item-low R t x e) (item-high R t x e) (take true t x (s .mailbox)) refl
-  coverage-after-move (deliverToSession t x) e = coverage-after-session t x (item-low R t x e) (item-high R t x e) (take false t x (s .mailbox)) refl
+  coverage-after-move (deliverToItem t x) e = coverage-after-item t x (item-low R t x e) (item-high R t x e) (takeFirst true t x (s .mailbox)) refl
+  coverage-after-move (deliverToSession t x) e = coverage-after-session t x (item-low R t x e) (item-high R t x e) (takeFirst false t x (s .mailbox)) refl
   coverage-after-move (reopen t) e = coverage-after-call t _ (reopen-call-covered L s (known-of R L s (k .core)) (k .core .probes) (k .coverage) range-of t _)
 
   pub invariant-move : (c : Call) → ofMachine R c ≡ true → Invariant R (move R s c)

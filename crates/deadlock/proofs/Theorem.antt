@@ -10,7 +10,7 @@ use lib.Dec.{eqb}
 use Rattle.lists.specs.Lists.{member}
 use Rattle.lists.proofs.Tests.{and-both, by-test}
 use Rattle.item.specs.declared.Event.{Event as ItemEvent}
-use Rattle.deadlock.specs.Machine.{abort, afterItem, Call, clean, Declaration, declares, deliverToItem, deliverToSession, down, Entry, eventOf, grantOrQueue, handOver, heldBy, inQueue, itemEvent, itemReceives, ItemStep, itemTakes, Laws, Message, move, noEntry, ofMachine, onRelease, onRequest, probe, reached, rebroadcast, release, releaseCall, reopen, request, requestCall, Rules, run, sessionEvent, start, State, step, Stepped, take, Taken, taken, takenEvent, up, withdraw}
+use Rattle.deadlock.specs.Machine.{abort, afterItem, Call, clean, Declaration, declares, deliverToItem, deliverToSession, down, Entry, eventOf, grantOrQueue, handOver, heldBy, inQueue, itemEvent, itemReceives, ItemStep, itemTakes, Laws, Message, move, noEntry, ofMachine, onRelease, onRequest, probe, reached, rebroadcast, release, releaseCall, reopen, request, requestCall, Rules, run, sessionEvent, start, State, step, Stepped, takeFirst, Taken, taken, takenEvent, up, withdraw}
 use Rattle.deadlock.specs.Walks.{FirstApart, Walk}
 use Rattle.deadlock.specs.World.{Edge}
 use Rattle.deadlock.specs.Invariant.{Invariant, worldOf}
@@ -62,7 +62,7 @@ module _ (R : Rules) (L : Laws R) where
     EventTrue r e = (c : Bool) → True r (itemEvent e c .declared)
 
     module _ (t x : ℕ) (lo : 1 ≤ x) (hi : x ≤ R .M) (l : List Entry) where
-      probe-true : (i j : ℕ) → take true t x (s .mailbox) ≡ taken (probe i j) l → Invariant R (afterItem s x l (itemReceives R t (s .item x) (probe i j)))
+      probe-true : (i j : ℕ) → takeFirst true t x (s .mailbox) ≡ taken (probe i j) l → Invariant R (afterItem s x l (itemReceives R t (s .item x) (probe i j)))
           → EventTrue (afterItem s x l (itemReceives R t (s .item x) (probe i j))) (itemReceives R t (s .item x) (probe i j) .event)
       unfolding declares itemEvent afterItem itemReceives
       probe-true i j e kr = by-test (EventTrue r) (inQueue R t (s .item x)) (λ q. at (s .item x .holder) refl q) (λ _ c. none-declared r)
@@ -93,7 +93,7 @@ module _ (R : Rules) (L : Laws R) where
       hands-over-true r [] c = none-declared r
       hands-over-true r (a ∷ q) c = none-declared r
 
-      item-true : (m : Message) → take true t x (s .mailbox) ≡ taken m l → Invariant R (afterItem s x l (itemReceives R t (s .item x) m))
+      item-true : (m : Message) → takeFirst true t x (s .mailbox) ≡ taken m l → Invariant R (afterItem s x l (itemReceives R t (s .item x) m))
           → EventTrue (afterItem s x l (itemReceives R t (s .item x) m)) (itemReceives R t (s .item x) m .event)
       unfolding itemEvent itemReceives onRequest onRelease
       item-true (up request) e kr =
@@ -109,7 +109,7 @@ module _ (R : Rules) (L : Laws R) where
       item-true (clean v i) e kr = λ c. none-declared _
       item-true (abort v i) e kr = λ c. none-declared _
 
-    taken-true : (t x : ℕ) → 1 ≤ x → x ≤ R .M → (p : Taken) → take true t x (s .mailbox) ≡ p → Invariant R (itemTakes R s t x p)
+    taken-true : (t x : ℕ) → 1 ≤ x → x ≤ R .M → (p : Taken) → takeFirst true t x (s .mailbox) ≡ p → Invariant R (itemTakes R s t x p)
         → True (itemTakes R s t x p) (takenEvent R t (s .item x) (itemTakes R s t x p) p .declared)
     unfolding itemTakes takenEvent
     taken-true t x lo hi noEntry e kr = none-declared _
@@ -119,7 +119,7 @@ module _ (R : Rules) (L : Laws R) where
     unfolding move ofMachine eventOf sessionEvent
     move-true (requestCall t x) e kr = none-declared _
     move-true (releaseCall t x) e kr = none-declared _
-    move-true (deliverToItem t x) e kr = taken-true t x (item-low R t x e) (item-high R t x e) (take true t x (s .mailbox)) refl kr
+    move-true (deliverToItem t x) e kr = taken-true t x (item-low R t x e) (item-high R t x e) (takeFirst true t x (s .mailbox)) refl kr
     move-true (deliverToSession t x) e kr = none-declared _
     move-true (reopen t) e kr = none-declared _
 

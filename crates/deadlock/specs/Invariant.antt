@@ -4,7 +4,7 @@ use mathlib.Core.Bool.{Bool, false, not, true}
 use mathlib.Core.List.{[], _∷_, List}
 use mathlib.Core.Option.{some}
 use Prim.Native.Nat.{_+_, _≤_, ℕ}
-use Rattle.lists.specs.Lists.{count, member}
+use Rattle.lists.specs.Lists.{countUpTo, member}
 use Rattle.waits.specs.Waits.{cycles}
 use Rattle.deadlock.specs.Lists.{occurs}
 use Rattle.deadlock.specs.Machine.{cleaning, Entry, growing, Item, Message, releasing, rolledBack, route, Rules, Stage, State, victim, waiting, waitsFor, withdrawing}
@@ -73,7 +73,7 @@ isLeaving I t (releasing p) = false
 
 -- how many sessions do
 unfoldable pub leaving : Rules → State → ℕ
-leaving R s = count (R .S) (λ t. isLeaving (s .item) t (s .session t .stage))
+leaving R s = countUpTo (R .S) (λ t. isLeaving (s .item) t (s .session t .stage))
 
 -- with the numbers of cycles closed and of sessions rolled back so far: a cycle that was closed stands, or its victim is leaving, or its victim was
 -- rolled back. With no message left nothing stands and nobody is leaving, so that the two numbers agree

@@ -5,7 +5,7 @@ use mathlib.Core.List.{[], _++_, _∷_, List, map}
 use mathlib.Core.Option.{none, Option, some}
 use Prim.Native.Nat.{_+_, ℕ}
 use lib.Dec.{eqb, leb}
-use Rattle.lists.specs.Lists.{all, every, member, filter}
+use Rattle.lists.specs.Lists.{allOf, every, member, filter}
 use Rattle.deadlock.specs.Lists.{bit, oneTo, updated, without}
 use Rattle.item.specs.Record.{lock}
 use Rattle.item.specs.declared.Event.{Event as ItemEvent}
@@ -338,7 +338,7 @@ module _ (R : Rules) where
   unfoldable pub mayReopen : State → ℕ → Bool
   mayReopen s t =
       isOver (s .session t .stage)
-      && (all (λ (e : Entry). not (ofSession t e)) (s .mailbox) && every (R .M) (λ (x : ℕ). not (itemNames t (s .item x))))
+      && (allOf (λ (e : Entry). not (ofSession t e)) (s .mailbox) && every (R .M) (λ (x : ℕ). not (itemNames t (s .item x))))
 
   -- it begins anew
   unfoldable pub onReopenCall : State → ℕ → Answer
@@ -362,9 +362,9 @@ unfoldable pub putBack : Entry → Taken → Taken
 putBack e noEntry = noEntry
 putBack e (taken m l) = taken m (e ∷ l)
 
-unfoldable pub take : Bool → ℕ → ℕ → List Entry → Taken
-take d t x [] = noEntry
-take d t x (e ∷ es) = cond (isOnRoute d t x e) (taken (e .message) es) (putBack e (take d t x es))
+unfoldable pub takeFirst : Bool → ℕ → ℕ → List Entry → Taken
+takeFirst d t x [] = noEntry
+takeFirst d t x (e ∷ es) = cond (isOnRoute d t x e) (taken (e .message) es) (putBack e (takeFirst d t x es))
 
 unfoldable pub fromSession : ℕ → Sends → List Entry
 fromSession t [] = []
@@ -403,8 +403,8 @@ module _ (R : Rules) where
   unfoldable pub move : State → Call → State
   move s (requestCall t x) = afterAnswer s t (onRequestCall R x (s .session t) (s .session t .stage))
   move s (releaseCall t x) = afterAnswer s t (onReleaseCall R x (s .session t) (s .session t .stage))
-  move s (deliverToItem t x) = itemTakes s t x (take true t x (s .mailbox))
-  move s (deliverToSession t x) = sessionTakes s t x (take false t x (s .mailbox))
+  move s (deliverToItem t x) = itemTakes s t x (takeFirst true t x (s .mailbox))
+  move s (deliverToSession t x) = sessionTakes s t x (takeFirst false t x (s .mailbox))
   move s (reopen t) = afterAnswer s t (onReopenCall R s t)
 
   -- a session of the machine, and a session and an item
@@ -482,7 +482,7 @@ module _ (R : Rules) where
   unfoldable pub eventOf : State → Call → State → Event
   eventOf s (requestCall t x) after = nothing
   eventOf s (releaseCall t x) after = nothing
-  eventOf s (deliverToItem t x) after = takenEvent t (s .item x) after (take true t x (s .mailbox))
+  eventOf s (deliverToItem t x) after = takenEvent t (s .item x) after (takeFirst true t x (s .mailbox))
   eventOf s (deliverToSession t x) after = sessionEvent (s .session t .stage) (after .session t .stage)
   eventOf s (reopen t) after = nothing
 

@@ -10,7 +10,7 @@ use lib.ListN.{length, getD, take, drop, replicate, length-append, length-replic
 use lib.Pow.{suc-ones, ones-lt, pow-mono}
 use lib.Seq.{take-take, take-nil, drop-nil, take-all, getD-take, length-take-le, take-append-le, drop-append-le, getD-append-add, append-snoc}
 use Rattle.buffer.specs.Bytes.{slice}
-use Rattle.lists.specs.Lists.{between, member, distinct, all}
+use Rattle.lists.specs.Lists.{between, member, distinct, allOf}
 use Rattle.lists.proofs.Tests.{and-both, and-intro, eqb-sym, refuted, tests-agree, by-answer}
 use Rattle.lists.proofs.Searches.{distinct-all, all-distinct}
 use Rattle.lists.proofs.Laws.{all-append, all-getD, all-intro, all-member, all-both, distinct-last, member-append, member-last}
@@ -26,7 +26,7 @@ use Rattle.item.specs.Record as ItemRecord
 
 -- the first n are at most s, and the others zero
 abbrev pub within : ℕ → ℕ → List ℕ → Bool
-within s n l = all (λ b. leb b s) (take n l) && all (λ b. eqb b 0) (drop n l)
+within s n l = allOf (λ b. leb b s) (take n l) && allOf (λ b. eqb b 0) (drop n l)
 
 zero-leb : (v : ℕ) → eqb v 0 ≡ leb v 0
 zero-leb zero = refl
@@ -34,21 +34,21 @@ zero-leb (suc v) = eqb·suc-zero v ∙ sym (leb·suc-zero v)
 
 module _ (s n : ℕ) (l : List ℕ) (v : ℕ) where
   within-case : (b : Bool) → ltb (length l) n ≡ b → within s n (l ++ (v ∷ [])) ≡ within s n l && leb v (cond b s 0)
-  unfolding all
+  unfolding allOf
   within-case true e =
       let h : length l < n = ltb-true (length l) n e in
       let len = length-append l (v ∷ []) in
       rw (take-all n (l ++ (v ∷ [])) (omega arith), drop-of-length-le (l ++ (v ∷ [])) {i = n} (omega arith), take-all n l (omega arith), drop-of-length-le l {i = n} (omega arith), all-append (λ b. leb b s) l (v ∷ [])) (simp and-true)
   within-case false e =
       let h : n ≤ length l = ltb-false (length l) n e in
-      rw (take-append-le n l (v ∷ []) h, drop-append-le n l (v ∷ []) h, all-append (λ b. eqb b 0) (drop n l) (v ∷ []), and-true, zero-leb v) (sym (and-assoc (all (λ b. leb b s) (take n l)) (all (λ b. eqb b 0) (drop n l)) (leb v 0)))
+      rw (take-append-le n l (v ∷ []) h, drop-append-le n l (v ∷ []) h, all-append (λ b. eqb b 0) (drop n l) (v ∷ []), and-true, zero-leb v) (sym (and-assoc (allOf (λ b. leb b s) (take n l)) (allOf (λ b. eqb b 0) (drop n l)) (leb v 0)))
 
   -- one byte more
   pub within-more : within s n (l ++ (v ∷ [])) ≡ within s n l && leb v (cond (ltb (length l) n) s 0)
   within-more = within-case (ltb (length l) n) refl
 
 pub within-none : (s n : ℕ) → within s n [] ≡ true
-unfolding all
+unfolding allOf
 within-none s n = rw (take-nil n, drop-nil n) refl
 
 -- the limits, read so that n of them are s
@@ -67,7 +67,7 @@ limit c s n k h l = limit-case c s n k h l (ltb k n) refl
 -- a byte within its limit is at most s
 within-at : (s n : ℕ) (l : List ℕ) → within s n l ≡ true → n ≤ length l → (k : ℕ) → k < n → getD l k 0 ≤ s
 within-at s n l e h k f =
-    rw (← getD-take n l k 0 f) (leb-true (getD (take n l) k 0) s (all-getD (λ b. leb b s) (take n l) k 0 (and-both (all (λ b. leb b s) (take n l)) (all (λ b. eqb b 0) (drop n l)) e .0) (rw (length-take-le n l h) f)))
+    rw (← getD-take n l k 0 f) (leb-true (getD (take n l) k 0) s (all-getD (λ b. leb b s) (take n l) k 0 (and-both (allOf (λ b. leb b s) (take n l)) (allOf (λ b. eqb b 0) (drop n l)) e .0) (rw (length-take-le n l h) f)))
 
 -- the mask has h and the sessions of a list
 pub Seen : ℕ → List ℕ → ℕ → Type 0
@@ -75,7 +75,7 @@ Seen h l mask = (k : ℕ) → 1 ≤ k → has k mask ≡ eqb h k || member k l
 
 -- no session is zero, none stands there twice, and none is h
 abbrev pub inLine : ℕ → List ℕ → Bool
-inLine h l = all (leb 1) l && distinct l && not (member h l)
+inLine h l = allOf (leb 1) l && distinct l && not (member h l)
 
 pub none-seen : (h : ℕ) → Seen h [] (single h)
 unfolding member Seen
@@ -97,9 +97,9 @@ line-step true true true v false false = and-true (not v)
 module _ (h : ℕ) (l : List ℕ) (v : ℕ) where
   -- one session more
   line-more : inLine h (l ++ (v ∷ [])) ≡ inLine h l && (leb 1 v && (not (eqb h v) && not (member v l)))
-  unfolding all member
+  unfolding allOf member
   line-more =
-      rw (all-append (leb 1) l (v ∷ []), distinct-last l v, member-append h l (v ∷ []), eqb-sym v h) (line-step (all (leb 1) l) (leb 1 v) (distinct l) (member v l) (member h l) (eqb h v))
+      rw (all-append (leb 1) l (v ∷ []), distinct-last l v, member-append h l (v ∷ []), eqb-sym v h) (line-step (allOf (leb 1) l) (leb 1 v) (distinct l) (member v l) (member h l) (eqb h v))
 
   pub line-zero : v ≡ 0 → inLine h (l ++ (v ∷ [])) ≡ false
   line-zero e = line-more ∙ rw (e) (and-false (inLine h l))
@@ -140,10 +140,10 @@ module _ (l : List ℕ) where
   -- one that is out of bounds
   pub ranks-beyond : (i : ℕ) → i < n → between 1 n (getD l i 0) ≡ false → Seniority.wellFormed l ≡ false
   unfolding Seniority.wellFormed
-  ranks-beyond i h e = rw (refuted (all (between 1 n) l) (between 1 n (getD l i 0)) (λ a. all-getD (between 1 n) l i 0 a h) e) refl
+  ranks-beyond i h e = rw (refuted (allOf (between 1 n) l) (between 1 n (getD l i 0)) (λ a. all-getD (between 1 n) l i 0 a h) e) refl
 
   module _ (few : n ≤ 64) (known : (k : ℕ) → k < n → between 1 n (getD l k 0) ≡ true) (mask : ℕ) (seen : Seen 0 l mask) (fits : mask < 2 ^ 64) where
-    in-bounds : all (between 1 n) l ≡ true
+    in-bounds : allOf (between 1 n) l ≡ true
     in-bounds = all-intro (between 1 n) l 0 known
 
     has-member : (k : ℕ) → 1 ≤ k → has k mask ≡ member k l
@@ -166,9 +166,9 @@ module _ (l : List ℕ) where
     pub ranks-form : eqb mask (full n) ≡ Seniority.wellFormed l
     unfolding Seniority.wellFormed
     ranks-form =
-        tests-agree (eqb mask (full n)) (all (between 1 n) l && distinct l)
+        tests-agree (eqb mask (full n)) (allOf (between 1 n) l && distinct l)
         (λ e. and-intro in-bounds (mask-full (eqb-true mask (full n) e)))
-        (λ e. eq-eqb mask (full n) (full-mask (and-both (all (between 1 n) l) (distinct l) e .1)))
+        (λ e. eq-eqb mask (full n) (full-mask (and-both (allOf (between 1 n) l) (distinct l) e .1)))
 
 choice : (w x y : Bool) → w && x || not w && y ≡ cond w x y
 choice true x y = or-false x
@@ -204,7 +204,7 @@ module _ (t : List ℕ) (at S : ℕ) where
   item-form h =
       let n = getD t (at + ItemRecord.waitingPlace) 0 in
       let q : take n (slice t (at + ItemRecord.queuePlace) maxSessions) ≡ slice t (at + ItemRecord.queuePlace) n = take-take n maxSessions (drop (at + ItemRecord.queuePlace) t) h in
-      rw (q, all-both (leb 1) (λ b. leb b S) (slice t (at + ItemRecord.queuePlace) n)) (item-step (leb (getD t at 0) S && leb n maxSessions) (all (leb 1) (slice t (at + ItemRecord.queuePlace) n)) (all (λ b. leb b S) (slice t (at + ItemRecord.queuePlace) n)) (distinct (slice t (at + ItemRecord.queuePlace) n)) (not (member (getD t at 0) (slice t (at + ItemRecord.queuePlace) n))) (all (λ b. eqb b 0) (drop n (slice t (at + ItemRecord.queuePlace) maxSessions))))
+      rw (q, all-both (leb 1) (λ b. leb b S) (slice t (at + ItemRecord.queuePlace) n)) (item-step (leb (getD t at 0) S && leb n maxSessions) (allOf (leb 1) (slice t (at + ItemRecord.queuePlace) n)) (allOf (λ b. leb b S) (slice t (at + ItemRecord.queuePlace) n)) (distinct (slice t (at + ItemRecord.queuePlace) n)) (not (member (getD t at 0) (slice t (at + ItemRecord.queuePlace) n))) (allOf (λ b. eqb b 0) (drop n (slice t (at + ItemRecord.queuePlace) maxSessions))))
 
   -- the bytes of a row within its limits
   pub row-low : (n : ℕ) → at + maxSessions ≤ length t → n ≤ maxSessions → within S n (slice t at maxSessions) ≡ true → (k : ℕ) → k < n → getD t (at + k) 0 ≤ S

@@ -9,7 +9,7 @@ ghost use lib.Dec.{eqb, leb};
 ghost use lib.ListN.{length, getD, take, drop};
 ghost use Rattle.bitset.specs.Bitset.{full};
 ghost use Rattle.buffer.specs.Bytes.{slice};
-ghost use Rattle.lists.specs.Lists.{all, distinct, member};
+ghost use Rattle.lists.specs.Lists.{allOf, distinct, member};
 ghost use Rattle.message.specs.Limits.{maxSessions};
 ghost use Rattle.session.specs.Record as SessionRecord;
 ghost use Rattle.session.specs.Seniority;
@@ -35,7 +35,7 @@ pub fn limits(s: u8) -> [u8; TWO_ROWS]
 // Whether of the row at `at` the first n bytes are at most s, and the others zero.
 fn row(t: &[u8], at: usize, s: u8, n: usize, limits: &[u8; TWO_ROWS]) -> bool
     requires { ⌜ (at + maxSessions ≤ length (now t)) × (n ≤ maxSessions) × (now limits ≡ limitsOf s) ⌝ }
-    ensures { λ r. ⌜ r ≡ all (λ b. leb b s) (take n (slice (now (t .entry)) at maxSessions)) && all (λ b. eqb b 0) (drop n (slice (now (t .entry)) at maxSessions)) ⌝ }
+    ensures { λ r. ⌜ r ≡ allOf (λ b. leb b s) (take n (slice (now (t .entry)) at maxSessions)) && allOf (λ b. eqb b 0) (drop n (slice (now (t .entry)) at maxSessions)) ⌝ }
 {
     let from = MAX_SESSIONS - n;
     let mut ok = true;
@@ -68,7 +68,7 @@ pub fn session(t: &[u8], at: usize, s: u8, m: u8, top: u64, limits: &[u8; TWO_RO
 // Whether of the n sessions at `at` none is zero, none stands there twice and none is h.
 fn queue(t: &[u8], at: usize, n: usize, h: u8) -> bool
     requires { ⌜ (at + n ≤ length (now t)) × (h ≤ maxSessions) × ((k : ℕ) → k < n → getD (now t) (at + k) 0 ≤ maxSessions) ⌝ }
-    ensures { λ r. ⌜ r ≡ all (leb 1) (slice (now (t .entry)) at n) && distinct (slice (now (t .entry)) at n) && not (member h (slice (now (t .entry)) at n)) ⌝ }
+    ensures { λ r. ⌜ r ≡ allOf (leb 1) (slice (now (t .entry)) at n) && distinct (slice (now (t .entry)) at n) && not (member h (slice (now (t .entry)) at n)) ⌝ }
 {
     let mut seen = bitset::single(h);
     let mut i: usize = 0;

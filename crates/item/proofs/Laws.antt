@@ -11,7 +11,7 @@ use borrow.Author.Tests.{leb-true, le-leb}
 use lib.ListN.{length, getD, take, drop, set, replicate, length-append, length-drop, length-replicate, length-map, take-append-drop}
 use lib.Seq.{append-snoc, take-at, take-suc, take-append-seam, take-nil, drop-at, drop-cons, drop-drop, getD-drop, getD-append-add, set-at, length-take-le}
 use Rattle.buffer.specs.Bytes.{slice, splice, padded}
-use Rattle.lists.specs.Lists.{between, member, distinct, all, filter, findIndex, removeAt}
+use Rattle.lists.specs.Lists.{between, member, distinct, allOf, filter, findIndex, removeAt}
 use Rattle.lists.proofs.Laws.{filter-append, filter-length, removeAt-le, removeAt-length, zeros-all}
 use Rattle.lists.proofs.Tests.{and-both}
 use Rattle.session.proofs.Laws.{either}
@@ -158,13 +158,13 @@ module _ (k i : ℕ) (h : k ≤ i) where
 
   pub shift-last : (m : ℕ) (l : List ℕ) → length l ≡ i + 1 → length l ≤ m → set (shifted k (padded m l) i) i 0 ≡ padded m (removeAt k l)
   shift-last m l e f =
-      let all : take (i + 1) (padded m l) ≡ l = take-at l (replicate (m - length l) 0) (i + 1) e in
+      let allOf : take (i + 1) (padded m l) ≡ l = take-at l (replicate (m - length l) 0) (i + 1) e in
       let left = removeAt-length k l (omega arith) in
       let more : m - length (removeAt k l) ≡ suc (m - length l) = omega arith in
       let zeros : List ℕ = replicate (m - length l) 0 in
       let rest : drop i (padded m l) ≡ getD (padded m l) i 0 ∷ zeros =
       drop-cons (padded m l) i 0 (omega (arith, length-append l zeros)) ∙ ap (λ (r : List ℕ). getD (padded m l) i 0 ∷ r) (drop-at l zeros (suc i) (omega arith)) in
-      rw (all, rest, more) (set-at (removeAt k l) (getD (padded m l) i 0) zeros 0 i (omega arith))
+      rw (allOf, rest, more) (set-at (removeAt k l) (getD (padded m l) i 0) zeros 0 i (omega arith))
 
 -- one message more behind a list given, as the loops have it
 pub push-outbox : (o : Outbox) (l p q : List Message) (m : Message) → o .n < room → o ≡ outboxOf (l ++ p) → q ≡ p ++ (m ∷ [])
@@ -247,13 +247,13 @@ vacated-more senior next (r ∷ q) h = refl
 -- a well-formed record is what the rules ask for, where there are at most 64 sessions
 module _ (S : ℕ) (i : Item) (h : S ≤ 64) (q : length (i .queue) ≡ 64) where
   pub wellFormed-packed : wellFormed S i ≡ true → Packed i
-  unfolding wellFormed distinct all
+  unfolding wellFormed distinct allOf
   wellFormed-packed w =
       let l = unpacked i .queue in
-      let tail = and-both _ (all (λ b. eqb b 0) (drop (i .waiting) (i .queue))) w in
+      let tail = and-both _ (allOf (λ b. eqb b 0) (drop (i .waiting) (i .queue))) w in
       let other = and-both _ (not (member (i .holder) l)) (tail .0) in
       let once = and-both _ (distinct l) (other .0) in
-      let range = and-both _ (all (between 1 S) l) (once .0) in
+      let range = and-both _ (allOf (between 1 S) l) (once .0) in
       let ends = and-both (leb (i .holder) S) (leb (i .waiting) 64) (range .0) in
       let fits : i .waiting ≤ 64 = leb-true (i .waiting) 64 (ends .1) in
       let full = waiting-length i q fits in
@@ -263,7 +263,7 @@ module _ (S : ℕ) (i : Item) (h : S ≤ 64) (q : length (i .queue) ≡ 64) wher
         room = λ some.
             let low : leb 1 (i .holder) ≡ true = le-leb 1 (i .holder) (omega arith) in
             let all-once : distinct (i .holder ∷ l) ≡ true = rw (other .1) (once .1) in
-            let all-range : all (between 1 S) (i .holder ∷ l) ≡ true = rw (low, ends .0) (range .1) in
+            let all-range : allOf (between 1 S) (i .holder ∷ l) ≡ true = rw (low, ends .0) (range .1) in
             omega (arith, distinct-length S (i .holder ∷ l) all-once all-range);
         zeros =
             packed-eq (i .holder) (i .waiting) (i .queue) l (sym full) (sym (take-append-drop (i .waiting) (i .queue)) ∙ ap (λ (r : List ℕ). l ++ r) (zeros-all (drop (i .waiting) (i .queue)) (tail .1) ∙ ap (λ (n : ℕ). replicate n 0) left));

@@ -6,7 +6,7 @@ use mathlib.Core.List.{List, [], _∷_}
 use lib.Dec.{eqb, leb}
 use lib.ListN.{length, getD, take, drop}
 use Rattle.buffer.specs.Bytes.{slice, splice, padded}
-use Rattle.lists.specs.Lists.{between, member, distinct, all}
+use Rattle.lists.specs.Lists.{between, member, distinct, allOf}
 use Rattle.message.specs.Limits.{maxSessions}
 use Rattle.item.specs.declared.Item.{Item}
 
@@ -61,10 +61,10 @@ unfoldable pub wellFormed : ℕ → Item → Bool
 wellFormed S i =
     leb (i .holder) S
     && leb (i .waiting) maxSessions
-    && all (between 1 S) (unpacked i .queue)
+    && allOf (between 1 S) (unpacked i .queue)
     && distinct (unpacked i .queue)
     && not (member (i .holder) (unpacked i .queue))
-    && all (λ b. eqb b 0) (drop (i .waiting) (i .queue))
+    && allOf (λ b. eqb b 0) (drop (i .waiting) (i .queue))
 
 -- what the rules ask of a record: its queue fits, with zeros behind it, and room for one more where a session holds the item
 pub record Packed (i : Item) : Type 0 where

@@ -10,7 +10,7 @@ use lib.Dec.{eqb, ltb, leb·zero, leb·suc-suc}
 use lib.ListN.{length, getD, take, drop, set, replicate, length-append, length-drop, length-replicate, length-set, replicate-append-replicate, drop-of-length-le}
 use lib.Seq.{drop-cons, set-at, take-suc, ext-getD, getD-set-same, getD-set-other}
 use borrow.Author.Tests.{eqb-true, eqb-false, ne-eqb, not-true}
-use Rattle.lists.specs.Lists.{everyBelow, member, distinct, all, filter, findIndex, removeAt, tabulate}
+use Rattle.lists.specs.Lists.{everyBelow, member, distinct, allOf, filter, findIndex, removeAt, tabulate}
 use Rattle.lists.proofs.Tests.{and-both, and-intro, or-neither, by-test, eqb-sym, eqb-self}
 
 -- ---- filter, findIndex, removeAt, tabulate
@@ -71,11 +71,11 @@ module _ {A : Type 0} where
   findIndex-le p (a ∷ l) d (suc k) h e = cond-findIndex (p a) (findIndex p l) k (findIndex-le p l d k (omega arith) e)
 
   -- where every element fails the test none is kept
-  pub filter-none : (p : A → Bool) (l : List A) → all (λ a. not (p a)) l ≡ true → filter p l ≡ []
-  unfolding filter all
+  pub filter-none : (p : A → Bool) (l : List A) → allOf (λ a. not (p a)) l ≡ true → filter p l ≡ []
+  unfolding filter allOf
   filter-none p [] e = refl
   filter-none p (a ∷ l) e =
-      let h = and-both (not (p a)) (all (λ a. not (p a)) l) e in rw (not-true (p a) (h .0)) (filter-none p l (h .1))
+      let h = and-both (not (p a)) (allOf (λ a. not (p a)) l) e in rw (not-true (p a) (h .0)) (filter-none p l (h .1))
 
   -- without an element the list is what stands before it and what stands behind it
   pub removeAt-split : (k : ℕ) (l : List A) → k < length l → removeAt k l ≡ take k l ++ drop (suc k) l
@@ -149,82 +149,82 @@ module _ (n : ℕ) (f g : ℕ → ℕ) where
 
 -- ---- tests of every element
 module _ {A : Type 0} (p : A → Bool) where
-  pub all-none : all p [] ≡ true
-  unfolding all
+  pub all-none : allOf p [] ≡ true
+  unfolding allOf
   all-none = refl
 
-  pub all-cons : (a : A) (l : List A) → p a ≡ true → all p l ≡ true → all p (a ∷ l) ≡ true
-  unfolding all
+  pub all-cons : (a : A) (l : List A) → p a ≡ true → allOf p l ≡ true → allOf p (a ∷ l) ≡ true
+  unfolding allOf
   all-cons a l e f = and-intro e f
 
-  pub all-one : (a : A) → p a ≡ true → all p (a ∷ []) ≡ true
+  pub all-one : (a : A) → p a ≡ true → allOf p (a ∷ []) ≡ true
   all-one a e = all-cons a [] e all-none
 
-  pub all-append : (k l : List A) → all p (k ++ l) ≡ all p k && all p l
-  unfolding all
+  pub all-append : (k l : List A) → allOf p (k ++ l) ≡ allOf p k && allOf p l
+  unfolding allOf
   all-append [] l = refl
-  all-append (a ∷ k) l = ap (λ (b : Bool). p a && b) (all-append k l) ∙ sym (and-assoc (p a) (all p k) (all p l))
+  all-append (a ∷ k) l = ap (λ (b : Bool). p a && b) (all-append k l) ∙ sym (and-assoc (p a) (allOf p k) (allOf p l))
 
-  pub all-join : (k l : List A) → all p k ≡ true → all p l ≡ true → all p (k ++ l) ≡ true
+  pub all-join : (k l : List A) → allOf p k ≡ true → allOf p l ≡ true → allOf p (k ++ l) ≡ true
   all-join k l e f = all-append k l ∙ and-intro e f
 
-  pub all-getD : (l : List A) (k : ℕ) (d : A) → all p l ≡ true → k < length l → p (getD l k d) ≡ true
-  unfolding all
+  pub all-getD : (l : List A) (k : ℕ) (d : A) → allOf p l ≡ true → k < length l → p (getD l k d) ≡ true
+  unfolding allOf
   all-getD [] k d e h = absurd (omega arith)
-  all-getD (a ∷ l) zero d e h = and-both (p a) (all p l) e .0
-  all-getD (a ∷ l) (suc k) d e h = all-getD l k d (and-both (p a) (all p l) e .1) (omega arith)
+  all-getD (a ∷ l) zero d e h = and-both (p a) (allOf p l) e .0
+  all-getD (a ∷ l) (suc k) d e h = all-getD l k d (and-both (p a) (allOf p l) e .1) (omega arith)
 
-  pub all-intro : (l : List A) (d : A) → ((k : ℕ) → k < length l → p (getD l k d) ≡ true) → all p l ≡ true
-  unfolding all
+  pub all-intro : (l : List A) (d : A) → ((k : ℕ) → k < length l → p (getD l k d) ≡ true) → allOf p l ≡ true
+  unfolding allOf
   all-intro [] d f = refl
   all-intro (a ∷ l) d f = and-intro (f 0 (omega arith)) (all-intro l d (λ k h. f (suc k) (omega arith)))
 
-  pub all-take : (n : ℕ) (l : List A) → all p l ≡ true → all p (take n l) ≡ true
-  unfolding all
+  pub all-take : (n : ℕ) (l : List A) → allOf p l ≡ true → allOf p (take n l) ≡ true
+  unfolding allOf
   all-take zero l e = refl
   all-take (suc n) [] e = refl
-  all-take (suc n) (a ∷ l) e = let h = and-both (p a) (all p l) e in and-intro (h .0) (all-take n l (h .1))
+  all-take (suc n) (a ∷ l) e = let h = and-both (p a) (allOf p l) e in and-intro (h .0) (all-take n l (h .1))
 
-  pub all-drop : (n : ℕ) (l : List A) → all p l ≡ true → all p (drop n l) ≡ true
-  unfolding all
+  pub all-drop : (n : ℕ) (l : List A) → allOf p l ≡ true → allOf p (drop n l) ≡ true
+  unfolding allOf
   all-drop zero l e = e
   all-drop (suc n) [] e = refl
-  all-drop (suc n) (a ∷ l) e = all-drop n l (and-both (p a) (all p l) e .1)
+  all-drop (suc n) (a ∷ l) e = all-drop n l (and-both (p a) (allOf p l) e .1)
 
-  pub all-replicate : (n : ℕ) (a : A) → p a ≡ true → all p (replicate n a) ≡ true
-  unfolding all
+  pub all-replicate : (n : ℕ) (a : A) → p a ≡ true → allOf p (replicate n a) ≡ true
+  unfolding allOf
   all-replicate zero a e = refl
   all-replicate (suc n) a e = and-intro e (all-replicate n a e)
 
-  pub all-map : {B : Type 0} (f : B → A) (l : List B) → all (λ b. p (f b)) l ≡ true → all p (map f l) ≡ true
-  unfolding all
+  pub all-map : {B : Type 0} (f : B → A) (l : List B) → allOf (λ b. p (f b)) l ≡ true → allOf p (map f l) ≡ true
+  unfolding allOf
   all-map f [] e = refl
-  all-map f (b ∷ l) e = let h = and-both (p (f b)) (all (λ b. p (f b)) l) e in and-intro (h .0) (all-map f l (h .1))
+  all-map f (b ∷ l) e = let h = and-both (p (f b)) (allOf (λ b. p (f b)) l) e in and-intro (h .0) (all-map f l (h .1))
 
-  pub all-filter : (q : A → Bool) (l : List A) → all p l ≡ true → all p (filter q l) ≡ true
-  unfolding all filter
+  pub all-filter : (q : A → Bool) (l : List A) → allOf p l ≡ true → allOf p (filter q l) ≡ true
+  unfolding allOf filter
   all-filter q [] e = refl
   all-filter q (a ∷ l) e =
-      let h = and-both (p a) (all p l) e in
+      let h = and-both (p a) (allOf p l) e in
       let rest = all-filter q l (h .1) in
-      by-test (λ (r : List A). all p r ≡ true) (q a) (λ _. and-intro (h .0) rest) (λ _. rest)
+      by-test (λ (r : List A). allOf p r ≡ true) (q a) (λ _. and-intro (h .0) rest) (λ _. rest)
 
-  pub all-weaken : (q : A → Bool) → ((a : A) → p a ≡ true → q a ≡ true) → (l : List A) → all p l ≡ true → all q l ≡ true
-  unfolding all
+  pub all-weaken : (q : A → Bool) → ((a : A) → p a ≡ true → q a ≡ true) → (l : List A) → allOf p l ≡ true → allOf q l ≡ true
+  unfolding allOf
   all-weaken q f [] e = refl
-  all-weaken q f (a ∷ l) e = let h = and-both (p a) (all p l) e in and-intro (f a (h .0)) (all-weaken q f l (h .1))
+  all-weaken q f (a ∷ l) e = let h = and-both (p a) (allOf p l) e in and-intro (f a (h .0)) (all-weaken q f l (h .1))
 
-  pub all-set : (l : List A) (k : ℕ) (v : A) → all p l ≡ true → p v ≡ true → all p (set l k v) ≡ true
-  unfolding all
+  pub all-set : (l : List A) (k : ℕ) (v : A) → allOf p l ≡ true → p v ≡ true → allOf p (set l k v) ≡ true
+  unfolding allOf
   all-set [] k v e f = refl
-  all-set (a ∷ l) zero v e f = and-intro f (and-both (p a) (all p l) e .1)
-  all-set (a ∷ l) (suc k) v e f = let h = and-both (p a) (all p l) e in and-intro (h .0) (all-set l k v (h .1) f)
+  all-set (a ∷ l) zero v e f = and-intro f (and-both (p a) (allOf p l) e .1)
+  all-set (a ∷ l) (suc k) v e f = let h = and-both (p a) (allOf p l) e in and-intro (h .0) (all-set l k v (h .1) f)
 
-  pub all-removeAt : (k : ℕ) (l : List A) → all p l ≡ true → all p (removeAt k l) ≡ true
-  unfolding all removeAt
+  pub all-removeAt : (k : ℕ) (l : List A) → allOf p l ≡ true → allOf p (removeAt k l) ≡ true
+  unfolding allOf removeAt
   all-removeAt k [] e = refl
-  all-removeAt zero (a ∷ l) e = and-both (p a) (all p l) e .1
-  all-removeAt (suc k) (a ∷ l) e = let h = and-both (p a) (all p l) e in and-intro (h .0) (all-removeAt k l (h .1))
+  all-removeAt zero (a ∷ l) e = and-both (p a) (allOf p l) e .1
+  all-removeAt (suc k) (a ∷ l) e = let h = and-both (p a) (allOf p l) e in and-intro (h .0) (all-removeAt k l (h .1))
 
 and-swap : (a b c d : Bool) → (a && b) && (c && d) ≡ (a && c) && (b && d)
 and-swap true true c d = refl
@@ -232,26 +232,26 @@ and-swap true false c d = sym (and-false c)
 and-swap false b c d = refl
 
 -- two tests on each element
-pub all-both : {A : Type 0} (p q : A → Bool) (l : List A) → all (λ a. p a && q a) l ≡ all p l && all q l
-unfolding all
+pub all-both : {A : Type 0} (p q : A → Bool) (l : List A) → allOf (λ a. p a && q a) l ≡ allOf p l && allOf q l
+unfolding allOf
 all-both p q [] = refl
-all-both p q (a ∷ l) = ap (λ (b : Bool). (p a && q a) && b) (all-both p q l) ∙ and-swap (p a) (q a) (all p l) (all q l)
+all-both p q (a ∷ l) = ap (λ (b : Bool). (p a && q a) && b) (all-both p q l) ∙ and-swap (p a) (q a) (allOf p l) (allOf q l)
 
 -- zeros, and only they, pass the test for zero
-pub all-zeros : (n : ℕ) → all (λ b. eqb b 0) (replicate n 0) ≡ true
+pub all-zeros : (n : ℕ) → allOf (λ b. eqb b 0) (replicate n 0) ≡ true
 all-zeros n = all-replicate (λ b. eqb b 0) n 0 refl
 
-pub zeros-all : (l : List ℕ) → all (λ b. eqb b 0) l ≡ true → l ≡ replicate (length l) 0
-unfolding all
+pub zeros-all : (l : List ℕ) → allOf (λ b. eqb b 0) l ≡ true → l ≡ replicate (length l) 0
+unfolding allOf
 zeros-all [] e = refl
 zeros-all (b ∷ l) e =
-    let h = and-both (eqb b 0) (all (λ b. eqb b 0) l) e in rw (eqb-true b 0 (h .0), ← zeros-all l (h .1)) refl
+    let h = and-both (eqb b 0) (allOf (λ b. eqb b 0) l) e in rw (eqb-true b 0 (h .0), ← zeros-all l (h .1)) refl
 
-pub zeros-getD : (l : List ℕ) (n : ℕ) → all (λ b. eqb b 0) l ≡ true → getD l n 0 ≡ 0
-unfolding all
+pub zeros-getD : (l : List ℕ) (n : ℕ) → allOf (λ b. eqb b 0) l ≡ true → getD l n 0 ≡ 0
+unfolding allOf
 zeros-getD [] n e = refl
-zeros-getD (j ∷ l) zero e = eqb-true j 0 (and-both (eqb j 0) (all (λ j. eqb j 0) l) e .0)
-zeros-getD (j ∷ l) (suc n) e = zeros-getD l n (and-both (eqb j 0) (all (λ j. eqb j 0) l) e .1)
+zeros-getD (j ∷ l) zero e = eqb-true j 0 (and-both (eqb j 0) (allOf (λ j. eqb j 0) l) e .0)
+zeros-getD (j ∷ l) (suc n) e = zeros-getD l n (and-both (eqb j 0) (allOf (λ j. eqb j 0) l) e .1)
 
 -- ---- members
 pub member-append : (n : ℕ) (k l : List ℕ) → member n (k ++ l) ≡ member n k || member n l
@@ -290,11 +290,11 @@ pub absent-differs : (a b : ℕ) (l : List ℕ) → member a l ≡ false → mem
 absent-differs a b l e f q = true≢false (sym f ∙ ap (λ (n : ℕ). member n l) (sym q) ∙ e)
 
 -- a number that fails a test that every element passes is no member
-pub all-member : (p : ℕ → Bool) (n : ℕ) (l : List ℕ) → all p l ≡ true → p n ≡ false → member n l ≡ false
-unfolding all member
+pub all-member : (p : ℕ → Bool) (n : ℕ) (l : List ℕ) → allOf p l ≡ true → p n ≡ false → member n l ≡ false
+unfolding allOf member
 all-member p n [] e h = refl
 all-member p n (a ∷ l) e h =
-    let parts = and-both (p a) (all p l) e in
+    let parts = and-both (p a) (allOf p l) e in
     let other : a ≡ n → ⊥ = λ q. true≢false (sym (parts .0) ∙ ap p q ∙ h) in
     rw (ne-eqb a n other) (all-member p n l (parts .1) h)
 
@@ -431,8 +431,8 @@ below-three (suc n) f =
 
 module _ {A : Type 0} where
   -- a test of f 0, f 1 and so on
-  pub all-tabulate : (p : A → Bool) (n : ℕ) (f : ℕ → A) → all p (tabulate n f) ≡ everyBelow n (λ k. p (f k))
-  unfolding all tabulate everyBelow
+  pub all-tabulate : (p : A → Bool) (n : ℕ) (f : ℕ → A) → allOf p (tabulate n f) ≡ everyBelow n (λ k. p (f k))
+  unfolding allOf tabulate everyBelow
   all-tabulate p zero f = refl
   all-tabulate p (suc n) f =
       ap (λ (t : Bool). p (f 0) && t) (all-tabulate p n (λ k. f (suc k))) ∙ sym (below-first n (λ k. p (f k)))

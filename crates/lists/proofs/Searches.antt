@@ -10,7 +10,7 @@ use native.Mathlib.Decide.{ℕ-discrete}
 use lib.Dec.{eqb}
 use lib.ListN.{length}
 use borrow.Author.Tests.{eqb-true, eqb-false, ne-eqb, not-true}
-use Rattle.lists.specs.Lists.{between, every, lowest, count, sumUpTo, member, distinct, all}
+use Rattle.lists.specs.Lists.{between, every, lowest, countUpTo, sumUpTo, member, distinct, allOf}
 use Rattle.lists.proofs.Tests.{and-both, and-intro, fails, refuted, by-answer, by-test, within, between-intro, eqb-self, same?}
 
 -- what holds of every number below n, and of n, holds of every number below n + 1
@@ -108,28 +108,28 @@ every-false n p k l h = refuted (every n p) (p k) (λ e. every-at n p e k l h)
 
 -- ---- count
 
-pub count-same : (n : ℕ) (p q : ℕ → Bool) → ((k : ℕ) → 1 ≤ k → k ≤ n → p k ≡ q k) → count n p ≡ count n q
-unfolding count
+pub count-same : (n : ℕ) (p q : ℕ → Bool) → ((k : ℕ) → 1 ≤ k → k ≤ n → p k ≡ q k) → countUpTo n p ≡ countUpTo n q
+unfolding countUpTo
 count-same zero p q h = refl
 count-same (suc n) p q h = rw (count-same n p q (λ k a b. h k a (omega arith)), h (suc n) (omega arith) (omega arith))
 
-pub count-le : (n : ℕ) (p : ℕ → Bool) → count n p ≤ n
-unfolding count
+pub count-le : (n : ℕ) (p : ℕ → Bool) → countUpTo n p ≤ n
+unfolding countUpTo
 count-le zero p = omega arith
 count-le (suc n) p = by-test (λ (k : ℕ). k ≤ suc n) (p (suc n)) (λ _. omega (arith, count-le n p)) (λ _. omega (arith, count-le n p))
 
-pub count-none : (n : ℕ) (p : ℕ → Bool) → ((k : ℕ) → 1 ≤ k → k ≤ n → p k ≡ false) → count n p ≡ 0
-unfolding count
+pub count-none : (n : ℕ) (p : ℕ → Bool) → ((k : ℕ) → 1 ≤ k → k ≤ n → p k ≡ false) → countUpTo n p ≡ 0
+unfolding countUpTo
 count-none zero p h = refl
 count-none (suc n) p h = rw (h (suc n) (omega arith) (omega arith)) (count-none n p (λ k a b. h k a (omega arith)))
 
 -- what passes is counted
-pub count-some : (n : ℕ) (p : ℕ → Bool) (k : ℕ) → 1 ≤ k → k ≤ n → p k ≡ true → 1 ≤ count n p
-unfolding count
+pub count-some : (n : ℕ) (p : ℕ → Bool) (k : ℕ) → 1 ≤ k → k ≤ n → p k ≡ true → 1 ≤ countUpTo n p
+unfolding countUpTo
 count-some zero p k a b e = absurd (omega arith)
 count-some (suc n) p k a b e = go (ℕ-discrete k (suc n)) (count-some n p k a)
   where
-    go : Dec (k ≡ suc n) → (k ≤ n → p k ≡ true → 1 ≤ count n p) → 1 ≤ cond (p (suc n)) (suc (count n p)) (count n p)
+    go : Dec (k ≡ suc n) → (k ≤ n → p k ≡ true → 1 ≤ countUpTo n p) → 1 ≤ cond (p (suc n)) (suc (countUpTo n p)) (countUpTo n p)
     go (yes q) ih = rw (rw q at e) (omega arith)
     go (no q) ih = by-test (λ (m : ℕ). 1 ≤ m) (p (suc n)) (λ _. omega arith) (λ _. ih (omega arith) e)
 
@@ -139,15 +139,15 @@ one-up false x y h = h
 
 -- one more passes
 pub count-one-more : (n : ℕ) (p q : ℕ → Bool) (k : ℕ) → 1 ≤ k → k ≤ n → p k ≡ true → q k ≡ false → ((j : ℕ) → 1 ≤ j → j ≤ n → j ≢ k → p j ≡ q j)
-    → count n p ≡ count n q + 1
-unfolding count
+    → countUpTo n p ≡ countUpTo n q + 1
+unfolding countUpTo
 count-one-more zero p q k a b e f h = absurd (omega arith)
 count-one-more (suc n) p q k a b e f h = go (ℕ-discrete k (suc n)) (λ b. count-one-more n p q k a b e f (λ j c d. h j c (omega arith)))
   where
-    go : Dec (k ≡ suc n) → (k ≤ n → count n p ≡ count n q + 1)
-        → cond (p (suc n)) (suc (count n p)) (count n p) ≡ cond (q (suc n)) (suc (count n q)) (count n q) + 1
+    go : Dec (k ≡ suc n) → (k ≤ n → countUpTo n p ≡ countUpTo n q + 1)
+        → cond (p (suc n)) (suc (countUpTo n p)) (countUpTo n p) ≡ cond (q (suc n)) (suc (countUpTo n q)) (countUpTo n q) + 1
     go (yes z) ih = rw (rw z at e, rw z at f) (omega (arith, count-same n p q (λ j c d. h j c (omega arith) (omega arith))))
-    go (no z) ih = rw (h (suc n) (omega arith) (omega arith) (λ y. z (sym y))) (one-up (q (suc n)) (count n p) (count n q) (ih (omega arith)))
+    go (no z) ih = rw (h (suc n) (omega arith) (omega arith) (λ y. z (sym y))) (one-up (q (suc n)) (countUpTo n p) (countUpTo n q) (ih (omega arith)))
 
 -- ---- sums
 
@@ -263,41 +263,41 @@ pigeonhole n k f b d =
     )
 
 -- distinct numbers from 1 to n are at most n of them: as many as the numbers from 1 to n that stand in the list
-length-count : (n : ℕ) (l : List ℕ) → distinct l ≡ true → all (between 1 n) l ≡ true → length l ≤ count n (λ k. member k l)
-unfolding member distinct all
+length-count : (n : ℕ) (l : List ℕ) → distinct l ≡ true → allOf (between 1 n) l ≡ true → length l ≤ countUpTo n (λ k. member k l)
+unfolding member distinct allOf
 length-count n [] d h = zero-le
 length-count n (a ∷ l) d h =
     let new = and-both (not (member a l)) (distinct l) d in
-    let range = and-both (between 1 n a) (all (between 1 n) l) h in
+    let range = and-both (between 1 n a) (allOf (between 1 n) l) h in
     let ends = within 1 n a (range .0) in
     let more = count-one-more n (λ k. eqb a k || member k l) (λ k. member k l) a (ends .0) (ends .1) (rw (eqb-self a) refl) (not-true (member a l) (new .0)) (λ j _ _ q. rw (ne-eqb a j (λ e. q (sym e))) refl) in
     omega (arith, length-count n l (new .1) (range .1))
 
 -- a list has no fewer elements than numbers from 1 to n, and more where one stands there twice
-count-with-same : (n a : ℕ) (p : ℕ → Bool) → p a ≡ true → count n (λ k. eqb a k || p k) ≡ count n p
+count-with-same : (n a : ℕ) (p : ℕ → Bool) → p a ≡ true → countUpTo n (λ k. eqb a k || p k) ≡ countUpTo n p
 count-with-same n a p e =
     count-same n _ p (λ k _ _. by-answer (eqb a k) (λ q. rw (q) (sym (ap p (sym (eqb-true a k q)) ∙ e))) (λ q. rw (q) refl))
 
-count-with : (n a : ℕ) (p : ℕ → Bool) → count n (λ k. eqb a k || p k) ≤ suc (count n p)
+count-with : (n a : ℕ) (p : ℕ → Bool) → countUpTo n (λ k. eqb a k || p k) ≤ suc (countUpTo n p)
 count-with n a p =
     by-answer (p a) (λ e. omega (arith, count-with-same n a p e)) (λ e. by-answer (between 1 n a)
     (λ q. let r = within 1 n a q in omega (arith, count-one-more n (λ k. eqb a k || p k) p a (r .0) (r .1) (rw (eqb-self a) refl) e (λ j _ _ z. rw (ne-eqb a j (λ y. z (sym y))) refl)))
     (λ q. omega (arith, count-same n (λ k. eqb a k || p k) p (λ k l h. rw (ne-eqb a k (λ y. true≢false (sym (between-intro 1 n k l h) ∙ ap (between 1 n) (sym y) ∙ q))) refl))))
 
-count-length : (n : ℕ) (l : List ℕ) → count n (λ k. member k l) ≤ length l
+count-length : (n : ℕ) (l : List ℕ) → countUpTo n (λ k. member k l) ≤ length l
 unfolding member
 count-length n [] = omega (arith, count-none n (λ _. false) (λ _ _ _. refl))
 count-length n (a ∷ l) = omega (arith, count-with n a (λ k. member k l), count-length n l)
 
-count-twice : (n : ℕ) (l : List ℕ) → distinct l ≡ false → count n (λ k. member k l) < length l
+count-twice : (n : ℕ) (l : List ℕ) → distinct l ≡ false → countUpTo n (λ k. member k l) < length l
 unfolding member distinct
 count-twice n [] e = absurd (true≢false e)
 count-twice n (a ∷ l) e =
     by-answer (member a l) (λ q. omega (arith, count-with-same n a (λ k. member k l) q, count-length n l))
     (λ q. omega (arith, count-with n a (λ k. member k l), count-twice n l (rw (q) at e)))
 
-count-all : (n : ℕ) (p : ℕ → Bool) → ((k : ℕ) → 1 ≤ k → k ≤ n → p k ≡ true) → count n p ≡ n
-unfolding count
+count-all : (n : ℕ) (p : ℕ → Bool) → ((k : ℕ) → 1 ≤ k → k ≤ n → p k ≡ true) → countUpTo n p ≡ n
+unfolding countUpTo
 count-all zero p f = refl
 count-all (suc n) p f = rw (f (suc n) (omega arith) (omega arith)) (ap suc (count-all n p (λ k l h. f k l (omega arith))))
 
@@ -307,12 +307,12 @@ all-distinct l f =
     by-answer (distinct l) (λ e. e) (λ e. absurd (omega (arith, count-twice (length l) l e, count-all (length l) (λ k. member k l) f)))
 
 -- so n of them are all
-pub distinct-all : (l : List ℕ) → distinct l ≡ true → all (between 1 (length l)) l ≡ true → (k : ℕ) → 1 ≤ k → k ≤ length l → member k l ≡ true
+pub distinct-all : (l : List ℕ) → distinct l ≡ true → allOf (between 1 (length l)) l ≡ true → (k : ℕ) → 1 ≤ k → k ≤ length l → member k l ≡ true
 distinct-all l d h k low high =
     by-answer (member k l) (λ e. e) (λ e.
     let n = length l in
     let more = count-one-more n (λ j. eqb k j || member j l) (λ j. member j l) k low high (rw (eqb-self k) refl) e (λ j _ _ q. rw (ne-eqb k j (λ z. q (sym z))) refl) in
     absurd (omega (arith, length-count n l d h, count-le n (λ j. eqb k j || member j l))))
 
-pub distinct-length : (n : ℕ) (l : List ℕ) → distinct l ≡ true → all (between 1 n) l ≡ true → length l ≤ n
+pub distinct-length : (n : ℕ) (l : List ℕ) → distinct l ≡ true → allOf (between 1 n) l ≡ true → length l ≤ n
 distinct-length n l d h = omega (arith, length-count n l d h, count-le n (λ k. member k l))

@@ -24,9 +24,9 @@ lowest zero p = 0
 lowest (suc n) p = let k = lowest n p in cond (eqb k 0) (cond (p (suc n)) (suc n) 0) k
 
 -- how many numbers from 1 to n pass the test
-unfoldable pub count : ℕ → (ℕ → Bool) → ℕ
-count zero p = 0
-count (suc n) p = cond (p (suc n)) (suc (count n p)) (count n p)
+unfoldable pub countUpTo : ℕ → (ℕ → Bool) → ℕ
+countUpTo zero p = 0
+countUpTo (suc n) p = cond (p (suc n)) (suc (countUpTo n p)) (countUpTo n p)
 
 -- f 1 + .. + f n
 unfoldable pub sumUpTo : ℕ → (ℕ → ℕ) → ℕ
@@ -45,9 +45,9 @@ distinct (k ∷ l) = not (member k l) && distinct l
 
 module _ {A : Type 0} where
   -- every element passes the test
-  unfoldable pub all : (A → Bool) → List A → Bool
-  all p [] = true
-  all p (a ∷ l) = p a && all p l
+  unfoldable pub allOf : (A → Bool) → List A → Bool
+  allOf p [] = true
+  allOf p (a ∷ l) = p a && allOf p l
 
   -- the elements that pass the test, in order
   unfoldable pub filter : (A → Bool) → List A → List A

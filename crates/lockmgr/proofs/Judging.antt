@@ -7,7 +7,7 @@ use native.Mathlib.Omega.{arith}
 use lib.Dec.{eqb}
 use lib.ListN.{length}
 use borrow.Author.Tests.{le-leb, eqb-true, eq-eqb, ne-eqb}
-use Rattle.lists.specs.Lists.{between, all}
+use Rattle.lists.specs.Lists.{between, allOf}
 use Rattle.lists.proofs.Tests.{and-both, between-intro, fails, within}
 use Rattle.message.specs.Limits.{maxSessions, maxItems}
 use Rattle.session.specs.Seniority
@@ -87,7 +87,7 @@ module _ (verb t x : ℕ) (table mail : List ℕ) where
 
     module _ (none : first (bufferCauses table mail) ≡ 0) where
       judged-rest : judged verb t x table mail ≡ cond (not numbers) Refusal.badNumber 0
-      unfolding first all
+      unfolding first allOf
       judged-rest = judged-verbs ∙ first-goes-on (bufferCauses table mail) rest refl none
 
       pub judged-number : (1 ≤ t → t ≤ Table.sessionsOf table → 1 ≤ x → x ≤ Table.itemsOf table → ⊥) → judged verb t x table mail ≡ Refusal.badNumber
@@ -230,7 +230,7 @@ module _ (t : ℕ) (table : List ℕ) where
         rw (first-stops (reportCauses t table) (textCauses t table buffer) h, ne-eqb (first (reportCauses t table)) 0 h) refl
 
     pub text-judged : reportRefusal t table ≡ 0 → cycleText t table buffer ≡ unlessRefused (first (textCauses t table buffer)) (text table t) buffer
-    unfolding reportRefusal cycleText all
+    unfolding reportRefusal cycleText allOf
     text-judged e = rw (first-goes-on (reportCauses t table) (textCauses t table buffer) refl e) refl
 
 -- a reopening: the causes of the buffers, that of the number, and its own
@@ -244,7 +244,7 @@ module _ (t : ℕ) (table mail : List ℕ) where
 
   module _ (none : first (bufferCauses table mail) ≡ 0) where
     reopen-later : reopen t table mail ≡ Reopening.unlessRefused (first (sessionCauses t table mail)) t table
-    unfolding reopen all
+    unfolding reopen allOf
     reopen-later = rw (first-goes-on (bufferCauses table mail) (sessionCauses t table mail) refl none) refl
 
     pub reopen-number : (1 ≤ t → t ≤ Table.sessionsOf table → ⊥) → reopen t table mail ≡ reopened Refusal.badNumber table

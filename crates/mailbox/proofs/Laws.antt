@@ -10,7 +10,7 @@ use lib.ListN.{length, getD, replicate, length-append, List·getD-append}
 use lib.Seq.{take-length, getD-append-add, ext-getD}
 use borrow.Author.Tests.{leb-true, eqb-true, le-leb, eq-eqb, ne-eqb}
 use Rattle.buffer.specs.Bytes.{slice, fromBytes, toBytes, padded}
-use Rattle.lists.specs.Lists.{between, all, tabulate}
+use Rattle.lists.specs.Lists.{between, allOf, tabulate}
 use Rattle.lists.proofs.Laws.{all-getD, all-zeros, getD-tabulate, length-tabulate, zeros-all}
 use Rattle.lists.proofs.Tests.{and-both, within}
 use Rattle.buffer.proofs.Laws.{AreBytes, length-slice, slice-split, bytes-slice, toBytes-fromBytes}
@@ -133,7 +133,7 @@ module _ (C : ℕ) (l : List Entry) (low : 1 ≤ C) (high : C ≤ maxCapacity) (
       ∙ slice-padding (width * C) (bodies l) (width * length l) (width * (C - length l)) (sym (length-bodies l)) (omega (arith, length-bodies l))
 
   -- well-formed entries make a well-formed mailbox
-  pub wellFormed-mail : (S M : ℕ) → all (Entry.wellFormed S M) l ≡ true → wellFormed S M (mailBytes C l) ≡ true
+  pub wellFormed-mail : (S M : ℕ) → allOf (Entry.wellFormed S M) l ≡ true → wellFormed S M (mailBytes C l) ≡ true
   unfolding wellFormed
   wellFormed-mail S M e =
       rw (capacity-mail, count-mail, entries-mail, unused-routes, unused-bodies, le-leb (length l) C room, e, all-zeros (width * (C - length l))) refl
@@ -179,17 +179,17 @@ short-unsized m h = rw (ne-eqb (length m) (size (capacityOf m)) (λ e. omega ari
 -- what `wellFormed` tells
 pub record FormFacts (S M : ℕ) (m : List ℕ) : Type 0 where
   pub fits : countOf m ≤ capacityOf m
-  pub entries : all (Entry.wellFormed S M) (entriesOf m) ≡ true
-  pub routes : all (λ b. eqb b 0) (slice m (routePlace (countOf m)) (width * (capacityOf m - countOf m))) ≡ true
-  pub bodies : all (λ b. eqb b 0) (slice m (bodyPlace (capacityOf m) (countOf m)) (width * (capacityOf m - countOf m))) ≡ true
+  pub entries : allOf (Entry.wellFormed S M) (entriesOf m) ≡ true
+  pub routes : allOf (λ b. eqb b 0) (slice m (routePlace (countOf m)) (width * (capacityOf m - countOf m))) ≡ true
+  pub bodies : allOf (λ b. eqb b 0) (slice m (bodyPlace (capacityOf m) (countOf m)) (width * (capacityOf m - countOf m))) ≡ true
 
 pub formed-facts : (S M : ℕ) (m : List ℕ) → wellFormed S M m ≡ true → FormFacts S M m
 unfolding wellFormed
 formed-facts S M m e =
     let fits = leb (countOf m) (capacityOf m) in
-    let entries = all (Entry.wellFormed S M) (entriesOf m) in
-    let routes = all (λ b. eqb b 0) (slice m (routePlace (countOf m)) (width * (capacityOf m - countOf m))) in
-    let bodies = all (λ b. eqb b 0) (slice m (bodyPlace (capacityOf m) (countOf m)) (width * (capacityOf m - countOf m))) in
+    let entries = allOf (Entry.wellFormed S M) (entriesOf m) in
+    let routes = allOf (λ b. eqb b 0) (slice m (routePlace (countOf m)) (width * (capacityOf m - countOf m))) in
+    let bodies = allOf (λ b. eqb b 0) (slice m (bodyPlace (capacityOf m) (countOf m)) (width * (capacityOf m - countOf m))) in
     let three = and-both (fits && entries && routes) bodies e .0 in
     let two = and-both (fits && entries) routes three .0 in
     record {
@@ -206,7 +206,7 @@ formed-entry S M m e k h =
 
 -- a run of entries and the zeros behind it
 padded-slice : (m r : List ℕ) (at n C : ℕ) → at + width * C ≤ length m → n ≤ C → r ≡ slice m at (width * n)
-    → all (λ b. eqb b 0) (slice m (at + width * n) (width * (C - n))) ≡ true → slice m at (width * C) ≡ padded (width * C) r
+    → allOf (λ b. eqb b 0) (slice m (at + width * n) (width * (C - n))) ≡ true → slice m at (width * C) ≡ padded (width * C) r
 padded-slice m r at n C h p e z =
     let split : width * C ≡ width * n + width * (C - n) = omega arith in
     let len : length r ≡ width * n = ap length e ∙ length-slice m at (width * n) (omega arith) in
@@ -237,8 +237,8 @@ formed-kept S M m s w b =
     (bodies-triples (entriesOf m) ∙ triples-tabulate (λ e. e .kind) (λ e. e .a) (λ e. e .b) m n (routePlace C) (entryAt m) (omega (arith, z .whole, f .fits)) (λ k. refl) (λ k. refl) (λ k. refl))
     (f .bodies) in
     let whole : m ≡ slice m 0 2 ++ (slice m countPlace 2 ++ (slice m header (width * C) ++ slice m (routePlace C) (width * C))) =
-    let all : length m ≡ 2 + (2 + (width * C + width * C)) = omega (arith, z .whole) in
-    sym (take-length m) ∙ ap (λ (k : ℕ). slice m 0 k) all
+    let allOf : length m ≡ 2 + (2 + (width * C + width * C)) = omega (arith, z .whole) in
+    sym (take-length m) ∙ ap (λ (k : ℕ). slice m 0 k) allOf
     ∙ slice-split m 0 2 (2 + (width * C + width * C))
     ∙ ap (λ (k : List ℕ). slice m 0 2 ++ k) (slice-split m countPlace 2 (width * C + width * C))
     ∙ ap (λ (k : List ℕ). slice m 0 2 ++ (slice m countPlace 2 ++ k)) (slice-split m header (width * C) (width * C)) in

@@ -6,7 +6,7 @@ use Prim.Native.Nat.{ℕ, _-_, _*_, _≤_, _<_}
 use lib.Dec.{eqb, leb}
 use borrow.Author.Tests.{not-false}
 use Rattle.buffer.specs.Bytes.{slice}
-use Rattle.lists.specs.Lists.{all, everyBelow}
+use Rattle.lists.specs.Lists.{allOf, everyBelow}
 use Rattle.lists.proofs.Laws.{all-tabulate, below-cong, findIndex-tabulate}
 use Rattle.entry.specs.Entry.{wellFormed, onRoute, earliest, width}
 use Rattle.entry.specs.Cells.{misses}
@@ -27,6 +27,6 @@ earliest-found m d t x {r = r} c (h, e, f) =
 -- the test of the whole mailbox as the code makes it
 pub whole-test : (S M : ℕ) (m : List ℕ) {C n : ℕ} → C ≡ capacityOf m → n ≡ countOf m
     → Layout.wellFormed S M m
-    ≡ (leb n C && everyBelow n (formAt m S M header (routePlace C)) && all (λ b. eqb b 0) (slice m (routePlace n) (width * (C - n))) && all (λ b. eqb b 0) (slice m (bodyPlace C n) (width * (C - n))))
+    ≡ (leb n C && everyBelow n (formAt m S M header (routePlace C)) && allOf (λ b. eqb b 0) (slice m (routePlace n) (width * (C - n))) && allOf (λ b. eqb b 0) (slice m (bodyPlace C n) (width * (C - n))))
 unfolding Layout.wellFormed entriesOf entryAt
 whole-test S M m e f = rw (e, f, all-tabulate (wellFormed S M) (countOf m) (entryAt m)) refl

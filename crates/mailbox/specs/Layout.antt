@@ -7,7 +7,7 @@ use mathlib.Core.List.{List, [], _∷_, _++_}
 use lib.Dec.{eqb, leb}
 use lib.ListN.{length}
 use Rattle.buffer.specs.Bytes.{slice, fromBytes, toBytes, padded}
-use Rattle.lists.specs.Lists.{between, all, tabulate}
+use Rattle.lists.specs.Lists.{between, allOf, tabulate}
 use Rattle.message.specs.declared.Outbox.{Outbox}
 use Rattle.message.specs.Outbox.{room}
 use Rattle.entry.specs.Entry as Entry
@@ -59,9 +59,9 @@ routeOf e = record { direction = e .direction; session = e .session; item = e .i
 unfoldable pub wellFormed : ℕ → ℕ → List ℕ → Bool
 wellFormed S M m =
     leb (countOf m) (capacityOf m)
-    && all (Entry.wellFormed S M) (entriesOf m)
-    && all (λ b. eqb b 0) (slice m (routePlace (countOf m)) (width * (capacityOf m - countOf m)))
-    && all (λ b. eqb b 0) (slice m (bodyPlace (capacityOf m) (countOf m)) (width * (capacityOf m - countOf m)))
+    && allOf (Entry.wellFormed S M) (entriesOf m)
+    && allOf (λ b. eqb b 0) (slice m (routePlace (countOf m)) (width * (capacityOf m - countOf m)))
+    && allOf (λ b. eqb b 0) (slice m (bodyPlace (capacityOf m) (countOf m)) (width * (capacityOf m - countOf m)))
 
 unfoldable pub routes : List Entry → List ℕ
 routes [] = []

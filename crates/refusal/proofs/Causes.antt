@@ -6,7 +6,7 @@ use Prim.Native.Nat.{ℕ, suc}
 use native.Mathlib.Omega.{arith}
 use lib.Dec.{eqb}
 use borrow.Author.Tests.{eqb-false, not-true, not-false}
-use Rattle.lists.specs.Lists.{all}
+use Rattle.lists.specs.Lists.{allOf}
 use Rattle.lists.proofs.Tests.{and-both}
 use Rattle.refusal.specs.Refusal.{Cause, cause, first}
 
@@ -29,11 +29,11 @@ first-stops [] l h = absurd (h refl)
 first-stops (c ∷ k) l h = stops (c .holds) (c .refusal) (first (k ++ l)) (first k) (first-stops k l) h
 
 -- none of the first list holds
-pub first-goes-on : (k l : List Cause) → all numbered k ≡ true → first k ≡ 0 → first (k ++ l) ≡ first l
-unfolding first all
+pub first-goes-on : (k l : List Cause) → allOf numbered k ≡ true → first k ≡ 0 → first (k ++ l) ≡ first l
+unfolding first allOf
 first-goes-on [] l e z = refl
 first-goes-on (c ∷ k) l e z =
-    let h = and-both (numbered c) (all numbered k) e in
+    let h = and-both (numbered c) (allOf numbered k) e in
     goes-on (c .holds) (c .refusal) (first (k ++ l)) (first k) (first l) (h .0) (first-goes-on k l (h .1)) z
 
 -- where no cause holds, the first does not, nor does any behind it

@@ -4,7 +4,7 @@ use mathlib.Core.Bool.{Bool, cond, not, _&&_, _||_}
 use mathlib.Core.List.{List, [], _∷_}
 use lib.Dec.{eqb}
 use lib.ListN.{getD}
-use Rattle.lists.specs.Lists.{all, every, member}
+use Rattle.lists.specs.Lists.{allOf, every, member}
 use Rattle.refusal.specs.Refusal
 use Rattle.refusal.specs.Refusal.{Cause, cause}
 use Rattle.message.specs.Kind
@@ -43,7 +43,7 @@ noItemNames t table = every (Table.itemsOf table) (λ x. not (itemNames t (Table
 
 -- no entry does
 unfoldable pub noEntryNames : ℕ → List Entry → Bool
-noEntryNames t entries = all (λ e. not (entryNames t e)) entries
+noEntryNames t entries = allOf (λ e. not (entryNames t e)) entries
 
 -- T may be reopened: RULES 8.15
 unfoldable pub mayReopen : ℕ → List ℕ → List ℕ → Bool

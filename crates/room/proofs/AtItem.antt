@@ -10,7 +10,7 @@ use lib.Dec.{eqb}
 use borrow.Author.Tests.{eq-eqb}
 use Rattle.lists.proofs.Tests.{by-test, eqb-self, same?}
 use Rattle.deadlock.specs.Lists.{bit, occurs, without}
-use Rattle.deadlock.specs.Machine.{abort, afterItem, clean, down, Entry, handOver, heldBy, inQueue, Item, itemDrops, itemReceives, ItemStep, Laws, Message, onRebroadcast, onRelease, passClean, passProbe, probe, probesAnew, rebroadcast, release, request, Rules, Sends, State, take, taken, up, victim, withdraw}
+use Rattle.deadlock.specs.Machine.{abort, afterItem, clean, down, Entry, handOver, heldBy, inQueue, Item, itemDrops, itemReceives, ItemStep, Laws, Message, onRebroadcast, onRelease, passClean, passProbe, probe, probesAnew, rebroadcast, release, request, Rules, Sends, State, takeFirst, taken, up, victim, withdraw}
 use Rattle.message.specs.Kind
 use Rattle.deadlock.specs.Counts.{cleansOf, countKind, every-cons, every-nil}
 use Rattle.deadlock.specs.Links.{mayRelease}
@@ -75,7 +75,7 @@ module _ (R : Rules) (L : Laws R) (p : Snapshot) (k : Sound R p) (s : State) (i 
         cases (inl q) = inl (e ∙ q)
         cases (inr q) = inr (handed y (q .over) (after .item y) refl (λ h z. q .now h (sym e ∙ z)))
 
-    kept-clears : (m : Message) → take true t x (s .mailbox) ≡ taken m l → Kept m o → Clearing p R after
+    kept-clears : (m : Message) → takeFirst true t x (s .mailbox) ≡ taken m l → Kept m o → Clearing p R after
     unfolding afterItem mailWeight
     kept-clears m e d = record {
       victim-stage = c .victim-stage;
@@ -219,7 +219,7 @@ module _ (R : Rules) (L : Laws R) (p : Snapshot) (k : Sound R p) (s : State) (i 
     cleaned = stays (clean v j) (itemReceives R t (s .item x) (clean v j)) refl (clean-sends (s .item x .holder) refl)
 
   -- ---- all of them
-  kept : (m : Message) → take true t x (s .mailbox) ≡ taken m l → AllowedMessage p t x m → Kept m (itemReceives R t (s .item x) m)
+  kept : (m : Message) → takeFirst true t x (s .mailbox) ≡ taken m l → AllowedMessage p t x m → Kept m (itemReceives R t (s .item x) m)
   unfolding itemReceives upRoute countKind cleansOf
   kept (up request) e a = absurd a
   kept (up release) e a =
@@ -233,6 +233,6 @@ module _ (R : Rules) (L : Laws R) (p : Snapshot) (k : Sound R p) (s : State) (i 
   kept (abort v j) e a = dropped (abort v j)
 
 pub item-clears : (R : Rules) (L : Laws R) (p : Snapshot) → Sound R p → (s : State) → Invariant R s → Clearing p R s → (t x : ℕ) → 1 ≤ x → x ≤ R .M
-    → (m : Message) (l : List Entry) → take true t x (s .mailbox) ≡ taken m l → Clearing p R (afterItem s x l (itemReceives R t (s .item x) m))
+    → (m : Message) (l : List Entry) → takeFirst true t x (s .mailbox) ≡ taken m l → Clearing p R (afterItem s x l (itemReceives R t (s .item x) m))
 item-clears R L p k s i c t x lo hi m l e =
     kept-clears R L p k s i c t x lo hi l (itemReceives R t (s .item x) m) m e (kept R L p k s i c t x lo hi l m e (every-take true t x m l (c .mail) e .0 .1))

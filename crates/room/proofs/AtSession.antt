@@ -13,7 +13,7 @@ use Rattle.lists.proofs.Searches.{sum-add, sum-mono, sum-single}
 use Rattle.lists.proofs.Tests.{by-answer, by-test, eqb-self}
 use Rattle.message.specs.Kind
 use Rattle.deadlock.specs.Lists.{bit, oneTo}
-use Rattle.deadlock.specs.Machine.{abort, afterSession, clean, cleaning, down, Entry, grant, growing, heldBy, isLive, isNews, junior, Laws, Message, onAbort, onGrant, onProbe, onResend, onWithdrawn, probe, release, releasing, resend, route, Rules, Sends, Session, sessionDrops, sessionReceives, SessionStep, Stage, State, storedProbes, storeProbe, take, taken, toAwaited, toEach, up, victim, waiting, withdrawing, withdrawn}
+use Rattle.deadlock.specs.Machine.{abort, afterSession, clean, cleaning, down, Entry, grant, growing, heldBy, isLive, isNews, junior, Laws, Message, onAbort, onGrant, onProbe, onResend, onWithdrawn, probe, release, releasing, resend, route, Rules, Sends, Session, sessionDrops, sessionReceives, SessionStep, Stage, State, storedProbes, storeProbe, takeFirst, taken, toAwaited, toEach, up, victim, waiting, withdrawing, withdrawn}
 use Rattle.deadlock.specs.Counts.{countBehind, countKind, every-cons, every-nil, isStored}
 use Rattle.deadlock.specs.Links.{awaits, doomed, mayRelease}
 use Rattle.deadlock.specs.World.{HolderIs, isVictim, isWaiting, Live}
@@ -147,7 +147,7 @@ module _ (R : Rules) (L : Laws R) (p : Snapshot) (k : Sound R p) (s : State) (i 
   rolled-back (releasing r) q = drops (down withdrawn)
 
   -- ---- probe
-  module _ (a j : ℕ) (e : take false t x (s .mailbox) ≡ taken (probe a j) l) (o : ofMember p x ≡ true) where
+  module _ (a j : ℕ) (e : takeFirst false t x (s .mailbox) ≡ taken (probe a j) l) (o : ofMember p x ≡ true) where
     holds : Live (worldOf s) t → HolderIs (worldOf s) x t
     holds live = came R s i t x a j l e live .held
 
@@ -203,14 +203,14 @@ module _ (R : Rules) (L : Laws R) (p : Snapshot) (k : Sound R p) (s : State) (i 
     probed (releasing r) q = drops (probe a j)
 
   -- ---- an abort to a waiting session would tell of another cycle
-  aborted : (v a : ℕ) → take false t x (s .mailbox) ≡ taken (abort v a) l → (b : Stage) → own .stage ≡ b → FitsOn (abort v a) (onAbort R own v a b)
+  aborted : (v a : ℕ) → takeFirst false t x (s .mailbox) ≡ taken (abort v a) l → (b : Stage) → own .stage ≡ b → FitsOn (abort v a) (onAbort R own v a b)
   unfolding onAbort
   aborted v a e growing q = drops (abort v a)
   aborted v a e (waiting y) q = absurd (none-to-abort R L p k s i c t (rw q (omega arith)) (told-cycle R s i t x v a y l e q))
   aborted v a e (victim r y) q = drops (abort v a)
   aborted v a e (releasing r) q = drops (abort v a)
 
-  fits : (m : Message) → take false t x (s .mailbox) ≡ taken m l → FitsOn m (sessionReceives R t x own m)
+  fits : (m : Message) → takeFirst false t x (s .mailbox) ≡ taken m l → FitsOn m (sessionReceives R t x own m)
   unfolding sessionReceives
   fits (up m) e = drops (up m)
   fits (down grant) e = granted (own .stage) refl
@@ -221,5 +221,5 @@ module _ (R : Rules) (L : Laws R) (p : Snapshot) (k : Sound R p) (s : State) (i 
   fits (abort v a) e = aborted v a e (own .stage) refl
 
 pub session-clears : (R : Rules) (L : Laws R) (p : Snapshot) → Sound R p → (s : State) → Invariant R s → Tidy R s → Clearing p R s → (t x : ℕ) → 1 ≤ x → x ≤ R .M
-    → (m : Message) (l : List Entry) → take false t x (s .mailbox) ≡ taken m l → Clearing p R (afterSession s t l (sessionReceives R t x (s .session t) m))
+    → (m : Message) (l : List Entry) → takeFirst false t x (s .mailbox) ≡ taken m l → Clearing p R (afterSession s t l (sessionReceives R t x (s .session t) m))
 session-clears R L p k s i d c t x lo hi m l e = kept R p s t c x m l e (sessionReceives R t x (s .session t) m) (fits R L p k s i d c t x lo hi l m e)

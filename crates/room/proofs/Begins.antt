@@ -11,7 +11,7 @@ use lib.ListN.{length}
 use borrow.Author.Tests.{eq-eqb, eqb-true, ne-eqb}
 use Rattle.lists.proofs.Tests.{by-test, eqb-self}
 use Rattle.deadlock.specs.Lists.{oneTo, updated}
-use Rattle.deadlock.specs.Machine.{afterAnswer, afterSession, Answer, Call, deliverToItem, deliverToSession, Entry, fromSession, growing, heldBy, itemTakes, Laws, mayReopen, move, ofMachine, onReleaseCall, onReopenCall, onRequestCall, probesFrom, release, releaseCall, releaseHeld, releasing, reopen, request, requestCall, rolledBack, Rules, Sends, Session, SessionStep, sessionTakes, shrinking, Stage, State, storedProbes, take, up, victim, waiting}
+use Rattle.deadlock.specs.Machine.{afterAnswer, afterSession, Answer, Call, deliverToItem, deliverToSession, Entry, fromSession, growing, heldBy, itemTakes, Laws, mayReopen, move, ofMachine, onReleaseCall, onReopenCall, onRequestCall, probesFrom, release, releaseCall, releaseHeld, releasing, reopen, request, requestCall, rolledBack, Rules, Sends, Session, SessionStep, sessionTakes, shrinking, Stage, State, storedProbes, takeFirst, up, victim, waiting}
 use Rattle.deadlock.specs.Counts.{Every, every-cons, every-nil}
 use Rattle.deadlock.specs.Walks.{rest, Walk}
 use Rattle.deadlock.specs.World.{Edge, isVictim, isWaiting}
@@ -138,7 +138,7 @@ module _ (R : Rules) (L : Laws R) (s : State) (k : Invariant R s) (d : Tidy R s)
   reopen-called t = by-test (λ (b : Answer). Phase R (afterAnswer R s t b)) (mayReopen R s t) (λ _. empty (rw e refl)) (λ _. empty e)
 
   pub phase-begins : (c : Call) → ofMachine R c ≡ true → Phase R (move R s c)
-  unfolding move ofMachine take itemTakes sessionTakes
+  unfolding move ofMachine takeFirst itemTakes sessionTakes
   phase-begins (requestCall t x) o = request-called t x (item-low R t x o) (item-high R t x o) (s .session t .stage)
   phase-begins (releaseCall t x) o = release-called t x (session-low R t x o) (session-high R t x o) (item-low R t x o) (item-high R t x o) (s .session t .stage) refl
   phase-begins (deliverToItem t x) o = rw e (empty refl)

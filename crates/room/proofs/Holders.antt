@@ -8,7 +8,7 @@ use Prim.Native.Nat.{_+_, _≤_, ℕ}
 use native.Mathlib.Omega.{arith}
 use Rattle.lists.proofs.Tests.{same?}
 use Rattle.deadlock.specs.Lists.{bit}
-use Rattle.deadlock.specs.Machine.{abort, Entry, growing, heldBy, releasing, route, Rules, Stage, State, take, taken, victim, waiting}
+use Rattle.deadlock.specs.Machine.{abort, Entry, growing, heldBy, releasing, route, Rules, Stage, State, takeFirst, taken, victim, waiting}
 use Rattle.deadlock.specs.Counts.{Every}
 use Rattle.deadlock.specs.Links.{mayRelease}
 use Rattle.deadlock.specs.World.{AbortTo, CycleOf, Edge, isVictim, OfAbort}
@@ -33,7 +33,7 @@ held-now R s i t y lo hi h =
     held-by (s .item y .holder) t (bit-one (heldBy (s .item y .holder) t) (omega (arith, f .own-if, ap bit h)))
 
 -- an abort to a waiting session tells of a cycle, of which the session is the most junior
-pub told-cycle : (R : Rules) (s : State) → Invariant R s → (t x v i y : ℕ) (l : List Entry) → take false t x (s .mailbox) ≡ taken (abort v i) l → s .session t .stage ≡ waiting y
+pub told-cycle : (R : Rules) (s : State) → Invariant R s → (t x v i y : ℕ) (l : List Entry) → takeFirst false t x (s .mailbox) ≡ taken (abort v i) l → s .session t .stage ≡ waiting y
     → CycleOf R (worldOf s) t (λ u. R .senior u t ≡ true)
 unfolding downRoute AbortTo
 told-cycle R s k t x v i y l e q =

@@ -10,7 +10,7 @@ use lib.ListN.{length, length-append}
 use Rattle.lists.specs.Lists.{member}
 use Rattle.lists.proofs.Tests.{by-test, eqb-self, same?}
 use Rattle.deadlock.specs.Lists.{bit, occurs, updated}
-use Rattle.deadlock.specs.Machine.{afterItem, down, Entry, fromItem, grant, grantOrQueue, heldBy, isOnRoute, Item, itemReceives, ItemStep, Message, noEntry, onRequest, probe, request, Rules, Sends, Stage, State, take, Taken, taken, up}
+use Rattle.deadlock.specs.Machine.{afterItem, down, Entry, fromItem, grant, grantOrQueue, heldBy, isOnRoute, Item, itemReceives, ItemStep, Message, noEntry, onRequest, probe, request, Rules, Sends, Stage, State, takeFirst, Taken, taken, up}
 use Rattle.message.specs.Kind
 use Rattle.deadlock.specs.Counts.{countKind, Every, every-cons, every-nil}
 use Rattle.deadlock.specs.Links.{awaits, doomed, mayRelease}
@@ -88,13 +88,13 @@ module _ (R : Rules) (s : State) (k : Invariant R s) (d : Tidy R s) (a : Asked R
   all-route : Every OfRoute (s .mailbox)
   all-route = subst (Every OfRoute) (sym (a .mail)) (every-cons (refl, refl, refl) (every-map probe-route (a .all-probes)))
 
-  pub only-route : (d : Bool) (t x : ℕ) (o : Taken) → take d t x (s .mailbox) ≡ o → isTaken o ≡ true → (d ≡ true) × (t ≡ T) × (x ≡ X)
+  pub only-route : (d : Bool) (t x : ℕ) (o : Taken) → takeFirst d t x (s .mailbox) ≡ o → isTaken o ≡ true → (d ≡ true) × (t ≡ T) × (x ≡ X)
   only-route d t x noEntry e h = absurd (false≢true h)
   only-route d t x (taken m l) e h = every-take d t x m l all-route e .0
 
-  pub first-taken : take true T X (s .mailbox) ≡ taken (up request) (a .probes)
-  unfolding take isOnRoute
-  first-taken = ap (take true T X) (a .mail) ∙ rw (eqb-self T, eqb-self X) refl
+  pub first-taken : takeFirst true T X (s .mailbox) ≡ taken (up request) (a .probes)
+  unfolding takeFirst isOnRoute
+  first-taken = ap (takeFirst true T X) (a .mail) ∙ rw (eqb-self T, eqb-self X) refl
 
   record NotThere : Type 0 where
     pub queued : occurs T (s .item X .queue) ≡ 0

@@ -10,7 +10,7 @@ use lib.Dec.{eqb}
 use lib.ListN.{length}
 use Rattle.lists.proofs.Tests.{by-test, eqb-self}
 use Rattle.deadlock.specs.Lists.{bit, occurs, updated}
-use Rattle.deadlock.specs.Machine.{abort, afterItem, afterSession, Call, deliverToItem, deliverToSession, down, Entry, fromItem, fromSession, grant, growing, heldBy, inQueue, isLive, isNews, isOnRoute, Item, itemReceives, ItemStep, itemTakes, junior, Laws, Message, move, onAbort, onGrant, onProbe, passProbe, probe, releaseCall, releasing, reopen, request, requestCall, route, Rules, Session, sessionDrops, sessionReceives, SessionStep, Stage, State, storeProbe, take, Taken, taken, toAwaited, victim, waiting}
+use Rattle.deadlock.specs.Machine.{abort, afterItem, afterSession, Call, deliverToItem, deliverToSession, down, Entry, fromItem, fromSession, grant, growing, heldBy, inQueue, isLive, isNews, isOnRoute, Item, itemReceives, ItemStep, itemTakes, junior, Laws, Message, move, onAbort, onGrant, onProbe, passProbe, probe, releaseCall, releasing, reopen, request, requestCall, route, Rules, Session, sessionDrops, sessionReceives, SessionStep, Stage, State, storeProbe, takeFirst, Taken, taken, toAwaited, victim, waiting}
 use Rattle.message.specs.Kind
 use Rattle.deadlock.specs.Counts.{countKind, Every, every-cons, every-nil, kindOf}
 use Rattle.deadlock.specs.Links.{awaits, waits}
@@ -39,10 +39,10 @@ unfolding move delivers itemTakes
 asked-goes-on R s k d a (requestCall t x) e = absurd (false≢true e)
 asked-goes-on R s k d a (releaseCall t x) e = absurd (false≢true e)
 asked-goes-on R s k d a (reopen t) e = absurd (false≢true e)
-asked-goes-on R s k d a (deliverToSession t x) e = absurd (false≢true (only-route R s k d a false t x (take false t x (s .mailbox)) refl e .0))
+asked-goes-on R s k d a (deliverToSession t x) e = absurd (false≢true (only-route R s k d a false t x (takeFirst false t x (s .mailbox)) refl e .0))
 asked-goes-on R s k d a (deliverToItem t x) e =
-    let q = only-route R s k d a true t x (take true t x (s .mailbox)) refl e in
-    subst₂ (λ (b y : ℕ). Phase R (itemTakes R s b y (take true b y (s .mailbox)))) (sym (q .1)) (sym (q .2))
+    let q = only-route R s k d a true t x (takeFirst true t x (s .mailbox)) refl e in
+    subst₂ (λ (b y : ℕ). Phase R (itemTakes R s b y (takeFirst true b y (s .mailbox)))) (sym (q .1)) (sym (q .2))
     (subst (λ (p : Taken). Phase R (itemTakes R s (a .session) (a .item) p)) (sym (first-taken R s k d a)) (request-done R s k d a))
 
 -- ---- probes, aborts and grants
@@ -97,7 +97,7 @@ module _ (R : Rules) (s : State) (a : Probing R s) where
     kept _ singleGrant = (refl, no-single)
 
   -- ---- at a session
-  module _ (t x : ℕ) (m : Message) (l : List Entry) (e : take false t x (s .mailbox) ≡ taken m l) where
+  module _ (t x : ℕ) (m : Message) (l : List Entry) (e : takeFirst false t x (s .mailbox) ≡ taken m l) where
     -- what was taken, and what is left
     heard : OnWay (entry false t x m) × Every OnWay l
     heard = every-take false t x m l (a .mail) e
@@ -128,7 +128,7 @@ module _ (R : Rules) (s : State) (a : Probing R s) where
     granted (releasing p) = dropped
 
   module _ (L : Laws R) (k : Invariant R s) (d : Tidy R s) where
-    module _ (t x i j : ℕ) (l : List Entry) (e : take false t x (s .mailbox) ≡ taken (probe i j) l) (live : isLive (s .session t .stage) ≡ true) where
+    module _ (t x i j : ℕ) (l : List Entry) (e : takeFirst false t x (s .mailbox) ≡ taken (probe i j) l) (live : isLive (s .session t .stage) ≡ true) where
       -- a session that takes the probe holds its item
       holds : s .item x .holder ≡ some t
       holds = came R s k t x i j l e live .held
@@ -174,12 +174,12 @@ module _ (R : Rules) (s : State) (a : Probing R s) where
           (λ _. session-on t x (probe i j) l e _ (a .no-victim t) (f .0) (f .1)) (λ _. dropped t x (probe i j) l e)
 
     module _ (t x : ℕ) (tlo : 1 ≤ t) (thi : t ≤ R .S) (l : List Entry) where
-      probed : (i j : ℕ) → take false t x (s .mailbox) ≡ taken (probe i j) l → Phase R (afterSession s t l (onProbe R t (s .session t) i j (s .session t .stage)))
+      probed : (i j : ℕ) → takeFirst false t x (s .mailbox) ≡ taken (probe i j) l → Phase R (afterSession s t l (onProbe R t (s .session t) i j (s .session t .stage)))
       unfolding onProbe
       probed i j e = by-test (λ (o : SessionStep). Phase R (afterSession s t l o)) (isLive (s .session t .stage)) (λ live. stored t x i j l e live) (λ _. dropped t x (probe i j) l e)
 
       -- a waiting session lies on a cycle, as its most junior
-      aborted : (v i : ℕ) → take false t x (s .mailbox) ≡ taken (abort v i) l → (b : Stage) → s .session t .stage ≡ b → Phase R (afterSession s t l (onAbort R (s .session t) v i b))
+      aborted : (v i : ℕ) → takeFirst false t x (s .mailbox) ≡ taken (abort v i) l → (b : Stage) → s .session t .stage ≡ b → Phase R (afterSession s t l (onAbort R (s .session t) v i b))
       unfolding onAbort
       aborted v i e growing q = dropped t x (abort v i) l e
       aborted v i e (victim p y) q = dropped t x (abort v i) l e
@@ -188,13 +188,13 @@ module _ (R : Rules) (s : State) (a : Probing R s) where
           told-phase R L s k d a t tlo thi (told-cycle R s k t x v i y l e q) y v i q l (heard t x (abort v i) l e .1)
           (omega (arith, sum-take (λ _. 1) false t x (s .mailbox) (abort v i) l e, length-sum (s .mailbox), length-sum l, a .few))
 
-      at-session : (m : Message) → take false t x (s .mailbox) ≡ taken m l → Single m → Phase R (afterSession s t l (sessionReceives R t x (s .session t) m))
+      at-session : (m : Message) → takeFirst false t x (s .mailbox) ≡ taken m l → Single m → Phase R (afterSession s t l (sessionReceives R t x (s .session t) m))
       unfolding sessionReceives
       at-session _ e (singleProbe {i} {j}) = probed i j e
       at-session _ e (singleAbort {v} {i}) = aborted v i e (s .session t .stage) refl
       at-session _ e singleGrant = granted t x (down grant) l e (s .session t .stage)
 
-pub item-probes : (R : Rules) (s : State) → Probing R s → (t x : ℕ) (m : Message) (l : List Entry) → take true t x (s .mailbox) ≡ taken m l
+pub item-probes : (R : Rules) (s : State) → Probing R s → (t x : ℕ) (m : Message) (l : List Entry) → takeFirst true t x (s .mailbox) ≡ taken m l
     → Probing R (afterItem s x l (itemReceives R t (s .item x) m))
 unfolding afterItem
 item-probes R s a t x m l e =
@@ -213,5 +213,5 @@ item-probes R s a t x m l e =
     ))
 
 pub session-probes : (R : Rules) (L : Laws R) (s : State) → Invariant R s → Tidy R s → Probing R s → (t x : ℕ) → 1 ≤ t → t ≤ R .S
-    → (m : Message) (l : List Entry) → take false t x (s .mailbox) ≡ taken m l → Phase R (afterSession s t l (sessionReceives R t x (s .session t) m))
+    → (m : Message) (l : List Entry) → takeFirst false t x (s .mailbox) ≡ taken m l → Phase R (afterSession s t l (sessionReceives R t x (s .session t) m))
 session-probes R L s k d a t x tlo thi m l e = at-session R s a L k d t x tlo thi l m e (heard R s a t x m l e .0 .0)

@@ -11,7 +11,7 @@ use borrow.Author.Tests.{eqb-true, le-ltb, ne-eqb}
 use Rattle.lists.proofs.Searches.{sum-add, sum-mono, sum-none}
 use Rattle.lists.proofs.Tests.{and-both, by-test, eqb-self}
 use Rattle.deadlock.specs.Lists.{bit, occurs}
-use Rattle.deadlock.specs.Machine.{clean, cleaning, cleared, Entry, growing, heldBy, Laws, onClean, rebroadcast, rebroadcasts, releasing, Rules, Sends, Stage, State, take, taken, up, victim, waiting, withdrawing}
+use Rattle.deadlock.specs.Machine.{clean, cleaning, cleared, Entry, growing, heldBy, Laws, onClean, rebroadcast, rebroadcasts, releasing, Rules, Sends, Stage, State, takeFirst, taken, up, victim, waiting, withdrawing}
 use Rattle.deadlock.specs.Counts.{cleansOf, every-cons, every-nil, isStored}
 use Rattle.deadlock.specs.Links.{awaits}
 use Rattle.deadlock.specs.Walks.{Walk}
@@ -48,7 +48,7 @@ term-left false true d true w n f g = rw (g refl) (omega arith)
 term-left false false d true w n f g = omega arith
 
 module _ (R : Rules) (L : Laws R) (p : Snapshot) (k : Sound R p) (s : State) (i : Invariant R s) (c : Clearing p R s)
-    (t x v a : ℕ) (l : List Entry) (e : take false t x (s .mailbox) ≡ taken (clean v a) l) where
+    (t x v a : ℕ) (l : List Entry) (e : takeFirst false t x (s .mailbox) ≡ taken (clean v a) l) where
   -- ---- the clean is the victim's, and came from a member
   on-its-way : 1 ≤ cleansOf v (downRoute s t x)
   unfolding downRoute cleansOf

@@ -7,7 +7,7 @@ use Prim.Native.Nat.{_+_, _≤_, ℕ}
 use native.Mathlib.Omega.{arith}
 use Rattle.lists.proofs.Tests.{same?}
 use Rattle.deadlock.specs.Lists.{updated}
-use Rattle.deadlock.specs.Machine.{afterSession, Entry, growing, Message, releasing, Rules, Session, sessionDrops, SessionStep, Stage, State, take, taken, victim, waiting}
+use Rattle.deadlock.specs.Machine.{afterSession, Entry, growing, Message, releasing, Rules, Session, sessionDrops, SessionStep, Stage, State, takeFirst, taken, victim, waiting}
 use Rattle.deadlock.specs.Counts.{every-nil}
 use Rattle.deadlock.specs.Links.{mayRelease}
 use Rattle.deadlock.specs.World.{isVictim, isWaiting}
@@ -78,7 +78,7 @@ module _ (R : Rules) (p : Snapshot) (s : State) (t : ℕ) where
     unfolding sentWeight
     dropped x m = record { turns = same-stage (s .session t) refl (λ _ _. omega arith); allowed = every-nil; covered = omega arith }
 
-    pub kept : (x : ℕ) (m : Message) (l : List Entry) → take false t x (s .mailbox) ≡ taken m l → (o : SessionStep) → Fits x m o → Clearing p R (afterSession s t l o)
+    pub kept : (x : ℕ) (m : Message) (l : List Entry) → takeFirst false t x (s .mailbox) ≡ taken m l → (o : SessionStep) → Fits x m o → Clearing p R (afterSession s t l o)
     unfolding afterSession mailWeight
     kept x m l e o f = record {
       victim-stage =

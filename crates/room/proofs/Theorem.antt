@@ -6,7 +6,7 @@ use Prim.Native.Nat.{_≤_, ℕ}
 use native.Mathlib.Omega.{arith}
 use lib.ListN.{length}
 use Rattle.lists.proofs.Tests.{by-test}
-use Rattle.deadlock.specs.Machine.{abort, afterItem, afterSession, Call, clean, deliverToItem, deliverToSession, down, Downward, Entry, grant, itemReceives, itemTakes, Laws, Message, move, noEntry, ofMachine, probe, rebroadcast, release, releaseCall, reopen, request, requestCall, resend, Rules, run, sessionReceives, sessionTakes, start, State, take, Taken, taken, up, Upward, withdraw, withdrawn}
+use Rattle.deadlock.specs.Machine.{abort, afterItem, afterSession, Call, clean, deliverToItem, deliverToSession, down, Downward, Entry, grant, itemReceives, itemTakes, Laws, Message, move, noEntry, ofMachine, probe, rebroadcast, release, releaseCall, reopen, request, requestCall, resend, Rules, run, sessionReceives, sessionTakes, start, State, takeFirst, Taken, taken, up, Upward, withdraw, withdrawn}
 use Rattle.deadlock.specs.Invariant.{Invariant}
 use Rattle.deadlock.proofs.Links.Kept.{item-high, item-low, session-high, session-low}
 use Rattle.deadlock.proofs.InvariantKept.{invariant, invariant-move}
@@ -66,7 +66,7 @@ module _ (R : Rules) (L : Laws R) where
   -- ---- each delivery leads on
   module _ (s : State) (k : Invariant R s) (d : Tidy R s) where
     none-there : s .mailbox ≡ [] → (c : Call) → delivers s c ≡ true → ⊥
-    unfolding delivers take
+    unfolding delivers takeFirst
     none-there e (requestCall t x) h = false≢true h
     none-there e (releaseCall t x) h = false≢true h
     none-there e (deliverToItem t x) h = false≢true (rw e at h)
@@ -75,14 +75,14 @@ module _ (R : Rules) (L : Laws R) where
 
     -- of a message at an item, and of one at a session
     module _ (P : State → Type 0) where
-      at-item : (t x : ℕ) → ((m : Message) (l : List Entry) → take true t x (s .mailbox) ≡ taken m l → P (afterItem s x l (itemReceives R t (s .item x) m)))
-          → (o : Taken) → take true t x (s .mailbox) ≡ o → isTaken o ≡ true → P (itemTakes R s t x o)
+      at-item : (t x : ℕ) → ((m : Message) (l : List Entry) → takeFirst true t x (s .mailbox) ≡ taken m l → P (afterItem s x l (itemReceives R t (s .item x) m)))
+          → (o : Taken) → takeFirst true t x (s .mailbox) ≡ o → isTaken o ≡ true → P (itemTakes R s t x o)
       unfolding itemTakes
       at-item t x f noEntry e h = absurd (false≢true h)
       at-item t x f (taken m l) e h = f m l e
 
-      at-session : (t x : ℕ) → ((m : Message) (l : List Entry) → take false t x (s .mailbox) ≡ taken m l → P (afterSession s t l (sessionReceives R t x (s .session t) m)))
-          → (o : Taken) → take false t x (s .mailbox) ≡ o → isTaken o ≡ true → P (sessionTakes R s t x o)
+      at-session : (t x : ℕ) → ((m : Message) (l : List Entry) → takeFirst false t x (s .mailbox) ≡ taken m l → P (afterSession s t l (sessionReceives R t x (s .session t) m)))
+          → (o : Taken) → takeFirst false t x (s .mailbox) ≡ o → isTaken o ≡ true → P (sessionTakes R s t x o)
       unfolding sessionTakes
       at-session t x f noEntry e h = absurd (false≢true h)
       at-session t x f (taken m l) e h = f m l e
@@ -92,10 +92,10 @@ module _ (R : Rules) (L : Laws R) where
     probes-go-on a (requestCall t x) o h = absurd (false≢true h)
     probes-go-on a (releaseCall t x) o h = absurd (false≢true h)
     probes-go-on a (deliverToItem t x) o h =
-        at-item (Phase R) t x (λ m l e. probing (item-probes R s a t x m l e)) (take true t x (s .mailbox)) refl h
+        at-item (Phase R) t x (λ m l e. probing (item-probes R s a t x m l e)) (takeFirst true t x (s .mailbox)) refl h
     probes-go-on a (deliverToSession t x) o h =
         at-session (Phase R) t x (session-probes R L s k d a t x (session-low R t x o) (session-high R t x o))
-        (take false t x (s .mailbox)) refl h
+        (takeFirst false t x (s .mailbox)) refl h
     probes-go-on a (reopen t) o h = absurd (false≢true h)
 
     clears-on : (p : Snapshot) → Sound R p → Clearing p R s → (c : Call) → ofMachine R c ≡ true → delivers s c ≡ true → Clearing p R (move R s c)
@@ -103,9 +103,9 @@ module _ (R : Rules) (L : Laws R) where
     clears-on p q a (requestCall t x) o h = absurd (false≢true h)
     clears-on p q a (releaseCall t x) o h = absurd (false≢true h)
     clears-on p q a (deliverToItem t x) o h =
-        at-item (Clearing p R) t x (item-clears R L p q s k a t x (item-low R t x o) (item-high R t x o)) (take true t x (s .mailbox)) refl h
+        at-item (Clearing p R) t x (item-clears R L p q s k a t x (item-low R t x o) (item-high R t x o)) (takeFirst true t x (s .mailbox)) refl h
     clears-on p q a (deliverToSession t x) o h =
-        at-session (Clearing p R) t x (session-clears R L p q s k d a t x (item-low R t x o) (item-high R t x o)) (take false t x (s .mailbox)) refl h
+        at-session (Clearing p R) t x (session-clears R L p q s k d a t x (item-low R t x o) (item-high R t x o)) (takeFirst false t x (s .mailbox)) refl h
     clears-on p q a (reopen t) o h = absurd (false≢true h)
 
     goes-on : Phase R s → (c : Call) → ofMachine R c ≡ true → delivers s c ≡ true → Phase R (move R s c)

@@ -11,7 +11,7 @@ use borrow.Author.Tests.{eq-eqb, eqb-false, eqb-true, ne-eqb}
 use Rattle.lists.specs.Lists.{member}
 use Rattle.lists.proofs.Tests.{by-test, same?}
 use Rattle.deadlock.specs.Lists.{bit, updated, without}
-use Rattle.deadlock.specs.Machine.{abort, accepted, afterAnswer, afterItem, afterSession, Answer, Call, clean, cleaning, cleared, deliverToItem, deliverToSession, down, Entry, grant, grantOrQueue, growing, handOver, heldBy, inQueue, isLive, isNews, itemReceives, ItemStep, itemTakes, junior, Laws, mayReopen, Message, move, noEntry, ofMachine, onAbort, onClean, onGrant, onProbe, onRebroadcast, onRelease, onReleaseCall, onReopenCall, onRequest, onRequestCall, onResend, onWithdrawn, passClean, passProbe, probe, probesAnew, rebroadcast, refused, release, releaseCall, releaseHeld, releasing, reopen, request, requestCall, resend, rolledBack, route, Rules, Sends, Session, sessionReceives, SessionStep, sessionTakes, shrinking, Stage, start, State, storeProbe, take, taken, Taken, up, victim, waiting, withdraw, withdrawing, withdrawn}
+use Rattle.deadlock.specs.Machine.{abort, accepted, afterAnswer, afterItem, afterSession, Answer, Call, clean, cleaning, cleared, deliverToItem, deliverToSession, down, Entry, grant, grantOrQueue, growing, handOver, heldBy, inQueue, isLive, isNews, itemReceives, ItemStep, itemTakes, junior, Laws, mayReopen, Message, move, noEntry, ofMachine, onAbort, onClean, onGrant, onProbe, onRebroadcast, onRelease, onReleaseCall, onReopenCall, onRequest, onRequestCall, onResend, onWithdrawn, passClean, passProbe, probe, probesAnew, rebroadcast, refused, release, releaseCall, releaseHeld, releasing, reopen, request, requestCall, resend, rolledBack, route, Rules, Sends, Session, sessionReceives, SessionStep, sessionTakes, shrinking, Stage, start, State, storeProbe, takeFirst, taken, Taken, up, victim, waiting, withdraw, withdrawing, withdrawn}
 use Rattle.message.specs.Kind
 use Rattle.deadlock.specs.Counts.{behind-cons, behind-nil, countBehind, countKind, EachBehind, every-cons, every-nil, kindOf, OfProbe, probeOf, probesBy, sentTo}
 use Rattle.deadlock.specs.Links.{awaits}
@@ -118,11 +118,11 @@ module _ (R : Rules) (L : Laws R) (s : State) (k : Invariant R s) where
     unfolding probesAnew
     anew h l m = every-append (every-probesTo Plain R h l (λ a e. senior-plain a h e)) (every-resends Plain m (λ a. (refl, refl)))
 
-    head : (m : Message) (l : List Entry) → take true t x (s .mailbox) ≡ taken m l → upRoute s t x ≡ m ∷ route true t x l
+    head : (m : Message) (l : List Entry) → takeFirst true t x (s .mailbox) ≡ taken m l → upRoute s t x ≡ m ∷ route true t x l
     unfolding upRoute
     head m l e = take-same true t x (s .mailbox) m l e
 
-    requested : (l : List Entry) → take true t x (s .mailbox) ≡ taken (up request) l → (o : Option ℕ) → s .item x .holder ≡ o
+    requested : (l : List Entry) → takeFirst true t x (s .mailbox) ≡ taken (up request) l → (o : Option ℕ) → s .item x .holder ≡ o
         → TidySends (grantOrQueue R t (s .item x .queue) o .sends)
     unfolding grantOrQueue
     requested l e none q =
@@ -131,7 +131,7 @@ module _ (R : Rules) (L : Laws R) (s : State) (k : Invariant R s) where
     requested l e (some h) q = by-test TidySends (R .senior t h) (λ z. plain (every-cons (senior-plain t h z) every-nil)) (λ _. plain every-nil)
 
     -- whoever stands in the queue of an item that is released waits, and is told of no probe there
-    next-no-probe : (l : List Entry) → take true t x (s .mailbox) ≡ taken (up release) l → (n : ℕ) → Queued (worldOf s) n x → countKind Kind.probe (downRoute s n x) ≡ 0
+    next-no-probe : (l : List Entry) → takeFirst true t x (s .mailbox) ≡ taken (up release) l → (n : ℕ) → Queued (worldOf s) n x → countKind Kind.probe (downRoute s n x) ≡ 0
     next-no-probe l e n stands =
         let known = known-of R L s (k .core) in
         let hd = head (up release) l e in
@@ -146,7 +146,7 @@ module _ (R : Rules) (L : Laws R) (s : State) (k : Invariant R s) where
         (λ h. release-no-edge L known t x lo hi (mailOf s) (route true t x l) hd t
         (record { item = x; low = lo; high = hi; stands = (let q : t ≡ n = cc in rw q stands); held = holds }))
 
-    released : (l : List Entry) → take true t x (s .mailbox) ≡ taken (up release) l → (q : List ℕ) → s .item x .queue ≡ q → TidySends (handOver R q .sends)
+    released : (l : List Entry) → takeFirst true t x (s .mailbox) ≡ taken (up release) l → (q : List ℕ) → s .item x .queue ≡ q → TidySends (handOver R q .sends)
     unfolding handOver
     released l e [] q = plain every-nil
     released l e (b ∷ bs) q =
@@ -170,7 +170,7 @@ module _ (R : Rules) (L : Laws R) (s : State) (k : Invariant R s) where
     cleaned v i l none = plain every-nil
     cleaned v i l (some h) = plain (every-cons (refl, refl) (anew h l (without t l)))
 
-    item-sends : (m : Message) (l : List Entry) → take true t x (s .mailbox) ≡ taken m l → TidySends (itemReceives R t (s .item x) m .sends)
+    item-sends : (m : Message) (l : List Entry) → takeFirst true t x (s .mailbox) ≡ taken m l → TidySends (itemReceives R t (s .item x) m .sends)
     unfolding itemReceives onRequest onRelease
     item-sends (up request) l e = by-test (λ (o : ItemStep). TidySends (o .sends)) (heldBy (s .item x .holder) t || member t (s .item x .queue)) (λ _. plain every-nil) (λ _. requested l e (s .item x .holder) refl)
     item-sends (up release) l e = by-test (λ (o : ItemStep). TidySends (o .sends)) (heldBy (s .item x .holder) t) (λ _. released l e (s .item x .queue) refl) (λ _. plain every-nil)
@@ -181,7 +181,7 @@ module _ (R : Rules) (L : Laws R) (s : State) (k : Invariant R s) where
     item-sends (clean v i) l e = cleaned v i (s .item x .queue) (s .item x .holder)
     item-sends (abort v i) l e = plain every-nil
 
-  item-tidy : Tidy R s → (t x : ℕ) → 1 ≤ x → x ≤ R .M → (o : Taken) → take true t x (s .mailbox) ≡ o → Tidy R (itemTakes R s t x o)
+  item-tidy : Tidy R s → (t x : ℕ) → 1 ≤ x → x ≤ R .M → (o : Taken) → takeFirst true t x (s .mailbox) ≡ o → Tidy R (itemTakes R s t x o)
   unfolding itemTakes afterItem
   item-tidy d t x lo hi noEntry e = d
   item-tidy d t x lo hi (taken m l) e = record {
@@ -325,7 +325,7 @@ module _ (R : Rules) (s : State) (d : Tidy R s) where
     call-tidy refused h = d
     call-tidy (accepted o) h = session-tidy t (s .mailbox) o h (λ a z. (d .own-sent a z, d .grant-first a z))
 
-  session-takes-tidy : (t x : ℕ) (o : Taken) → take false t x (s .mailbox) ≡ o → Tidy R (sessionTakes R s t x o)
+  session-takes-tidy : (t x : ℕ) (o : Taken) → takeFirst false t x (s .mailbox) ≡ o → Tidy R (sessionTakes R s t x o)
   unfolding sessionTakes downRoute probesBy
   session-takes-tidy t x noEntry e = d
   session-takes-tidy t x (taken m l) e =
@@ -346,6 +346,6 @@ pub tidy-move : (R : Rules) (L : Laws R) (s : State) → Invariant R s → Tidy 
 unfolding move ofMachine
 tidy-move R L s k d (requestCall t x) e = call-tidy R s d t _ (asks R s d t x (item-low R t x e) (item-high R t x e) (s .session t .stage))
 tidy-move R L s k d (releaseCall t x) e = call-tidy R s d t _ (releases R s d t x (s .session t .stage))
-tidy-move R L s k d (deliverToItem t x) e = item-tidy R L s k d t x (item-low R t x e) (item-high R t x e) (take true t x (s .mailbox)) refl
-tidy-move R L s k d (deliverToSession t x) e = session-takes-tidy R s d t x (take false t x (s .mailbox)) refl
+tidy-move R L s k d (deliverToItem t x) e = item-tidy R L s k d t x (item-low R t x e) (item-high R t x e) (takeFirst true t x (s .mailbox)) refl
+tidy-move R L s k d (deliverToSession t x) e = session-takes-tidy R s d t x (takeFirst false t x (s .mailbox)) refl
 tidy-move R L s k d (reopen t) e = call-tidy R s d t _ (reopens R s d t)

@@ -6,7 +6,7 @@ use Prim.Native.Nat.{ℕ, suc, _-_, _≤_, _<_}
 use native.Mathlib.Omega.{arith}
 use lib.Dec.{ltb}
 use lib.ListN.{length, getD, take}
-use Rattle.lists.specs.Lists.{between, member, all, distinct}
+use Rattle.lists.specs.Lists.{between, member, allOf, distinct}
 use Rattle.lists.proofs.Tests.{and-both, and-intro, within, between-intro}
 use Rattle.lists.proofs.Laws.{all-getD, all-intro, getD-tabulate, length-tabulate, tabulate-last, take-tabulate, distinct-apart, distinct-intro}
 use Rattle.lists.proofs.Searches.{distinct-all}
@@ -31,9 +31,9 @@ module _ (ranks : List ℕ) where
   rank-outside t e = rw (e) refl
 
   module _ (w : wellFormed ranks ≡ true) where
-    facts : (all (between 1 n) ranks ≡ true) × (distinct ranks ≡ true)
+    facts : (allOf (between 1 n) ranks ≡ true) × (distinct ranks ≡ true)
     unfolding wellFormed
-    facts = and-both (all (between 1 n) ranks) (distinct ranks) w
+    facts = and-both (allOf (between 1 n) ranks) (distinct ranks) w
 
     -- the rank of a session lies in 1 to n
     rank-range : (t : ℕ) → between 1 n t ≡ true → between 1 n (rank ranks t) ≡ true

@@ -5,7 +5,7 @@ use mathlib.Core.List.{List, _∷_, _++_}
 use lib.Dec.{eqb, ltb, leb}
 use lib.ListN.{getD, take, drop, replicate}
 use Rattle.buffer.specs.Bytes.{slice, fromBytes, toBytes, splice}
-use Rattle.lists.specs.Lists.{between, all}
+use Rattle.lists.specs.Lists.{between, allOf}
 use Rattle.message.specs.Limits.{maxSessions}
 use Rattle.session.specs.declared.Session.{Session}
 use Rattle.session.specs.Stage
@@ -67,5 +67,5 @@ wellFormed S M s =
     between Stage.growing Stage.rolledBack (s .stage)
     && cond (Stage.awaits (s .stage)) (between 1 M (s .awaited)) (eqb (s .awaited) 0)
     && ltb (s .held) (2 ^ M)
-    && all (λ j. leb j S) (take S (s .juniors))
-    && all (λ j. eqb j 0) (drop S (s .juniors))
+    && allOf (λ j. leb j S) (take S (s .juniors))
+    && allOf (λ j. eqb j 0) (drop S (s .juniors))

@@ -4,7 +4,7 @@ use mathlib.Core.Bool.{Bool, cond, _&&_}
 use mathlib.Core.List.{List}
 use lib.Dec.{ltb}
 use lib.ListN.{length, getD}
-use Rattle.lists.specs.Lists.{between, all, distinct, tabulate}
+use Rattle.lists.specs.Lists.{between, allOf, distinct, tabulate}
 
 -- the rank of session t, in a list that has one for each session; a number that is no session's is its own rank
 unfoldable pub rank : List ℕ → ℕ → ℕ
@@ -16,7 +16,7 @@ senior ranks a b = ltb (rank ranks a) (rank ranks b)
 
 -- ranks are well-formed: the numbers from 1 to how many there are, none twice (so that none is missing): RULES 2.8
 unfoldable pub wellFormed : List ℕ → Bool
-wellFormed ranks = all (between 1 (length ranks)) ranks && distinct ranks
+wellFormed ranks = allOf (between 1 (length ranks)) ranks && distinct ranks
 
 -- rank k for session k, of S sessions
 unfoldable pub plain : ℕ → List ℕ

@@ -7,7 +7,7 @@ use native.Mathlib.Omega.{arith}
 use lib.Dec.{eqb, ltb}
 use lib.ListN.{length, getD, length-append, length-map}
 use borrow.Author.Tests.{ne-eqb, eqb-false, ltb-false}
-use Rattle.lists.specs.Lists.{between, all, removeAt}
+use Rattle.lists.specs.Lists.{between, allOf, removeAt}
 use Rattle.lists.proofs.Laws.{findIndex-length, removeAt-le, removeAt-past}
 use Rattle.lists.proofs.Tests.{and-intro, between-intro, by-test, refuted}
 use Rattle.buffer.proofs.Laws.{AreBytes}
@@ -193,7 +193,7 @@ module _ (verb t x : ℕ) (table mail : List ℕ) where
 
   -- what no cause but room can hinder
   pub acted-concluded : causes ≡ 0 → acted verb t x table mail ≡ concluded t table mail (plan verb t x table (entriesOf mail))
-  unfolding acted hindered first all
+  unfolding acted hindered first allOf
   acted-concluded e =
       let p = plan verb t x table (entriesOf mail) in
       rw (first-goes-on (stepCauses verb t x table (entriesOf mail)) (cause (overfull (capacityOf mail) (p .entries)) Refusal.mailFull ∷ []) refl e)

@@ -7,7 +7,7 @@ use native.Mathlib.Omega.{arith}
 use lib.Dec.{eqb}
 use lib.ListN.{length, getD}
 use borrow.Author.Tests.{eqb-true, eqb-false, ltb-false, not-false}
-use Rattle.lists.specs.Lists.{between, all, removeAt}
+use Rattle.lists.specs.Lists.{between, allOf, removeAt}
 use Rattle.lists.proofs.Laws.{all-getD, all-join, all-map, all-removeAt, findIndex-found}
 use Rattle.lists.proofs.Searches.{distinct-length}
 use Rattle.lists.proofs.Tests.{and-both, between-intro, by-test, by-answer}
@@ -42,7 +42,7 @@ pub record Planned (table : List ℕ) (p : Plan) : Type 0 where
   pub sessions : Table.sessionsOf (p .table) ≡ Table.sessionsOf table
   pub items : Table.itemsOf (p .table) ≡ Table.itemsOf table
   pub formed : Table.wellFormed (p .table) ≡ true
-  pub entries : all (Entry.wellFormed (Table.sessionsOf table) (Table.itemsOf table)) (p .entries) ≡ true
+  pub entries : allOf (Entry.wellFormed (Table.sessionsOf table) (Table.itemsOf table)) (p .entries) ≡ true
 
 module _ (table : List ℕ) (sized : Table.sized table ≡ true) (formed : Table.wellFormed table ≡ true) where
   abbrev S : ℕ
@@ -54,7 +54,7 @@ module _ (table : List ℕ) (sized : Table.sized table ≡ true) (formed : Table
   abbrev isEntry : Entry → Bool
   isEntry = Entry.wellFormed S M
 
-  module _ (rest : List Entry) (w : all isEntry rest ≡ true) where
+  module _ (rest : List Entry) (w : allOf isEntry rest ≡ true) where
     session-planned : (t : ℕ) → 1 ≤ t → t ≤ S → (r : Session.After) → SessionKept S M t r → Planned table (sessionPlan t table rest r)
     session-planned t l h r k = record {
       sized = TableLaws.sized-withSession table sized t l h (r .session) (k .juniors);
@@ -97,7 +97,7 @@ module _ (t x : ℕ) (table mail : List ℕ) (j : Judged t x table mail) where
   abbrev entries : List Entry
   entries = Mail.entriesOf mail
 
-  all-entries : all (Entry.wellFormed (Table.sessionsOf table) (Table.itemsOf table)) entries ≡ true
+  all-entries : allOf (Entry.wellFormed (Table.sessionsOf table) (Table.itemsOf table)) entries ≡ true
   all-entries = MailLaws.formed-facts (Table.sessionsOf table) (Table.itemsOf table) mail (j .formed .mail-formed) .entries
 
   t-range : between 1 (Table.sessionsOf table) t ≡ true
@@ -136,7 +136,7 @@ module _ (t x : ℕ) (table mail : List ℕ) (j : Judged t x table mail) where
   abbrev Plans : ℕ → Type 0
   Plans verb = first (stepCauses verb t x table entries) ≡ 0 → Planned table (plan verb t x table entries)
 
-  others : (k : ℕ) → all (Entry.wellFormed (Table.sessionsOf table) (Table.itemsOf table)) (removeAt k entries) ≡ true
+  others : (k : ℕ) → allOf (Entry.wellFormed (Table.sessionsOf table) (Table.itemsOf table)) (removeAt k entries) ≡ true
   others k = all-removeAt (Entry.wellFormed (Table.sessionsOf table) (Table.itemsOf table)) k entries all-entries
 
   by-session : (k : ℕ) (r : Session.After) → SessionKept (Table.sessionsOf table) (Table.itemsOf table) t r → Planned table (sessionPlan t table (removeAt k entries) r)

@@ -10,7 +10,7 @@ use lib.ListN.{length, getD, take, drop}
 use lib.Pow.{pow-mono}
 use lib.Seq.{getD-take}
 use Rattle.buffer.specs.Bytes.{splice}
-use Rattle.lists.specs.Lists.{between, every, all}
+use Rattle.lists.specs.Lists.{between, every, allOf}
 use Rattle.lists.proofs.Tests.{and-both, within}
 use Rattle.lists.proofs.Orders.{StrictTotal}
 use Rattle.lists.proofs.Searches.{every-at, every-false, every-intro}
@@ -109,9 +109,9 @@ module _ (t : List ℕ) where
   parts : wellFormed t ≡ true → Parts
   parts e =
       let records = every (sessionsOf t) (sessionOk t) && every (itemsOf t) (itemOk t) in
-      let all = and-both records (Seniority.wellFormed (ranks t)) (sym (in-form t) ∙ e) in
-      let both = and-both (every (sessionsOf t) (sessionOk t)) (every (itemsOf t) (itemOk t)) (all .0) in
-      record { sessions = both .0; items = both .1; ranks = all .1 }
+      let last = and-both records (Seniority.wellFormed (ranks t)) (sym (in-form t) ∙ e) in
+      let both = and-both (every (sessionsOf t) (sessionOk t)) (every (itemsOf t) (itemOk t)) (last .0) in
+      record { sessions = both .0; items = both .1; ranks = last .1 }
 
   pub well-formed-ranks : wellFormed t ≡ true → Seniority.wellFormed (ranks t) ≡ true
   well-formed-ranks e = parts e .ranks
@@ -141,8 +141,8 @@ module _ (t : List ℕ) where
 held-in-form : (S M : ℕ) (s : Session) → SessionRecord.wellFormed S M s ≡ true → ltb (s .held) (2 ^ M) ≡ true
 unfolding SessionRecord.wellFormed
 held-in-form S M s e =
-    let A = all (λ j. leb j S) (take S (s .juniors)) in
-    let Z = all (λ j. eqb j 0) (drop S (s .juniors)) in
+    let A = allOf (λ j. leb j S) (take S (s .juniors)) in
+    let Z = allOf (λ j. eqb j 0) (drop S (s .juniors)) in
     let front = between Stage.growing Stage.rolledBack (s .stage) && cond (Stage.awaits (s .stage)) (between 1 M (s .awaited)) (eqb (s .awaited) 0) in
     and-both front (ltb (s .held) (2 ^ M)) (and-both (front && ltb (s .held) (2 ^ M)) A (and-both (front && ltb (s .held) (2 ^ M) && A) Z e .0) .0) .1
 

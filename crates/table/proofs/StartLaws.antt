@@ -14,7 +14,7 @@ use lib.Seq.{set-at, take-append-seam, drop-append-add, drop-drop, drop-at, take
 use Rattle.buffer.specs.Bytes.{slice, splice, padded}
 use Rattle.buffer.proofs.Laws.{padded-full}
 use Rattle.buffer.proofs.Padded.{splice-end}
-use Rattle.lists.specs.Lists.{member, distinct, all}
+use Rattle.lists.specs.Lists.{member, distinct, allOf}
 use Rattle.lists.proofs.Laws.{all-drop, all-replicate, all-take}
 use Rattle.message.specs.Limits.{maxSessions, maxItems}
 use Rattle.session.specs.Record as SessionRecord
@@ -187,7 +187,7 @@ module _ (S M : ℕ) (given : List ℕ) where
       ) refl
 
   free-in-form : ItemRecord.wellFormed S (ItemRecord.packed ItemRecord.free) ≡ true
-  unfolding ItemRecord.wellFormed all distinct member
+  unfolding ItemRecord.wellFormed allOf distinct member
   free-in-form = rw (leb·zero S) (all-replicate (λ b. eqb b 0) maxSessions 0 refl)
 
   pub wellFormed-started : length given ≡ S → Seniority.wellFormed given ≡ true → wellFormed (started S M given) ≡ true

@@ -10,7 +10,7 @@ use lib.Dec.{eqb, leb}
 use lib.ListN.{length, drop, replicate, length-append, length-replicate, drop-of-length-le}
 use lib.Seq.{drop-cons}
 use Rattle.buffer.specs.Bytes.{splice}
-use Rattle.lists.specs.Lists.{all, between, tabulate}
+use Rattle.lists.specs.Lists.{allOf, between, tabulate}
 use Rattle.lists.proofs.Laws.{getD-tabulate, length-tabulate}
 use Rattle.lists.proofs.Tests.{and-both, within}
 use Rattle.message.specs.Limits.{maxSessions, maxItems}
@@ -129,7 +129,7 @@ module _ (input : List ℕ) (w : wellFormed input ≡ true) where
       (length-replicate {A = ℕ} (Table.size (sessionsIn input) (itemsIn input)) 0) (length-replicate {A = ℕ} (Mail.size capacity) 0)
 
   formed-start : Formed begun (Mail.mailBytes capacity [])
-  unfolding all
+  unfolding allOf
   formed-start =
       let k = known input w in
       let S = sessionsIn input in

@@ -5,7 +5,7 @@ use mathlib.Core.Logic.{_≢_, _⊎_, inl, inr}
 use Prim.Native.Nat.{ℕ, _+_, _≤_}
 use native.Mathlib.Omega.{arith}
 use lib.Dec.{eqb}
-use Rattle.lists.specs.Lists.{every, count}
+use Rattle.lists.specs.Lists.{every, countUpTo}
 use Rattle.lists.proofs.Tests.{fails, tests-agree}
 use Rattle.lists.proofs.Orders.{StrictTotal}
 use Rattle.lists.proofs.Searches.{count-one-more, count-same, every-same, lowest-same}
@@ -106,7 +106,7 @@ module _
     unfolding cycles
     one-closed = go (leader-of g′ o t low on)
       where
-        go : (n : ℕ) × (leads next′ S senior (reached next′ n t) ≡ true) → count S (leads next′ S senior) ≡ count S (leads next S senior) + 1
+        go : (n : ℕ) × (leads next′ S senior (reached next′ n t) ≡ true) → countUpTo S (leads next′ S senior) ≡ countUpTo S (leads next S senior) + 1
         go (n, e) = count-one-more S _ _ l (member-positive g′ t low on n) (member-inside g′ t low on n) e before other
           where
             l : ℕ

@@ -16,56 +16,56 @@ module _ {next : ℕ → ℕ} {S : ℕ} (g : Graph next S) where
   off-cycle t low e on = let h = on-cycle-positive next S t on in omega (arith, sym (cycle-returns next S t on) ∙ reached-past g t e (cycleLength next S t) h)
 
   module _ (t : ℕ) (low : 1 ≤ t) (on : onCycle next S t ≡ true) where
-    length : ℕ
-    length = cycleLength next S t
+    around-length : ℕ
+    around-length = cycleLength next S t
 
-    once : 1 ≤ length
-    unfolding length
+    once : 1 ≤ around-length
+    unfolding around-length
     once = on-cycle-positive next S t on
 
-    back : reached next length t ≡ t
-    unfolding length
+    back : reached next around-length t ≡ t
+    unfolding around-length
     back = cycle-returns next S t on
 
     pub on-cycle-inside : t ≤ S
-    on-cycle-inside = back-inside g t low length once back
+    on-cycle-inside = back-inside g t low around-length once back
 
     pub member-positive : (k : ℕ) → 1 ≤ reached next k t
-    member-positive k = back-positive g t low length once back k
+    member-positive k = back-positive g t low around-length once back k
 
     pub member-inside : (k : ℕ) → reached next k t ≤ S
     member-inside k = reached-inside g t on-cycle-inside k
 
     -- each member is reached by at most as many waits as the cycle is long
     pub member-within : (k : ℕ) → (j : ℕ) × (1 ≤ j) × (j ≤ cycleLength next S t) × (reached next j t ≡ reached next k t)
-    unfolding length
-    member-within k = within next t length once back k
+    unfolding around-length
+    member-within k = within next t around-length once back k
 
     -- t is reached from each member
     pub member-back : (k : ℕ) → (j : ℕ) × (1 ≤ j) × (reached next j (reached next k t) ≡ t)
-    member-back k = returns next t length once back k
+    member-back k = returns next t around-length once back k
 
-    around : (k : ℕ) → reached next length (reached next k t) ≡ reached next k t
-    around k = reached-swap next length k t ∙ ap (reached next k) back
+    around : (k : ℕ) → reached next around-length (reached next k t) ≡ reached next k t
+    around k = reached-swap next around-length k t ∙ ap (reached next k) back
 
     pub member-on-cycle : (k : ℕ) → onCycle next S (reached next k t) ≡ true
-    member-on-cycle k = on-cycle-found g (reached next k t) (member-positive k) length once (around k)
+    member-on-cycle k = on-cycle-found g (reached next k t) (member-positive k) around-length once (around k)
 
     member-shorter : (k : ℕ) → cycleLength next S (reached next k t) ≤ cycleLength next S t
-    unfolding length
-    member-shorter k = cycle-length-least g (reached next k t) (member-positive k) length once (around k)
+    unfolding around-length
+    member-shorter k = cycle-length-least g (reached next k t) (member-positive k) around-length once (around k)
 
     -- u is a member, or is not
     pub member-or-not : (u : ℕ) → ((k : ℕ) × (reached next k t ≡ u)) ⊎ ((k : ℕ) → reached next k t ≢ u)
-    member-or-not u = go (some-or-none length test)
+    member-or-not u = go (some-or-none around-length test)
       where
         test : ℕ → Bool
         test k = eqb (reached next k t) u
 
-        go : ((k : ℕ) × (1 ≤ k) × (k ≤ length) × (test k ≡ true)) ⊎ ((k : ℕ) → 1 ≤ k → k ≤ length → test k ≡ false)
+        go : ((k : ℕ) × (1 ≤ k) × (k ≤ around-length) × (test k ≡ true)) ⊎ ((k : ℕ) → 1 ≤ k → k ≤ around-length → test k ≡ false)
             → ((k : ℕ) × (reached next k t ≡ u)) ⊎ ((k : ℕ) → reached next k t ≢ u)
         go (inl r) = inl (r .0, eqb-true _ u (r .3))
-        go (inr h) = inr (λ k e. let r = within next t length once back k in eqb-false _ u (h (r .0) (r .1) (r .2)) (r .3 ∙ e))
+        go (inr h) = inr (λ k e. let r = within next t around-length once back k in eqb-false _ u (h (r .0) (r .1) (r .2)) (r .3 ∙ e))
 
   module _ (t : ℕ) (low : 1 ≤ t) (on : onCycle next S t ≡ true) where
     pub member-length : (k : ℕ) → cycleLength next S (reached next k t) ≡ cycleLength next S t

@@ -2,7 +2,7 @@
 use Prim.Native.Nat.{ℕ, zero, suc}
 use mathlib.Core.Bool.{Bool, cond, not, _&&_}
 use lib.Dec.{eqb}
-use Rattle.lists.specs.Lists.{every, lowest, count, member}
+use Rattle.lists.specs.Lists.{every, lowest, countUpTo, member}
 use Rattle.item.specs.Record.{Lock}
 
 -- M items, of which x is `locks x`
@@ -42,4 +42,4 @@ module _ (next : ℕ → ℕ) where
 
       -- the number of standing cycles, each counted at its most senior member: RULES 7.6
       unfoldable pub cycles : ℕ
-      cycles = count S leads
+      cycles = countUpTo S leads

@@ -8,7 +8,7 @@ use lib.Dec.{eqb, leb}
 use lib.ListN.{length, getD, drop, replicate}
 use lib.Seq.{drop-append-seam}
 use borrow.Author.Tests.{eq-eqb, eqb-true, eqb-false, ne-eqb, leb-true, le-leb, not-true}
-use Rattle.lists.specs.Lists.{between, member, distinct, all, filter, findIndex, removeAt}
+use Rattle.lists.specs.Lists.{between, member, distinct, allOf, filter, findIndex, removeAt}
 use Rattle.lists.proofs.Laws.{all-cons, all-filter, all-getD, all-join, all-map, all-none, all-one, all-removeAt, all-replicate, all-weaken, distinct-removeAt, removeAt-absent, removed-absent}
 use Rattle.lists.proofs.Tests.{and-both, and-intro, between-intro, by-test, or-neither, within}
 use Rattle.lists.proofs.Searches.{distinct-length}
@@ -42,7 +42,7 @@ distinct-snoc t (a ∷ l) d e =
 
 -- a free lock is well-formed
 pub free-lock : (S : ℕ) → LockWellFormed S ItemRecord.free
-unfolding all distinct member
+unfolding allOf distinct member
 free-lock S = record { holder = zero-le; sessions = refl; once = refl; apart = refl }
 
 module _ (S M x : ℕ) where
@@ -53,14 +53,14 @@ module _ (S M x : ℕ) where
   -- what an item's step leaves
   pub record ItemKept (r : After) : Type 0 where
     pub lock : LockWellFormed S (r .lock)
-    pub sends : all isEntry (r .sends) ≡ true
+    pub sends : allOf isEntry (r .sends) ≡ true
 
   module _ (x-range : between 1 M x ≡ true) where
-    resends-kept : (q : List ℕ) → all (between 1 S) q ≡ true → all isEntry (resends q) ≡ true
+    resends-kept : (q : List ℕ) → allOf (between 1 S) q ≡ true → allOf isEntry (resends q) ≡ true
     unfolding resends
     resends-kept q e = all-map isEntry (λ r. plain r Kind.resend) q (all-weaken (between 1 S) _ (λ r f. plain-entry S M (fromItem x (plain r Kind.resend)) refl f x-range refl refl refl) q e)
 
-    probes-kept : (senior : ℕ → ℕ → Bool) (h : ℕ) (q : List ℕ) → between 1 S h ≡ true → all (between 1 S) q ≡ true → all isEntry (probes senior h q) ≡ true
+    probes-kept : (senior : ℕ → ℕ → Bool) (h : ℕ) (q : List ℕ) → between 1 S h ≡ true → allOf (between 1 S) q ≡ true → allOf isEntry (probes senior h q) ≡ true
     unfolding probes
     probes-kept senior h q w e =
         all-map isEntry (λ r. message h Kind.probe r h) (filter (λ r. senior r h) q)
@@ -90,13 +90,13 @@ module _ (S M x : ℕ) where
               once = distinct-snoc t (k .queue) (w .once) (f .1);
               apart = member-snoc (k .holder) t (k .queue) (w .apart) (λ q. eqb-false (k .holder) t (f .0) (sym q));
             };
-            sends = by-test (λ (l : List Message). all isEntry l ≡ true) (senior t (k .holder)) (λ _. all-one isEntry _ (pair-entry S M (fromItem x (message (k .holder) Kind.probe t (k .holder))) refl (holder-range some) x-range refl t-range (holder-range some) refl)) (λ _. all-none isEntry);
+            sends = by-test (λ (l : List Message). allOf isEntry l ≡ true) (senior t (k .holder)) (λ _. all-one isEntry _ (pair-entry S M (fromItem x (message (k .holder) Kind.probe t (k .holder))) refl (holder-range some) x-range refl t-range (holder-range some) refl)) (λ _. all-none isEntry);
           }))
 
-      fan-kept : (h : ℕ) (p q : List ℕ) → between 1 S h ≡ true → all (between 1 S) p ≡ true → all (between 1 S) q ≡ true → all isEntry (probes senior h p ++ resends q) ≡ true
+      fan-kept : (h : ℕ) (p q : List ℕ) → between 1 S h ≡ true → allOf (between 1 S) p ≡ true → allOf (between 1 S) q ≡ true → allOf isEntry (probes senior h p ++ resends q) ≡ true
       fan-kept h p q r e f = all-join isEntry (probes senior h p) (resends q) (probes-kept senior h p r e) (resends-kept q f)
 
-      vacated-kept : (q : List ℕ) → all (between 1 S) q ≡ true → distinct q ≡ true → (0 < length q → next q < length q) → ItemKept (vacated senior next q)
+      vacated-kept : (q : List ℕ) → allOf (between 1 S) q ≡ true → distinct q ≡ true → (0 < length q → next q < length q) → ItemKept (vacated senior next q)
       unfolding vacated handedOver
       vacated-kept [] e d h = record { lock = free-lock S; sends = all-none isEntry }
       vacated-kept (a ∷ l) e d h =
@@ -180,10 +180,10 @@ module _ (S : ℕ) where
   unfolding ItemRecord.wellFormed
   unpacked-lock i w =
       let l = unpacked i .queue in
-      let tail = and-both _ (all (λ b. eqb b 0) (drop (i .waiting) (i .queue))) w in
+      let tail = and-both _ (allOf (λ b. eqb b 0) (drop (i .waiting) (i .queue))) w in
       let other = and-both _ (not (member (i .holder) l)) (tail .0) in
       let once = and-both _ (distinct l) (other .0) in
-      let range = and-both _ (all (between 1 S) l) (once .0) in
+      let range = and-both _ (allOf (between 1 S) l) (once .0) in
       let ends = and-both (leb (i .holder) S) (leb (i .waiting) 64) (range .0) in
       record { holder = leb-true (i .holder) S (ends .0); sessions = range .1; once = once .1; apart = not-true (member (i .holder) l) (other .1) }
 

@@ -10,7 +10,7 @@ use lib.ListN.{length, getD, take, drop, length-set, replicate, length-replicate
 use lib.Seq.{take-set-lt, drop-set-lt, getD-take, getD-drop}
 use lib.Pow.{pow-pos}
 use borrow.Author.Tests.{eq-eqb, eqb-true, eqb-false, leb-true, le-leb, lt-ltb, ltb-true, ltb-false}
-use Rattle.lists.specs.Lists.{between, all, filter}
+use Rattle.lists.specs.Lists.{between, allOf, filter}
 use Rattle.lists.proofs.Tests.{and-both, and-intro, between-intro, by-answer, by-test, within}
 use Rattle.lists.proofs.Laws.{zeros-getD, all-cons, all-drop, all-filter, all-getD, all-join, all-map, all-none, all-one, all-replicate, all-set, all-take, all-weaken}
 use Rattle.bitset.specs.Bitset.{has, members}
@@ -30,8 +30,8 @@ use Rattle.session.specs.Rules.{After, dropped, probesFrom, storedProbes, store
 pub session-facts : (S M : ℕ) (s : Session) → wellFormed S M s ≡ true → SessionWellFormed S M s
 unfolding wellFormed
 session-facts S M s w =
-    let e = and-both _ (all (λ j. eqb j 0) (drop S (s .juniors))) w in
-    let d = and-both _ (all (λ j. leb j S) (take S (s .juniors))) (e .0) in
+    let e = and-both _ (allOf (λ j. eqb j 0) (drop S (s .juniors))) w in
+    let d = and-both _ (allOf (λ j. leb j S) (take S (s .juniors))) (e .0) in
     let c = and-both _ (ltb (s .held) (2 ^ M)) (d .0) in
     let b = and-both _ (cond (Stage.awaits (s .stage)) (between 1 M (s .awaited)) (eqb (s .awaited) 0)) (c .0) in
     record {
@@ -49,10 +49,10 @@ session-formed S M s f =
     and-intro (and-intro (and-intro (and-intro (between-intro 1 6 (s .stage) (f .stage-low) (f .stage-high)) (f .awaited)) (lt-ltb (s .held) (2 ^ M) (f .held))) (f .juniors)) (f .zeros)
 
 module _ (S M : ℕ) where
-  none-juniors : all (λ j. leb j S) (take S none) ≡ true
+  none-juniors : allOf (λ j. leb j S) (take S none) ≡ true
   none-juniors = all-take (λ j. leb j S) S (replicate 64 0) (all-replicate (λ j. leb j S) 64 0 (le-leb 0 S (omega arith)))
 
-  none-zeros : all (λ j. eqb j 0) (drop S none) ≡ true
+  none-zeros : allOf (λ j. eqb j 0) (drop S none) ≡ true
   none-zeros = all-drop (λ j. eqb j 0) S (replicate 64 0) (all-replicate (λ j. eqb j 0) 64 0 refl)
 
   none-length : length none ≡ 64
@@ -71,7 +71,7 @@ module _ (S M : ℕ) where
     pub record SessionKept (r : After) : Type 0 where
       pub session : wellFormed S M (r .session) ≡ true
       pub juniors : length (r .session .juniors) ≡ 64
-      pub sends : all isEntry (r .sends) ≡ true
+      pub sends : allOf isEntry (r .sends) ≡ true
 
     module _ (t-range : between 1 S t ≡ true) where
       plain-sent : (y kind : ℕ) → between 1 M y ≡ true → Entry.carried toItem kind ≡ true → Kind.carries kind ≡ false → isEntry (plain y kind) ≡ true
@@ -86,29 +86,29 @@ module _ (S M : ℕ) where
       -- stored probes
       probes-sent : (x : ℕ) → between 1 M x ≡ true → (i : ℕ) (js : List ℕ)
           → ((n : ℕ) → n < length js → eqb (getD js n 0) 0 ≡ false → (between 1 S (i + n) ≡ true) × (between 1 S (getD js n 0) ≡ true))
-          → all isEntry (probesFrom x i js) ≡ true
+          → allOf isEntry (probesFrom x i js) ≡ true
       unfolding probesFrom
       probes-sent x r i [] h = all-none isEntry
       probes-sent x r i (j ∷ js) h =
           let rest = probes-sent x r (suc i) js (λ n l e. let p = h (suc n) (omega arith) e in let q : i + suc n ≡ suc i + n = omega arith in (rw (q) at (p .0), p .1)) in
-          by-test (λ (l : List Message). all isEntry l ≡ true) (eqb j 0) (λ _. rest)
+          by-test (λ (l : List Message). allOf isEntry l ≡ true) (eqb j 0) (λ _. rest)
           (λ e. let p = h 0 (omega arith) e in all-cons isEntry (message x Kind.probe i j) _ (probe-sent x i j r (rw (add-zero i) at (p .0)) (p .1)) rest)
 
       -- messages to held items
-      those-range : (mask : ℕ) → mask < 2 ^ M → (n k : ℕ) → 1 ≤ k → all (between 1 M) (thoseIn mask (rising n k)) ≡ true
+      those-range : (mask : ℕ) → mask < 2 ^ M → (n k : ℕ) → 1 ≤ k → allOf (between 1 M) (thoseIn mask (rising n k)) ≡ true
       unfolding thoseIn rising
       those-range mask low zero k l = all-none (between 1 M)
       those-range mask low (suc n) k l =
           let rest = those-range mask low n (suc k) (omega arith) in
-          by-test (λ (l : List ℕ). all (between 1 M) l ≡ true) (has k mask) (λ e. all-cons (between 1 M) k _ (between-intro 1 M k l (bound e)) rest) (λ _. rest)
+          by-test (λ (l : List ℕ). allOf (between 1 M) l ≡ true) (has k mask) (λ e. all-cons (between 1 M) k _ (between-intro 1 M k l (bound e)) rest) (λ _. rest)
         where
           bound : has k mask ≡ true → k ≤ M
           bound e = by-answer (ltb M k) (λ above. let z : true ≡ false = sym e ∙ has-above M k mask low (ltb-true M k above) in let y : _≡_ {A = ℕ} 0 1 = cc in absurd (omega arith)) (ltb-false M k)
 
-      held-sent : (kind x mask : ℕ) → mask < 2 ^ M → Entry.carried toItem kind ≡ true → Kind.carries kind ≡ false → all isEntry (toHeld kind x mask) ≡ true
+      held-sent : (kind x mask : ℕ) → mask < 2 ^ M → Entry.carried toItem kind ≡ true → Kind.carries kind ≡ false → allOf isEntry (toHeld kind x mask) ≡ true
       unfolding toHeld
       held-sent kind x mask low c d =
-          let range : all (between 1 M) (members mask) ≡ true = rw (members-rising mask) (those-range mask low 64 1 (omega arith)) in
+          let range : allOf (between 1 M) (members mask) ≡ true = rw (members-rising mask) (those-range mask low 64 1 (omega arith)) in
           all-map isEntry (λ y. plain y kind) (filter (λ y. not (eqb y x)) (members mask))
           (all-filter _ (λ y. not (eqb y x)) (members mask) (all-weaken (between 1 M) _ (λ y r. plain-sent y kind r c d) (members mask) range))
 
@@ -141,7 +141,7 @@ module _ (S M : ℕ) where
                 let zero : getD (s .juniors) n 0 ≡ 0 = ap (λ (m : ℕ). getD (s .juniors) m 0) (sym same) ∙ sym (getD-drop S (s .juniors) (n - S) 0) ∙ zeros-getD (drop S (s .juniors)) (n - S) (f .zeros) in
                 absurd (eqb-false (getD (s .juniors) n 0) 0 e zero)
 
-        stored-sent : (x : ℕ) → between 1 M x ≡ true → all isEntry (storedProbes s x) ≡ true
+        stored-sent : (x : ℕ) → between 1 M x ≡ true → allOf isEntry (storedProbes s x) ≡ true
         stored-sent x r = probes-sent x r 1 (s .juniors) stored-range
 
         pub requested-kept : (x : ℕ) → between 1 M x ≡ true → SessionKept (requested x s)
@@ -236,7 +236,7 @@ module _ (S M : ℕ) where
                   zeros = rw (back) (f .zeros);
                 });
                 juniors = length-set (s .juniors) (a - 1) b ∙ len;
-                sends = by-test (λ (l : List Message). all isEntry l ≡ true) (eqb (s .stage) Stage.waiting) (λ e. all-one isEntry _ (probe-sent (s .awaited) a b (awaited-range Stage.waiting e refl) a-range b-range)) (λ _. all-none isEntry);
+                sends = by-test (λ (l : List Message). allOf isEntry l ≡ true) (eqb (s .stage) Stage.waiting) (λ e. all-one isEntry _ (probe-sent (s .awaited) a b (awaited-range Stage.waiting e refl) a-range b-range)) (λ _. all-none isEntry);
               })
               (λ _. dropped-kept)
 

@@ -4,7 +4,7 @@ use mathlib.Core.Bool.{and-true}
 use Prim.Native.Nat.{_-_, _≤_}
 use lib.Dec.{eqb}
 use Rattle.buffer.specs.Bytes.{slice}
-use Rattle.lists.specs.Lists.{all}
+use Rattle.lists.specs.Lists.{allOf}
 use Rattle.lists.proofs.Laws.{all-append}
 use Rattle.buffer.proofs.Laws.{slice-more}
 use Rattle.lists.proofs.Tests.{or-zero}
@@ -13,13 +13,13 @@ use Rattle.buffer.proofs.is_zero.Statement.{statement}
 use Rattle.buffer.proofs.is_zero.Tie as tie
 
 abbrev Inv-loop : tie.InvT-loop
-Inv-loop t at n acc₀ i₀ acc i = (i ≤ n) × (eqb acc 0 ≡ all (λ b. eqb b 0) (slice t at i))
+Inv-loop t at n acc₀ i₀ acc i = (i ≤ n) × (eqb acc 0 ≡ allOf (λ b. eqb b 0) (slice t at i))
 
 abbrev μ-loop : tie.MeasureT-loop
 μ-loop t at n acc₀ i₀ acc i = n - i
 
 loop-holds : tie.Need-loop-holds Inv-loop μ-loop
-unfolding all
+unfolding allOf
 loop-holds c = (omega arith, refl)
 
 add-acc : tie.Need-add-acc Inv-loop μ-loop
@@ -35,7 +35,7 @@ loop-less : tie.Need-loop-less Inv-loop μ-loop
 loop-less c = omega arith
 
 loop-again : tie.Need-loop-again Inv-loop μ-loop
-unfolding all
+unfolding allOf
 loop-again c =
     let s = c .before .before .before in
     let l = c .before .before .loop in

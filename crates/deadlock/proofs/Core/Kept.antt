@@ -9,7 +9,7 @@ use native.Mathlib.Omega.{arith}
 use lib.Dec.{eqb}
 use Rattle.lists.proofs.Tests.{by-test}
 use Rattle.deadlock.specs.Lists.{occurs}
-use Rattle.deadlock.specs.Machine.{abort, accepted, afterAnswer, afterItem, afterSession, Answer, Call, clean, deliverToItem, deliverToSession, down, Entry, fromItem, fromSession, isOnRoute, itemDrops, itemReceives, ItemStep, itemTakes, Laws, Message, move, noEntry, ofMachine, probe, putBack, rebroadcast, refused, release, releaseCall, reopen, request, requestCall, route, Rules, Sends, sessionReceives, SessionStep, sessionTakes, start, State, take, Taken, taken, up, withdraw}
+use Rattle.deadlock.specs.Machine.{abort, accepted, afterAnswer, afterItem, afterSession, Answer, Call, clean, deliverToItem, deliverToSession, down, Entry, fromItem, fromSession, isOnRoute, itemDrops, itemReceives, ItemStep, itemTakes, Laws, Message, move, noEntry, ofMachine, probe, putBack, rebroadcast, refused, release, releaseCall, reopen, request, requestCall, route, Rules, Sends, sessionReceives, SessionStep, sessionTakes, start, State, takeFirst, Taken, taken, up, withdraw}
 use Rattle.message.specs.Kind
 use Rattle.deadlock.specs.Counts.{behind-nil, behindRequest, cleanOf, cleansOf, cleansSent, EachBehind, every-nil, kindOf, sentTo}
 use Rattle.deadlock.specs.World.{FreeIsEmpty, Known, Links, Mail, MailCounts, Probes, TellsUp, Victims, World}
@@ -44,12 +44,12 @@ unfolding cleansIn fromItem cleansSent
 cleansIn-fromItem v x [] = refl
 cleansIn-fromItem v x (p ∷ l) = omega (arith, cleansIn-fromItem v x l)
 
-cleansIn-take : (v : ℕ) (d : Bool) (t x : ℕ) (l : List Entry) (m : Message) (r : List Entry) → take d t x l ≡ taken m r → cleansIn v l ≡ cleanOf v m + cleansIn v r
-unfolding cleansIn take putBack
+cleansIn-take : (v : ℕ) (d : Bool) (t x : ℕ) (l : List Entry) (m : Message) (r : List Entry) → takeFirst d t x l ≡ taken m r → cleansIn v l ≡ cleanOf v m + cleansIn v r
+unfolding cleansIn takeFirst putBack
 cleansIn-take v d t x [] m r e = cc
-cleansIn-take v d t x (a ∷ l) m r e = cases (isOnRoute d t x a) (take d t x l) refl (cleansIn-take v d t x l) e
+cleansIn-take v d t x (a ∷ l) m r e = cases (isOnRoute d t x a) (takeFirst d t x l) refl (cleansIn-take v d t x l) e
   where
-    cases : (b : Bool) (o : Taken) → take d t x l ≡ o → ((m : Message) (r : List Entry) → take d t x l ≡ taken m r → cleansIn v l ≡ cleanOf v m + cleansIn v r)
+    cases : (b : Bool) (o : Taken) → takeFirst d t x l ≡ o → ((m : Message) (r : List Entry) → takeFirst d t x l ≡ taken m r → cleansIn v l ≡ cleanOf v m + cleansIn v r)
         → cond b (taken (a .message) l) (putBack a o) ≡ taken m r → cleanOf v (a .message) + cleansIn v l ≡ cleanOf v m + cleansIn v r
     cases true o q ih e = let z : a .message ≡ m = cc in let y : l ≡ r = cc in omega (arith, ap (cleanOf v) z, ap (cleansIn v) y)
     cases false noEntry q ih e = let z : _≡_ {A = ℕ} 0 1 = cc in absurd (omega arith)
@@ -117,7 +117,7 @@ module _ (R : Rules) (L : Laws R) (s : State) (k : Core R s) where
   abbrev ProbesAndVictims : State → Type 0
   ProbesAndVictims r = Probes R (worldOf r) × Victims R (worldOf r)
 
-  pub item-takes : (t x : ℕ) (m : Message) (l : List Entry) → take true t x (s .mailbox) ≡ taken m l → (o : ItemStep)
+  pub item-takes : (t x : ℕ) (m : Message) (l : List Entry) → takeFirst true t x (s .mailbox) ≡ taken m l → (o : ItemStep)
       → ItemTakes (worldOf s) t x m (o .sends) (mailOf (afterItem s x l o))
   unfolding upRoute downRoute
   item-takes t x m l e o = record {
@@ -131,7 +131,7 @@ module _ (R : Rules) (L : Laws R) (s : State) (k : Core R s) where
       off a z (inl q) = apart-session t x a z true true q
       off a z (inr q) = apart-item t x a z true true q
 
-  both-after-item : (t x : ℕ) → 1 ≤ x → x ≤ R .M → (p : Taken) → take true t x (s .mailbox) ≡ p → ProbesAndVictims (itemTakes R s t x p)
+  both-after-item : (t x : ℕ) → 1 ≤ x → x ≤ R .M → (p : Taken) → takeFirst true t x (s .mailbox) ≡ p → ProbesAndVictims (itemTakes R s t x p)
   unfolding itemTakes afterItem
   both-after-item t x lo hi noEntry e = (k .probes, k .victims)
   both-after-item t x lo hi (taken m l) e =
@@ -150,7 +150,7 @@ module _ (R : Rules) (L : Laws R) (s : State) (k : Core R s) where
   }
 
   -- what a delivery to a session does to the messages on their way
-  pub delivered : (t x : ℕ) (m : Message) (l : List Entry) → take false t x (s .mailbox) ≡ taken m l → (o : SessionStep)
+  pub delivered : (t x : ℕ) (m : Message) (l : List Entry) → takeFirst false t x (s .mailbox) ≡ taken m l → (o : SessionStep)
       → SessionSends (worldOf s) t (o .sends) (mailOf (afterSession s t l o)) × SessionTakes (worldOf s) t x m (mailOf (afterSession s t l o))
   unfolding upRoute downRoute
   delivered t x m l e o = (
@@ -165,7 +165,7 @@ module _ (R : Rules) (L : Laws R) (s : State) (k : Core R s) where
     },
   )
 
-  both-after-session : (t x : ℕ) → 1 ≤ x → x ≤ R .M → (p : Taken) → take false t x (s .mailbox) ≡ p → ProbesAndVictims (sessionTakes R s t x p)
+  both-after-session : (t x : ℕ) → 1 ≤ x → x ≤ R .M → (p : Taken) → takeFirst false t x (s .mailbox) ≡ p → ProbesAndVictims (sessionTakes R s t x p)
   unfolding sessionTakes afterSession upRoute downRoute
   both-after-session t x lo hi noEntry e = (k .probes, k .victims)
   both-after-session t x lo hi (taken m l) e =
@@ -185,8 +185,8 @@ module _ (R : Rules) (L : Laws R) (s : State) (k : Core R s) where
   unfolding move ofMachine
   both-after-move (requestCall t x) e = both-after-call t _ (request-call L known-of t _ x (s .session t .stage) refl)
   both-after-move (releaseCall t x) e = both-after-call t _ (release-call L known-of t _ x (s .session t .stage) refl)
-  both-after-move (deliverToItem t x) e = both-after-item t x (item-low R t x e) (item-high R t x e) (take true t x (s .mailbox)) refl
-  both-after-move (deliverToSession t x) e = both-after-session t x (item-low R t x e) (item-high R t x e) (take false t x (s .mailbox)) refl
+  both-after-move (deliverToItem t x) e = both-after-item t x (item-low R t x e) (item-high R t x e) (takeFirst true t x (s .mailbox)) refl
+  both-after-move (deliverToSession t x) e = both-after-session t x (item-low R t x e) (item-high R t x e) (takeFirst false t x (s .mailbox)) refl
   both-after-move (reopen t) e = both-after-call t _ (reopen-call L s known-of t _)
 
   pub core-move : (c : Call) → ofMachine R c ≡ true → Core R (move R s c)
@@ -195,7 +195,7 @@ module _ (R : Rules) (L : Laws R) (s : State) (k : Core R s) where
       record { links = linked-move R L s (k .links) c e; idle = each-item-move R FreeIsEmpty (free-kept R) s c e (k .idle); victims = z .1; probes = z .0 }
 
   -- ---- a declaration is true
-  pub declaration-true : (t x i j : ℕ) (l : List Entry) → 1 ≤ x → x ≤ R .M → take true t x (s .mailbox) ≡ taken (probe i j) l
+  pub declaration-true : (t x i j : ℕ) (l : List Entry) → 1 ≤ x → x ≤ R .M → takeFirst true t x (s .mailbox) ≡ taken (probe i j) l
       → 1 ≤ occurs t (s .item x .queue) → s .item x .holder ≡ some i → DeclaredCycle L links-of i j
   unfolding upRoute
   declaration-true t x i j l lo hi e m h =

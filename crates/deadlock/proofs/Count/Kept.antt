@@ -7,7 +7,7 @@ use native.Mathlib.Omega.{arith}
 use lib.Dec.{eqb}
 use Rattle.lists.proofs.Tests.{and-both, by-test}
 use Rattle.deadlock.specs.Lists.{bit}
-use Rattle.deadlock.specs.Machine.{accepted, afterAnswer, afterItem, afterSession, Answer, Call, countClosed, countRolledBack, deliverToItem, deliverToSession, down, Entry, eventOf, isRolledBack, itemReceives, itemTakes, Laws, Message, move, noEntry, ofMachine, onCycle, refused, releaseCall, reopen, request, requestCall, Rules, run, sessionEvent, sessionReceives, SessionStep, sessionTakes, Stage, start, State, step, Stepped, take, Taken, taken, takenEvent, up, victim, withdrawing, withdrawn}
+use Rattle.deadlock.specs.Machine.{accepted, afterAnswer, afterItem, afterSession, Answer, Call, countClosed, countRolledBack, deliverToItem, deliverToSession, down, Entry, eventOf, isRolledBack, itemReceives, itemTakes, Laws, Message, move, noEntry, ofMachine, onCycle, refused, releaseCall, reopen, request, requestCall, Rules, run, sessionEvent, sessionReceives, SessionStep, sessionTakes, Stage, start, State, step, Stepped, takeFirst, Taken, taken, takenEvent, up, victim, withdrawing, withdrawn}
 use Rattle.message.specs.Kind
 use Rattle.deadlock.specs.Counts.{countKind, kindOf}
 use Rattle.deadlock.specs.Invariant.{Balance, downRoute, Invariant}
@@ -38,7 +38,7 @@ module _ (R : Rules) (L : Laws R) (s : State) (k : Invariant R s) (closed gone :
         same-balance (session-balance R L s k t low high (up request) (λ e. let z : _≡_ {A = ℕ} 0 1 = cc in absurd (omega arith)) (s .mailbox) o kr false v closed gone b) (omega arith) (omega arith)
 
   module _ (t x : ℕ) (lo : 1 ≤ x) (hi : x ≤ R .M) (low : 1 ≤ t) (high : t ≤ R .S) where
-    balance-item : (p : Taken) → take true t x (s .mailbox) ≡ p → Invariant R (itemTakes R s t x p)
+    balance-item : (p : Taken) → takeFirst true t x (s .mailbox) ≡ p → Invariant R (itemTakes R s t x p)
         → Balance R (itemTakes R s t x p) (closed + bit (takenEvent R t (s .item x) (itemTakes R s t x p) p .closed)) (gone + bit (takenEvent R t (s .item x) (itemTakes R s t x p) p .rolledBack))
     unfolding itemTakes takenEvent afterItem
     balance-item noEntry e kr = same-balance b (omega arith) (omega arith)
@@ -53,12 +53,12 @@ module _ (R : Rules) (L : Laws R) (s : State) (k : Invariant R s) (closed gone :
     }
 
     -- the withdrawn that is delivered was on its way
-    answered : (m : Message) (l : List Entry) → take false t x (s .mailbox) ≡ taken m l → m ≡ (down withdrawn)
+    answered : (m : Message) (l : List Entry) → takeFirst false t x (s .mailbox) ≡ taken m l → m ≡ (down withdrawn)
         → (z : ℕ) × (1 ≤ z) × (z ≤ R .M) × (1 ≤ countKind Kind.withdrawn (downRoute s t z))
     unfolding downRoute countKind
     answered m l e q = (x, lo, hi, omega (arith, ap (countKind Kind.withdrawn) (take-same false t x (s .mailbox) m l e), ap (λ (a : Message). bit (eqb (kindOf a) Kind.withdrawn)) q))
 
-    balance-session : (p : Taken) → take false t x (s .mailbox) ≡ p → Invariant R (sessionTakes R s t x p)
+    balance-session : (p : Taken) → takeFirst false t x (s .mailbox) ≡ p → Invariant R (sessionTakes R s t x p)
         → Balance R (sessionTakes R s t x p) (closed + 0) (gone + bit (sessionEvent (s .session t .stage) (sessionTakes R s t x p .session t .stage) .rolledBack))
     unfolding sessionTakes sessionEvent
     balance-session noEntry e kr = same-balance b (omega arith) (omega (arith, ap bit (not-and (isRolledBack (s .session t .stage)))))
@@ -73,8 +73,8 @@ module _ (R : Rules) (L : Laws R) (s : State) (k : Invariant R s) (closed gone :
   unfolding move ofMachine eventOf sessionEvent
   balance-move (requestCall t x) e kr = balance-call t (session-low R t x e) (session-high R t x e) _ (request-call-moves R t x (s .session t) (s .session t .stage)) kr
   balance-move (releaseCall t x) e kr = balance-call t (session-low R t x e) (session-high R t x e) _ (release-call-moves R t x (s .session t) (s .session t .stage)) kr
-  balance-move (deliverToItem t x) e kr = balance-item t x (item-low R t x e) (item-high R t x e) (session-low R t x e) (session-high R t x e) (take true t x (s .mailbox)) refl kr
-  balance-move (deliverToSession t x) e kr = balance-session t x (item-low R t x e) (item-high R t x e) (session-low R t x e) (session-high R t x e) (take false t x (s .mailbox)) refl kr
+  balance-move (deliverToItem t x) e kr = balance-item t x (item-low R t x e) (item-high R t x e) (session-low R t x e) (session-high R t x e) (takeFirst true t x (s .mailbox)) refl kr
+  balance-move (deliverToSession t x) e kr = balance-session t x (item-low R t x e) (item-high R t x e) (session-low R t x e) (session-high R t x e) (takeFirst false t x (s .mailbox)) refl kr
   balance-move (reopen t) e kr = balance-call t (isSession-low R t e) (isSession-high R t e) _ (reopen-call-moves R s t) kr
 
   balance-step : (admits : State → Call → Bool) (c : Call)

@@ -12,7 +12,7 @@ use Rattle.lists.proofs.Tests.{by-test, fails, same?}
 use Rattle.deadlock.specs.Lists.{bit, occurs, without}
 use Rattle.item.specs.declared.Event.{Event as ItemEvent}
 use Rattle.item.specs.declared.Event.the-variants.{Declared, Joined, Nothing}
-use Rattle.deadlock.specs.Machine.{abort, afterItem, clean, cleaning, declares, down, Entry, grantOrQueue, growing, handOver, heldBy, inQueue, Item, itemDrops, itemEvent, itemReceives, ItemStep, Laws, Message, onCycle, onRelease, onRequest, probe, rebroadcast, release, releasing, request, rolledBack, Rules, Stage, State, take, taken, up, victim, waiting, withdraw, withdrawing, withdrawn}
+use Rattle.deadlock.specs.Machine.{abort, afterItem, clean, cleaning, declares, down, Entry, grantOrQueue, growing, handOver, heldBy, inQueue, Item, itemDrops, itemEvent, itemReceives, ItemStep, Laws, Message, onCycle, onRelease, onRequest, probe, rebroadcast, release, releasing, request, rolledBack, Rules, Stage, State, takeFirst, taken, up, victim, waiting, withdraw, withdrawing, withdrawn}
 use Rattle.message.specs.Kind
 use Rattle.deadlock.specs.Counts.{countKind}
 use Rattle.deadlock.specs.Links.{withdraws}
@@ -87,7 +87,7 @@ module _ (R : Rules) (L : Laws R) (s : State) (k : Invariant R s) where
         same z = elim (same? x z) [ yes q ↦ rw (← q, item-at o) e | no q ↦ item-off o z q ]
 
     -- ---- request
-    request-granted-or-queued : take true t x (s .mailbox) ≡ taken (up request) l → (h : Option ℕ) → s .item x .holder ≡ h → Done (grantOrQueue R t (s .item x .queue) h)
+    request-granted-or-queued : takeFirst true t x (s .mailbox) ≡ taken (up request) l → (h : Option ℕ) → s .item x .holder ≡ h → Done (grantOrQueue R t (s .item x .queue) h)
     unfolding grantOrQueue afterItem itemEvent
     request-granted-or-queued e none free kr =
         let o = grantOrQueue R t (s .item x .queue) none in
@@ -120,7 +120,7 @@ module _ (R : Rules) (L : Laws R) (s : State) (k : Invariant R s) where
     holder-now o y b h p = sym (ap (λ (i : Item). i .holder) (item-at o)) ∙ (ap (λ (z : ℕ). after o .item z .holder) p ∙ h)
 
     -- t, which holds the item, waits for nobody
-    release-leads-nowhere : take true t x (s .mailbox) ≡ taken (up release) l → (a b c : ℕ) (d : Edge R (worldOf s) a b) → x ≡ d .item → Edge R (worldOf s) b c → ⊥
+    release-leads-nowhere : takeFirst true t x (s .mailbox) ≡ taken (up release) l → (a b c : ℕ) (d : Edge R (worldOf s) a b) → x ≡ d .item → Edge R (worldOf s) b c → ⊥
     release-leads-nowhere e a b c d p g =
         let o = itemDrops (s .item x) in
         let mail = mailOf (after o) in
@@ -131,7 +131,7 @@ module _ (R : Rules) (L : Laws R) (s : State) (k : Invariant R s) where
         release-no-edge L knownNow t x lo hi mail (mail .up t x) (ar .head) c (rw z at g)
 
     -- so nobody in the queue is a victim
-    release-no-victim : take true t x (s .mailbox) ≡ taken (up release) l → (a : ℕ) → Queued (worldOf s) a x → 1 ≤ isVictim (s .session a .stage) → ⊥
+    release-no-victim : takeFirst true t x (s .mailbox) ≡ taken (up release) l → (a : ℕ) → Queued (worldOf s) a x → 1 ≤ isVictim (s .session a .stage) → ⊥
     release-no-victim e =
         let o = itemDrops (s .item x) in
         let mail = mailOf (after o) in
@@ -147,7 +147,7 @@ module _ (R : Rules) (L : Laws R) (s : State) (k : Invariant R s) where
       | no p ↦ p (one-queue (links-of R L s (k .core)) n x (g .item) lo hi (g .low) (g .high) m (omega (arith, g .stands, ap (λ (i : Item). occurs n (i .queue)) (item-off o (g .item) p))))
     ]
 
-    release-hands-over : take true t x (s .mailbox) ≡ taken (up release) l → (q : List ℕ) → s .item x .queue ≡ q → Done (handOver R q)
+    release-hands-over : takeFirst true t x (s .mailbox) ≡ taken (up release) l → (q : List ℕ) → s .item x .queue ≡ q → Done (handOver R q)
     unfolding itemEvent handOver
     release-hands-over e [] empty kr =
         let o = handOver R [] in
@@ -184,7 +184,7 @@ module _ (R : Rules) (L : Laws R) (s : State) (k : Invariant R s) where
     unfolding itemReceives
     withdraw-absent z = unchanged withdrawStep (ap (λ (q : List ℕ). record { holder = s .item x .holder; queue = q }) (without-absent t (s .item x .queue) z))
 
-    module _ (e : take true t x (s .mailbox) ≡ taken (up withdraw) l) (m : 1 ≤ occurs t (s .item x .queue)) where
+    module _ (e : takeFirst true t x (s .mailbox) ≡ taken (up withdraw) l) (m : 1 ≤ occurs t (s .item x .queue)) where
       withdraw-takes : ItemTakes (worldOf s) t x (up withdraw) ((t, down withdrawn) ∷ []) (mailOf (after withdrawStep))
       unfolding itemReceives
       withdraw-takes = item-takes R L s (k .core) t x (up withdraw) l e withdrawStep
@@ -237,7 +237,7 @@ module _ (R : Rules) (L : Laws R) (s : State) (k : Invariant R s) where
     unfolding itemReceives itemEvent
     probe-closes-none i j c = by-test (λ (e : ItemEvent). itemEvent e c .closed ≡ false) (inQueue R t (s .item x)) (λ _. declares-closes-none i j (s .item x .holder) c) (λ _. refl)
 
-    pub item-balanced : (m : Message) → take true t x (s .mailbox) ≡ taken m l → Done (itemReceives R t (s .item x) m)
+    pub item-balanced : (m : Message) → takeFirst true t x (s .mailbox) ≡ taken m l → Done (itemReceives R t (s .item x) m)
     unfolding itemReceives itemEvent onRequest onRelease
     item-balanced (up request) e = by-test Done (heldBy (s .item x .holder) t || member t (s .item x .queue)) (λ _. unchanged (itemDrops (s .item x)) refl) (λ _. request-granted-or-queued e (s .item x .holder) refl)
     item-balanced (up release) e = by-test Done (heldBy (s .item x .holder) t) (λ _. release-hands-over e (s .item x .queue) refl) (λ _. unchanged (itemDrops (s .item x)) refl)

@@ -6,7 +6,7 @@ use mathlib.Core.Logic.{_≢_}
 use Prim.Native.Nat.{_+_, _≤_, ℕ}
 use native.Mathlib.Omega.{arith}
 use lib.Dec.{eqb}
-use Rattle.lists.specs.Lists.{count, member}
+use Rattle.lists.specs.Lists.{countUpTo, member}
 use Rattle.lists.proofs.Searches.{count-one-more, count-same}
 use Rattle.lists.proofs.Tests.{by-test, same?}
 use Rattle.deadlock.specs.Lists.{bit, occurs}
@@ -17,13 +17,13 @@ use Rattle.deadlock.proofs.Laws.Lists.{member-same}
 -- ---- counting
 -- the tests agree but at k
 pub count-changed : (n : ℕ) (p q : ℕ → Bool) (k : ℕ) → 1 ≤ k → k ≤ n → ((j : ℕ) → 1 ≤ j → j ≤ n → j ≢ k → p j ≡ q j)
-    → count n p + bit (q k) ≡ count n q + bit (p k)
+    → countUpTo n p + bit (q k) ≡ countUpTo n q + bit (p k)
 count-changed n p q k lo hi h = cases (p k) refl (q k) refl
   where
     at-k : p k ≡ q k → (j : ℕ) → 1 ≤ j → j ≤ n → p j ≡ q j
     at-k e j a b = elim (same? j k) [ yes z ↦ rw z e | no z ↦ h j a b z ]
 
-    cases : (a : Bool) → p k ≡ a → (b : Bool) → q k ≡ b → count n p + bit b ≡ count n q + bit a
+    cases : (a : Bool) → p k ≡ a → (b : Bool) → q k ≡ b → countUpTo n p + bit b ≡ countUpTo n q + bit a
     cases true e true f = omega (arith, count-same n p q (at-k (e ∙ sym f)))
     cases false e false f = omega (arith, count-same n p q (at-k (e ∙ sym f)))
     cases true e false f = omega (arith, count-one-more n p q k lo hi e f h)

@@ -7,7 +7,7 @@ use native.Mathlib.Omega.{arith}
 use lib.Dec.{eqb}
 use borrow.Author.Tests.{eqb-true}
 use Rattle.lists.proofs.Tests.{and-both}
-use Rattle.deadlock.specs.Machine.{Entry, fromItem, fromSession, isOnRoute, Message, noEntry, putBack, Sends, take, Taken, taken}
+use Rattle.deadlock.specs.Machine.{Entry, fromItem, fromSession, isOnRoute, Message, noEntry, putBack, Sends, takeFirst, Taken, taken}
 use Rattle.deadlock.specs.Counts.{Every, every-cons, every-nil}
 
 -- a message between session t and item x, to the item (true) or to the session (false)
@@ -29,13 +29,13 @@ entry-is d t x a e =
     rw (beq-true d (a .toItem) (p .0), eqb-true t (a .session) (q .0), eqb-true x (a .item) (q .1)) refl
 
 module _ {Q : Entry → Type 0} where
-  pub every-take : (d : Bool) (t x : ℕ) {l : List Entry} (m : Message) (r : List Entry) → Every Q l → take d t x l ≡ taken m r → Q (entry d t x m) × Every Q r
-  unfolding take putBack
+  pub every-take : (d : Bool) (t x : ℕ) {l : List Entry} (m : Message) (r : List Entry) → Every Q l → takeFirst d t x l ≡ taken m r → Q (entry d t x m) × Every Q r
+  unfolding takeFirst putBack
   every-take d t x m r every-nil e = let z : _≡_ {A = ℕ} 0 1 = cc in absurd (omega arith)
-  every-take d t x m r (every-cons {a} {l} h k) e = cases (isOnRoute d t x a) refl (take d t x l) refl (λ m r. every-take d t x m r k) e
+  every-take d t x m r (every-cons {a} {l} h k) e = cases (isOnRoute d t x a) refl (takeFirst d t x l) refl (λ m r. every-take d t x m r k) e
     where
-      cases : (b : Bool) → isOnRoute d t x a ≡ b → (o : Taken) → take d t x l ≡ o
-          → ((m : Message) (r : List Entry) → take d t x l ≡ taken m r → Q (entry d t x m) × Every Q r)
+      cases : (b : Bool) → isOnRoute d t x a ≡ b → (o : Taken) → takeFirst d t x l ≡ o
+          → ((m : Message) (r : List Entry) → takeFirst d t x l ≡ taken m r → Q (entry d t x m) × Every Q r)
           → cond b (taken (a .message) l) (putBack a o) ≡ taken m r → Q (entry d t x m) × Every Q r
       cases true g o q ih e =
           let z : a .message ≡ m = cc in

@@ -9,7 +9,7 @@ use lib.Dec.{eqb}
 use borrow.Author.Tests.{eqb-true, ne-eqb}
 use Rattle.lists.proofs.Tests.{and-both, eqb-self}
 use Rattle.deadlock.specs.Lists.{bit}
-use Rattle.deadlock.specs.Machine.{Entry, fromItem, fromSession, isOnRoute, Message, noEntry, putBack, route, Sends, take, taken, Taken}
+use Rattle.deadlock.specs.Machine.{Entry, fromItem, fromSession, isOnRoute, Message, noEntry, putBack, route, Sends, takeFirst, taken, Taken}
 use Rattle.deadlock.specs.Counts.{countBehind, countKind, kindOf, sentTo}
 
 pub countKind-append : (k : ℕ) (l m : List Message) → countKind k (l ++ m) ≡ countKind k l + countKind k m
@@ -62,13 +62,13 @@ unfoldable pub Apart : Bool → ℕ → ℕ → Bool → ℕ → ℕ → Type 0
 Apart d t x d′ t′ x′ = (e : Entry) → isOnRoute d t x e ≡ true → isOnRoute d′ t′ x′ e ≡ false
 
 -- what is taken from a route is its head; the other routes keep theirs
-pub take-same : (d : Bool) (t x : ℕ) (l : List Entry) (m : Message) (r : List Entry) → take d t x l ≡ taken m r → route d t x l ≡ m ∷ route d t x r
-unfolding route take putBack
+pub take-same : (d : Bool) (t x : ℕ) (l : List Entry) (m : Message) (r : List Entry) → takeFirst d t x l ≡ taken m r → route d t x l ≡ m ∷ route d t x r
+unfolding route takeFirst putBack
 take-same d t x [] m r e = cc
-take-same d t x (a ∷ l) m r e = cases (isOnRoute d t x a) refl (take d t x l) refl (take-same d t x l) e
+take-same d t x (a ∷ l) m r e = cases (isOnRoute d t x a) refl (takeFirst d t x l) refl (take-same d t x l) e
   where
-    cases : (b : Bool) → isOnRoute d t x a ≡ b → (o : Taken) → take d t x l ≡ o
-        → ((m : Message) (r : List Entry) → take d t x l ≡ taken m r → route d t x l ≡ m ∷ route d t x r)
+    cases : (b : Bool) → isOnRoute d t x a ≡ b → (o : Taken) → takeFirst d t x l ≡ o
+        → ((m : Message) (r : List Entry) → takeFirst d t x l ≡ taken m r → route d t x l ≡ m ∷ route d t x r)
         → cond b (taken (a .message) l) (putBack a o) ≡ taken m r
         → cond b (a .message ∷ route d t x l) (route d t x l) ≡ m ∷ route d t x r
     cases true h o q ih e = cc
@@ -76,13 +76,13 @@ take-same d t x (a ∷ l) m r e = cases (isOnRoute d t x a) refl (take d t x l) 
     cases false h (taken m′ r′) q ih e = cc (ih m′ r′ q)
 
 pub take-other : (d : Bool) (t x : ℕ) (d′ : Bool) (t′ x′ : ℕ) → Apart d t x d′ t′ x′
-    → (l : List Entry) (m : Message) (r : List Entry) → take d t x l ≡ taken m r → route d′ t′ x′ l ≡ route d′ t′ x′ r
-unfolding route take putBack Apart
+    → (l : List Entry) (m : Message) (r : List Entry) → takeFirst d t x l ≡ taken m r → route d′ t′ x′ l ≡ route d′ t′ x′ r
+unfolding route takeFirst putBack Apart
 take-other d t x d′ t′ x′ ap [] m r e = cc
-take-other d t x d′ t′ x′ ap (a ∷ l) m r e = cases (isOnRoute d t x a) refl (take d t x l) refl (take-other d t x d′ t′ x′ ap l) e
+take-other d t x d′ t′ x′ ap (a ∷ l) m r e = cases (isOnRoute d t x a) refl (takeFirst d t x l) refl (take-other d t x d′ t′ x′ ap l) e
   where
-    cases : (b : Bool) → isOnRoute d t x a ≡ b → (o : Taken) → take d t x l ≡ o
-        → ((m : Message) (r : List Entry) → take d t x l ≡ taken m r → route d′ t′ x′ l ≡ route d′ t′ x′ r)
+    cases : (b : Bool) → isOnRoute d t x a ≡ b → (o : Taken) → takeFirst d t x l ≡ o
+        → ((m : Message) (r : List Entry) → takeFirst d t x l ≡ taken m r → route d′ t′ x′ l ≡ route d′ t′ x′ r)
         → cond b (taken (a .message) l) (putBack a o) ≡ taken m r
         → route d′ t′ x′ (a ∷ l) ≡ route d′ t′ x′ r
     cases true h o q ih e = cc (ap a h)

@@ -9,7 +9,7 @@ use lib.Dec.{leb}
 use borrow.Author.Tests.{leb-true}
 use Rattle.lists.proofs.Tests.{and-both, same?, within}
 use Rattle.deadlock.specs.Lists.{occurs}
-use Rattle.deadlock.specs.Machine.{accepted, afterAnswer, afterItem, afterSession, Answer, Call, deliverToItem, deliverToSession, Entry, heldBy, inRange, isSession, itemReceives, ItemStep, itemTakes, Laws, move, noEntry, ofMachine, refused, releaseCall, reopen, requestCall, route, Rules, sessionReceives, SessionStep, sessionTakes, start, State, take, Taken, taken}
+use Rattle.deadlock.specs.Machine.{accepted, afterAnswer, afterItem, afterSession, Answer, Call, deliverToItem, deliverToSession, Entry, heldBy, inRange, isSession, itemReceives, ItemStep, itemTakes, Laws, move, noEntry, ofMachine, refused, releaseCall, reopen, requestCall, route, Rules, sessionReceives, SessionStep, sessionTakes, start, State, takeFirst, Taken, taken}
 use Rattle.message.specs.Kind
 use Rattle.deadlock.specs.Counts.{countBehind, countKind, sentTo}
 use Rattle.deadlock.specs.Links.{Linked, viewOf}
@@ -123,7 +123,7 @@ module _ (R : Rules) (L : Laws R) (s : State) (g : AllLinked R s) where
       cases t′ z lo hi (no q) = rw (view-other-session s t (s .mailbox) o t′ z q) (g .linked t′ z lo hi)
 
   -- a message at an item
-  linked-item : (t x : ℕ) → 1 ≤ x → x ≤ R .M → (p : Taken) → take true t x (s .mailbox) ≡ p → AllLinked R (itemTakes R s t x p)
+  linked-item : (t x : ℕ) → 1 ≤ x → x ≤ R .M → (p : Taken) → takeFirst true t x (s .mailbox) ≡ p → AllLinked R (itemTakes R s t x p)
   unfolding itemTakes upRoute downRoute
   linked-item t x lo hi noEntry e = g
   linked-item t x lo hi (taken m l) e = record { linked = λ t′ z lo′ hi′. cases t′ z lo′ hi′ (same? x z) (same? t t′) }
@@ -146,7 +146,7 @@ module _ (R : Rules) (L : Laws R) (s : State) (g : AllLinked R s) where
           (rw (← take-other true t x true t′ x (apart-session t x t′ x true true w) (s .mailbox) m l e, ← same-down t′ x) (g .linked t′ x lo hi)))
 
   -- a message at a session
-  linked-session : (t x : ℕ) → 1 ≤ x → x ≤ R .M → (p : Taken) → take false t x (s .mailbox) ≡ p → AllLinked R (sessionTakes R s t x p)
+  linked-session : (t x : ℕ) → 1 ≤ x → x ≤ R .M → (p : Taken) → takeFirst false t x (s .mailbox) ≡ p → AllLinked R (sessionTakes R s t x p)
   unfolding sessionTakes upRoute downRoute
   linked-session t x lo hi noEntry e = g
   linked-session t x lo hi (taken m l) e = record { linked = λ t′ z lo′ hi′. cases t′ z lo′ hi′ (same? t t′) (same? x z) }
@@ -174,8 +174,8 @@ module _ (R : Rules) (L : Laws R) (s : State) (g : AllLinked R s) where
   unfolding move ofMachine upRoute downRoute
   linked-move (requestCall t x) e = linked-answer t _ (λ z lo hi. request-call-linked R t z (s .item z) (upRoute s t z) (downRoute s t z) x (s .session t) (g .linked t z lo hi))
   linked-move (releaseCall t x) e = linked-answer t _ (λ z lo hi. release-call-linked R t z (s .item z) (upRoute s t z) (downRoute s t z) x (s .session t) (g .linked t z lo hi))
-  linked-move (deliverToItem t x) e = linked-item t x (item-low R t x e) (item-high R t x e) (take true t x (s .mailbox)) refl
-  linked-move (deliverToSession t x) e = linked-session t x (item-low R t x e) (item-high R t x e) (take false t x (s .mailbox)) refl
+  linked-move (deliverToItem t x) e = linked-item t x (item-low R t x e) (item-high R t x e) (takeFirst true t x (s .mailbox)) refl
+  linked-move (deliverToSession t x) e = linked-session t x (item-low R t x e) (item-high R t x e) (takeFirst false t x (s .mailbox)) refl
   linked-move (reopen t) e = linked-answer t _ (λ z lo hi. reopen-linked R s t z lo hi (g .linked t z lo hi))
 
 module _ (R : Rules) (L : Laws R) where

@@ -6,7 +6,7 @@ use native.Mathlib.Omega.{arith}
 use borrow.Author.Needs.{needs}
 use lib.ListN.{getD}
 use Rattle.buffer.specs.Bytes.{slice}
-use Rattle.lists.specs.Lists.{all, distinct, member}
+use Rattle.lists.specs.Lists.{allOf, distinct, member}
 use Rattle.buffer.proofs.Laws.{slice-more}
 use Rattle.form.proofs.FormLaws.{inLine, Seen, none-seen, line-zero, line-seen, line-new, seen-more, line-stop}
 use Rattle.form.proofs.queue.Statement.{statement}
@@ -22,7 +22,7 @@ single-requires : tie.Need-single-requires Inv-loop μ-loop
 single-requires c κs = search needs
 
 loop-holds : tie.Need-loop-holds Inv-loop μ-loop
-unfolding all distinct member
+unfolding allOf distinct member
 loop-holds c = (omega arith, refl, rw (c .single .ensures) (none-seen (c .before .before .args .h)))
 
 add-v : tie.Need-add-v Inv-loop μ-loop
@@ -78,8 +78,8 @@ loop-again c =
 
 returns-3 : tie.Need-returns-3 Inv-loop μ-loop
 returns-3 c =
-    let all : c .before .loop .i ≡ c .before .before .before .before .args .n = omega arith in
-    rw (← all) (sym (c .before .loop .inv .1))
+    let allOf : c .before .loop .i ≡ c .before .before .before .before .args .n = omega arith in
+    rw (← allOf) (sym (c .before .loop .inv .1))
 
 pub queue-spec : {M : Type 1} → statement M
 queue-spec =

@@ -5,7 +5,7 @@ use native.Mathlib.Omega.{arith}
 use borrow.Author.Needs.{needs}
 use lib.ListN.{getD}
 use Rattle.buffer.specs.Bytes.{slice}
-use Rattle.lists.specs.Lists.{all}
+use Rattle.lists.specs.Lists.{allOf}
 use Rattle.buffer.proofs.Laws.{slice-more, length-slice}
 use Rattle.form.proofs.FormLaws.{within, within-more, within-none, limit}
 use Rattle.message.specs.Limits.{maxSessions}
@@ -55,7 +55,7 @@ loop-again c =
     )
 
 returns : tie.Need-returns Inv-loop μ-loop
-returns c = let all : c .before .loop .i ≡ maxSessions = omega arith in rw (all) at (c .before .loop .inv .1)
+returns c = let allOf : c .before .loop .i ≡ maxSessions = omega arith in rw (allOf) at (c .before .loop .inv .1)
 
 pub row-spec : {M : Type 1} → statement M
 row-spec =
