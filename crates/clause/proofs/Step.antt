@@ -8,9 +8,9 @@ use Prim.Native.Nat.{ℕ, _≤_}
 use native.Mathlib.Omega.{arith}
 use lib.Dec.{eqb}
 use lib.ListN.{length}
-use borrow.Author.Tests.{eqb-true, eqb-false, le-ltb, ltb-false, not-false}
+use borrow.Author.Tests.{le-ltb, not-false}
 use Rattle.lists.specs.Lists.{between}
-use Rattle.lists.proofs.Tests.{and-intro, between-intro, by-test, or-neither, within}
+use Rattle.lists.proofs.Tests.{and-intro, between-intro, or-neither, within}
 use Rattle.bitset.specs.Bitset.{has}
 use Rattle.session.specs.Stage
 use Rattle.session.specs.Seniority.{senior}
@@ -24,11 +24,11 @@ use Rattle.mailbox.proofs.Laws as MailLaws
 use Rattle.table.specs.Layout as Table
 use Rattle.waits.specs.OnTable.{locks}
 use Rattle.step.specs.Step as Step
-use Rattle.step.specs.Step.{Plan, Stepped, stepCauses, stepped, refusedAnswer, hindered, delivered, sessionActs, sessionPlan, itemPlan, overfull, plan, acted, committed, stageForbids, maskForbids, nothingToDeliver}
-use Rattle.lockmgr.specs.Calls.{Config, judged, step}
+use Rattle.step.specs.Step.{Plan, Stepped, stepCauses, stepped, refusedAnswer, delivered, sessionActs, sessionPlan, itemPlan, overfull, plan, committed}
+use Rattle.step.specs.Parts.{Unhindered}
+use Rattle.lockmgr.specs.Calls.{Config, step}
 use Rattle.refusal.specs.Refusal.{first}
-use Rattle.refusal.proofs.Causes.{unmet}
-use Rattle.lockmgr.proofs.Judging.{formed-zero, judged-none, judged-zero, step-acts}
+use Rattle.lockmgr.proofs.Judging.{by-call, formed-zero, judged-none, step-acts}
 use Rattle.step.proofs.Acting.{acted-concluded, by-verb, request-plan, release-plan}
 use Rattle.deadlock.specs.Lists.{updated}
 use Rattle.deadlock.specs.Machine
@@ -47,40 +47,6 @@ pub quiet : (b : Bool) → Machine.nothing ≡ record { closed = false; declared
 quiet true = refl
 quiet false = refl
 
--- what a step knows that is not hindered
-pub record Unhindered (verb t x : ℕ) (table mail : List ℕ) : Type 0 where
-  pub stage : stageForbids verb (Table.session table t .stage) ≡ false
-  pub mask : maskForbids verb x (Table.session table t .held) ≡ false
-  pub route : nothingToDeliver verb (delivered verb t x (Mail.entriesOf mail)) (Mail.entriesOf mail) ≡ false
-  pub room : length (plan verb t x table (Mail.entriesOf mail) .entries) ≤ Mail.capacityOf mail
-
-module _ (verb t x : ℕ) (table mail : List ℕ) where
-  unhindered : hindered verb t x table mail ≡ 0 → Unhindered verb t x table mail
-  unfolding hindered
-  unhindered e =
-      let s = unmet (stageForbids verb (Table.session table t .stage)) 5 _ e in
-      let m = unmet (maskForbids verb x (Table.session table t .held)) 6 _ (s .1) in
-      let r = unmet (nothingToDeliver verb (delivered verb t x (Mail.entriesOf mail)) (Mail.entriesOf mail)) 7 _ (m .1) in
-      let n = unmet (overfull (Mail.capacityOf mail) (plan verb t x table (Mail.entriesOf mail) .entries)) 8 _ (r .1) in
-      record {
-        stage = s .0;
-        mask = m .0;
-        route = r .0;
-        room = omega (arith, ltb-false (Mail.capacityOf mail) (length (plan verb t x table (Mail.entriesOf mail) .entries)) (n .0));
-      }
-
-  -- a step is refused or does what is planned
-  pub outcome : (P : Stepped → Type 0) → ((n : ℕ) → n ≢ 0 → P (stepped (refusedAnswer n) table mail))
-      → (judged verb t x table mail ≡ 0 → Unhindered verb t x table mail → P (committed t (Mail.capacityOf mail) (plan verb t x table (Mail.entriesOf mail))))
-      → P (step verb t x table mail)
-  unfolding step acted
-  outcome P refused done =
-      by-test P (eqb (judged verb t x table mail) 0)
-      (λ e. by-test P (eqb (hindered verb t x table mail) 0)
-      (λ f. done (eqb-true (judged verb t x table mail) 0 e) (unhindered (eqb-true (hindered verb t x table mail) 0 f)))
-      (λ f. refused (hindered verb t x table mail) (eqb-false (hindered verb t x table mail) 0 f)))
-      (λ e. refused (judged verb t x table mail) (eqb-false (judged verb t x table mail) 0 e))
-
 module _ (conf : Config) (table : List ℕ) (l : List Entry) (g : Good conf table l) where
   abbrev mail : List ℕ
   mail = Mail.mailBytes (conf .capacity) l
@@ -96,8 +62,11 @@ module _ (conf : Config) (table : List ℕ) (l : List Entry) (g : Good conf tabl
     unfolding Machine.inRange
     in-range = and-intro t-range x-range
 
+    abbrev planned : ℕ → Plan
+    planned verb = plan (Table.senior table) verb t x table l
+
     abbrev Done : ℕ → Type 0
-    Done verb = Unhindered verb t x table mail → StepMoved conf table l verb t (committed t (conf .capacity) (plan verb t x table l))
+    Done verb = Unhindered verb t x table l → length (planned verb .entries) ≤ conf .capacity → StepMoved conf table l verb t (committed t (conf .capacity) (planned verb))
 
     few-sessions : conf .sessions ≤ 64
     few-sessions = State.few-sessions conf table l g
@@ -114,14 +83,14 @@ module _ (conf : Config) (table : List ℕ) (l : List Entry) (g : Good conf tabl
 
     request-done : Done Step.request
     unfolding Machine.ofMachine Machine.eventOf Session.requested
-    request-done u =
+    request-done u room =
         let s = Table.session table t in
         let stage = or-neither (not (eqb (s .stage) Stage.growing)) _ (u .stage) .0 in
         let mask = or-neither (has x (s .held)) _ (u .mask) .0 in
         let allowed : eqb (s .stage) Stage.growing && not (has x (s .held)) ≡ true = and-intro (not-false (eqb (s .stage) Stage.growing) stage) (rw (mask) refl) in
-        rw (request-plan t x table l)
+        rw (request-plan (Table.senior table) t x table l)
         (session-stepped conf table l g t t-range (Machine.requestCall t x) in-range l (Session.requested x s)
-        (rw (capacity-is, entries-are, request-plan t x table l) at (u .room))
+        (rw (request-plan (Table.senior table) t x table l) at room)
         (λ f h. Agrees.request-move-kept (seniorOf conf) (nextOf conf) (conf .sessions) (conf .items) few-sessions few-items (Table.session table) (locks table) l formed t x t-range x-range f h)
         (λ f h. Agrees.request-move (seniorOf conf) (nextOf conf) (conf .sessions) (conf .items) few-sessions few-items (Table.session table) (locks table) l formed t x t-range x-range allowed f h)
         (λ f h _. rw (h .here) (quiet (not (eqb (s .stage) Stage.rolledBack))))
@@ -129,36 +98,36 @@ module _ (conf : Config) (table : List ℕ) (l : List Entry) (g : Good conf tabl
 
     release-done : Done Step.release
     unfolding Machine.ofMachine Machine.eventOf Session.released
-    release-done u =
+    release-done u room =
         let s = Table.session table t in
         let stage : eqb (s .stage) Stage.growing || eqb (s .stage) Stage.shrinking ≡ true = not-false (eqb (s .stage) Stage.growing || eqb (s .stage) Stage.shrinking) (u .stage) in
         let allowed : (eqb (s .stage) Stage.growing || eqb (s .stage) Stage.shrinking) && has x (s .held) ≡ true = and-intro stage (not-false (has x (s .held)) (u .mask)) in
-        rw (release-plan t x table l)
+        rw (release-plan (Table.senior table) t x table l)
         (session-stepped conf table l g t t-range (Machine.releaseCall t x) in-range l (Session.released x s)
-        (rw (capacity-is, entries-are, release-plan t x table l) at (u .room))
+        (rw (release-plan (Table.senior table) t x table l) at room)
         (λ f h. Agrees.release-move-kept (seniorOf conf) (nextOf conf) (conf .sessions) (conf .items) few-sessions few-items (Table.session table) (locks table) l formed t x t-range x-range stage f h)
         (λ f h. Agrees.release-move (seniorOf conf) (nextOf conf) (conf .sessions) (conf .items) few-sessions few-items (Table.session table) (locks table) l formed t x t-range x-range allowed f h)
         (λ f h _. rw (h .here) (quiet (not (eqb (s .stage) Stage.rolledBack))))
         Step.release refl (λ e. absurd (false≢true e)))
 
     -- the item and the session are given the ranks of the table, which are those of the start
-    item-plan : plan Step.deliverToItem t x table l ≡ itemPlan x table (Agrees.othersOf t x l true) (Agrees.itemStep (seniorOf conf) (nextOf conf) (locks table) t x l)
+    item-plan : planned Step.deliverToItem ≡ itemPlan x table (Agrees.othersOf t x l true) (Agrees.itemStep (seniorOf conf) (nextOf conf) (locks table) t x l)
     unfolding plan delivered
     item-plan =
         ap (λ (r : List ℕ). itemPlan x table (Agrees.othersOf t x l true) (Agrees.itemStep (senior r) (nextHolder (senior r)) (locks table) t x l)) (g .ranks)
 
-    session-plan : plan Step.deliverToSession t x table l ≡ sessionPlan t table (Agrees.othersOf t x l false) (Agrees.sessionStep (seniorOf conf) (Table.session table) t x l)
+    session-plan : planned Step.deliverToSession ≡ sessionPlan t table (Agrees.othersOf t x l false) (Agrees.sessionStep (seniorOf conf) (Table.session table) t x l)
     unfolding plan delivered sessionActs
     session-plan =
         ap (λ (r : List ℕ). sessionPlan t table (Agrees.othersOf t x l false) (Agrees.sessionStep (senior r) (Table.session table) t x l)) (g .ranks)
 
     item-done : Done Step.deliverToItem
     unfolding delivered Machine.ofMachine Bound.delivers
-    item-done u =
-        let found : eqb (Agrees.placeOf t x l true) (length l) ≡ false = rw (entries-are) at (u .route) in
+    item-done u room =
+        let found : eqb (Agrees.placeOf t x l true) (length l) ≡ false = u .route in
         rw (item-plan)
         (item-stepped conf table l g t t-range x x-range (Machine.deliverToItem t x) in-range (Agrees.othersOf t x l true) (Agrees.itemStep (seniorOf conf) (nextOf conf) (locks table) t x l)
-        (rw (capacity-is, entries-are, item-plan) at (u .room))
+        (rw (item-plan) at room)
         (λ f h. Agrees.item-move-kept (seniorOf conf) (nextOf conf) (conf .sessions) (conf .items) few-sessions few-items (Table.session table) (locks table) l formed t x t-range x-range found (next-inside (senior-weak (conf .ranks))) f h)
         (λ f h. Agrees.item-move (seniorOf conf) (nextOf conf) (conf .sessions) (conf .items) few-sessions few-items (Table.session table) (locks table) l formed t x t-range x-range found (next-inside (senior-weak (conf .ranks))) f h)
         (λ after. Events.item-move-event (seniorOf conf) (nextOf conf) (conf .sessions) (conf .items) few-sessions few-items (Table.session table) (locks table) l formed t x t-range x-range found (next-inside (senior-weak (conf .ranks))) after)
@@ -166,11 +135,11 @@ module _ (conf : Config) (table : List ℕ) (l : List Entry) (g : Good conf tabl
 
     session-done : Done Step.deliverToSession
     unfolding delivered Machine.ofMachine Bound.delivers
-    session-done u =
-        let found : eqb (Agrees.placeOf t x l false) (length l) ≡ false = rw (entries-are) at (u .route) in
+    session-done u room =
+        let found : eqb (Agrees.placeOf t x l false) (length l) ≡ false = u .route in
         rw (session-plan)
         (session-stepped conf table l g t t-range (Machine.deliverToSession t x) in-range (Agrees.othersOf t x l false) (Agrees.sessionStep (seniorOf conf) (Table.session table) t x l)
-        (rw (capacity-is, entries-are, session-plan) at (u .room))
+        (rw (session-plan) at room)
         (λ f h. Agrees.session-move-kept (seniorOf conf) (nextOf conf) (conf .sessions) (conf .items) few-sessions few-items (Table.session table) (locks table) l formed t x t-range x-range found f h)
         (λ f h. Agrees.session-move (seniorOf conf) (nextOf conf) (conf .sessions) (conf .items) few-sessions few-items (Table.session table) (locks table) l formed t x t-range x-range found f h)
         (λ f h v. Events.session-move-event (seniorOf conf) (nextOf conf) (conf .sessions) (conf .items) few-sessions few-items (Table.session table) (locks table) l formed t x t-range x-range f _ v)
@@ -185,7 +154,7 @@ module _ (conf : Config) (table : List ℕ) (l : List Entry) (g : Good conf tabl
 
     -- as many as the machine
     same-count : (d : Bool) → eqb (Agrees.placeOf t x l d) (length l) ≡ false
-        → length (plan (deliveryVerb d) t x table l .entries) ≡ length (Machine.move (machineOf conf) (State.stateOf conf table l) (deliveryCall d) .mailbox)
+        → length (planned (deliveryVerb d) .entries) ≡ length (Machine.move (machineOf conf) (State.stateOf conf table l) (deliveryCall d) .mailbox)
     same-count true found =
         let r = Agrees.itemStep (seniorOf conf) (nextOf conf) (locks table) t x l in
         ap (λ (p : Plan). length (p .entries)) item-plan
@@ -219,9 +188,9 @@ module _ (conf : Config) (table : List ℕ) (l : List Entry) (g : Good conf tabl
         let rx = within 1 (conf .items) x x-range in
         let v = is-verb d in
         let j = judged-none (deliveryVerb d) t x table mail (v .0) (v .1) (formed-zero table mail f) (rt .0) (omega (arith, rt .1, g .sessions)) (rx .0) (omega (arith, rx .1, g .items)) in
-        let room : overfull (Mail.capacityOf mail) (plan (deliveryVerb d) t x table (Mail.entriesOf mail) .entries) ≡ false =
-        rw (capacity-is, entries-are) (le-ltb (conf .capacity) (length (plan (deliveryVerb d) t x table l .entries)) (omega (arith, same-count d found, fits))) in
-        rw (step-acts (deliveryVerb d) t x table mail j, acted-concluded (deliveryVerb d) t x table mail (only-room d found), room) refl
+        let room : overfull (Mail.capacityOf mail) (plan (Table.senior table) (deliveryVerb d) t x table (Mail.entriesOf mail) .entries) ≡ false =
+        rw (capacity-is, entries-are) (le-ltb (conf .capacity) (length (planned (deliveryVerb d) .entries)) (omega (arith, same-count d found, fits))) in
+        rw (step-acts (deliveryVerb d) t x table mail j, acted-concluded (Table.senior table) (deliveryVerb d) t x table mail (only-room d found), room) refl
 
     -- where an entry is found, the machine delivers it
     pub found-delivers : (d : Bool) → eqb (Agrees.placeOf t x l d) (length l) ≡ false → Bound.delivers (State.stateOf conf table l) (deliveryCall d) ≡ true
@@ -238,11 +207,9 @@ module _ (conf : Config) (table : List ℕ) (l : List Entry) (g : Good conf tabl
   pub by-step : (verb t x : ℕ) (P : Stepped → Type 0) → ((n : ℕ) → n ≢ 0 → P (stepped (refusedAnswer n) table mail))
       → ((r : Stepped) → StepMoved conf table l verb t r → P r) → P (step verb t x table mail)
   by-step verb t x P refused moved =
-      outcome verb t x table mail P refused (λ e u.
-      let known = judged-zero verb t x table mail e in
-      let j = known .2 in
+      by-call verb t x table mail P refused (λ low high j u room.
       let t-range = between-intro 1 (conf .sessions) t (j .session-low) (omega (arith, j .session-high, g .sessions)) in
       let x-range = between-intro 1 (conf .items) x (j .item-low) (omega (arith, j .item-high, g .items)) in
       rw (capacity-is, entries-are)
-      (moved (committed t (conf .capacity) (plan verb t x table l))
-      (by-verb (Done t x t-range x-range) (request-done t x t-range x-range) (release-done t x t-range x-range) (item-done t x t-range x-range) (session-done t x t-range x-range) verb (known .0) (known .1) u)))
+      (moved (committed t (conf .capacity) (planned t x t-range x-range verb))
+      (by-verb (Done t x t-range x-range) (request-done t x t-range x-range) (release-done t x t-range x-range) (item-done t x t-range x-range) (session-done t x t-range x-range) verb low high (rw (entries-are) at u) (rw (capacity-is, entries-are) at room))))

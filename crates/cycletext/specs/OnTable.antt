@@ -1,26 +1,33 @@
 -- The texts of a table's cycles, and what a call that writes one answers and leaves. RULES is docs/RULES.md.
 use Prim.Native.Nat.{ℕ}
-use mathlib.Core.Bool.{cond}
+use mathlib.Core.Bool.{Bool, cond}
 use mathlib.Core.List.{List, [], _∷_}
 use lib.Dec.{eqb, ltb}
 use lib.ListN.{length}
 use Rattle.buffer.specs.Bytes.{splice}
-use Rattle.waits.specs.OnTable.{cycleLength, cycle}
+use Rattle.table.specs.Layout.{senior}
+use Rattle.waits.specs.OnTable.{cycleLength, cycleBy}
 use Rattle.refusal.specs.Refusal
 use Rattle.refusal.specs.Refusal.{Cause, cause}
 use Rattle.cycletext.specs.declared.Text.{Text}
 use Rattle.cycletext.specs.Text.{lines}
 
--- the text of the cycle on which t lies
+-- the text of the cycle on which t lies; by a seniority, and by that of the table
+abbrev pub textBy : (ℕ → ℕ → Bool) → List ℕ → ℕ → List ℕ
+textBy senior table t = lines (cycleBy senior table t)
+
 abbrev pub text : List ℕ → ℕ → List ℕ
-text table t = lines (cycle table t)
+text table t = textBy (senior table) table t
 
 -- what is judged once the table and the session are: RULES 8.10 and 8.11
-abbrev pub textCauses : ℕ → List ℕ → List ℕ → List Cause
-textCauses t table buffer =
+abbrev pub textCausesBy : (ℕ → ℕ → Bool) → ℕ → List ℕ → List ℕ → List Cause
+textCausesBy senior t table buffer =
     cause (eqb (cycleLength table t) 0) Refusal.noCycle
-    ∷ cause (ltb (length buffer) (length (text table t))) Refusal.shortBuffer
+    ∷ cause (ltb (length buffer) (length (textBy senior table t))) Refusal.shortBuffer
     ∷ []
+
+abbrev pub textCauses : ℕ → List ℕ → List ℕ → List Cause
+textCauses t table buffer = textCausesBy (senior table) t table buffer
 
 -- what is answered, and the buffer after
 pub record Described : Type 0 where

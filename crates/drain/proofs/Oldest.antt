@@ -18,6 +18,7 @@ use Rattle.mailbox.specs.Layout.{capacityOf, countOf, entryAt, entriesOf, mailB
 use Rattle.mailbox.proofs.Laws as MailLaws
 use Rattle.mailbox.proofs.EntryLaws.{EntryFacts, entry-facts}
 use Rattle.table.specs.Layout as Table
+use Rattle.waits.specs.OnTable.{locks}
 use Rattle.refusal.specs.Refusal
 use Rattle.refusal.specs.Refusal.{first}
 use Rattle.step.specs.Step as Step
@@ -49,10 +50,10 @@ module _ (t : ℕ) (table mail : List ℕ) (p : Plan) where
 -- the oldest of a list of entries is the earliest of its route
 module _ (e : Entry) (rest : List Entry) (table : List ℕ) where
   abbrev to-item : Plan
-  to-item = itemPlan (e .item) table rest (itemReceives (e .item) table e)
+  to-item = itemPlan (e .item) table rest (itemReceives (Table.senior table) (locks table (e .item)) e)
 
   abbrev to-session : Plan
-  to-session = sessionPlan (e .session) table rest (sessionReceives (e .session) table e)
+  to-session = sessionPlan (e .session) table rest (sessionReceives (Table.senior table) (e .session) (Table.session table (e .session)) e)
 
   -- what its delivery plans, by its direction
   abbrev directed : Plan
@@ -68,7 +69,7 @@ module _ (e : Entry) (rest : List Entry) (table : List ℕ) where
   abbrev Delivered : Bool → Type 0
   Delivered b =
       let verb = cond b Step.deliverToItem Step.deliverToSession in
-      (first (stepCauses verb (e .session) (e .item) table (e ∷ rest)) ≡ 0) × (plan verb (e .session) (e .item) table (e ∷ rest) ≡ cond b to-item to-session)
+      (first (stepCauses verb (e .session) (e .item) table (e ∷ rest)) ≡ 0) × (plan (Table.senior table) verb (e .session) (e .item) table (e ∷ rest) ≡ cond b to-item to-session)
 
   delivered-first : (e .direction ≡ toItem) ⊎ (e .direction ≡ toSession) → Delivered (eqb (e .direction) toItem)
   unfolding plan first delivered sessionActs findIndex removeAt
@@ -99,8 +100,8 @@ module _ (table mail : List ℕ) (f : Formed table mail) (some : 0 < countOf mai
   oldest-acts : oldestActed table mail ≡ concluded (oldest .session) table mail (directed oldest others table)
   oldest-acts =
       let known : Delivered oldest others table (eqb (oldest .direction) toItem) = delivered-first oldest others table (oldest-facts .kinds .direction) in
-      let planned : plan (verbOf oldest) (oldest .session) (oldest .item) table (entriesOf mail) ≡ directed oldest others table = rw (all-entries) (known .1) in
-      acted-concluded (verbOf oldest) (oldest .session) (oldest .item) table mail (rw (all-entries) (known .0))
+      let planned : plan (Table.senior table) (verbOf oldest) (oldest .session) (oldest .item) table (entriesOf mail) ≡ directed oldest others table = rw (all-entries) (known .1) in
+      acted-concluded (Table.senior table) (verbOf oldest) (oldest .session) (oldest .item) table mail (rw (all-entries) (known .0))
       ∙ ap (concluded (oldest .session) table mail) planned
 
   -- it is refused with 9 and changes nothing, or accepted

@@ -5,6 +5,8 @@ ghost use Prim.Native.Nat.{_+_, _≤_};
 ghost use lib.ListN.{drop};
 ghost use Rattle.message.specs.Outbox.{room};
 ghost use Rattle.mailbox.specs.Layout.{entriesOf, entryAt};
+ghost use Rattle.table.specs.Layout.{session, senior};
+ghost use Rattle.waits.specs.OnTable.{locks};
 ghost use Rattle.step.specs.Step.{itemReceives, sessionReceives, sessionPlan, itemPlan};
 ghost use Rattle.step.specs.Parts.{concluded};
 ghost use Rattle.drain.specs.Oldest.{oldestActed};
@@ -65,7 +67,7 @@ fn admit(mail: &mut [u8], k: usize, n: usize, allowed: bool) -> Delivery
 fn deliver_to_session(t: u8, k: usize, allowed: bool, table: &mut [u8], mail: &mut [u8]) -> Delivery
     requires { ⌜ Due k (now table) (now mail) × (t ≡ entryAt (now mail) k .session) ⌝ }
     ensures { λ d. ⌜ Delivers k allowed (now (table .entry)) (now (mail .entry))
-        (concluded t (now (table .entry)) (pending k (now (mail .entry))) (sessionPlan t (now (table .entry)) (drop (k + 1) (entriesOf (now (mail .entry)))) (sessionReceives t (now (table .entry)) (entryAt (now (mail .entry)) k))))
+        (concluded t (now (table .entry)) (pending k (now (mail .entry))) (sessionPlan t (now (table .entry)) (drop (k + 1) (entriesOf (now (mail .entry)))) (sessionReceives (senior (now (table .entry))) t (session (now (table .entry)) t) (entryAt (now (mail .entry)) k))))
         d (now (table .exit)) (now (mail .exit)) ⌝ }
 {
     let r = step::session_receives(t, k, table, mail);
@@ -82,7 +84,7 @@ fn deliver_to_session(t: u8, k: usize, allowed: bool, table: &mut [u8], mail: &m
 fn deliver_to_item(x: u8, k: usize, allowed: bool, table: &mut [u8], mail: &mut [u8]) -> Delivery
     requires { ⌜ Due k (now table) (now mail) × (x ≡ entryAt (now mail) k .item) ⌝ }
     ensures { λ d. ⌜ Delivers k allowed (now (table .entry)) (now (mail .entry))
-        (concluded (entryAt (now (mail .entry)) k .session) (now (table .entry)) (pending k (now (mail .entry))) (itemPlan x (now (table .entry)) (drop (k + 1) (entriesOf (now (mail .entry)))) (itemReceives x (now (table .entry)) (entryAt (now (mail .entry)) k))))
+        (concluded (entryAt (now (mail .entry)) k .session) (now (table .entry)) (pending k (now (mail .entry))) (itemPlan x (now (table .entry)) (drop (k + 1) (entriesOf (now (mail .entry)))) (itemReceives (senior (now (table .entry))) (locks (now (table .entry)) x) (entryAt (now (mail .entry)) k))))
         d (now (table .exit)) (now (mail .exit)) ⌝ }
 {
     let r = step::item_receives(x, k, table, mail);

@@ -6,19 +6,17 @@ use borrow.Author.Tests.{eqb-true}
 use Rattle.lists.proofs.Tests.{by-test, within}
 use Rattle.table.specs.Layout as Table
 use Rattle.step.specs.Step.{Formed}
-use Rattle.step.proofs.Form.{FormKept, unchanged, acted-keeps-form}
+use Rattle.step.proofs.Form.{FormKept, unchanged, committed-keeps, plan-keeps}
 use Rattle.reopen.specs.Reopening.{Reopened}
 use Rattle.reopen.proofs.Form.{reopened-formed}
-use Rattle.lockmgr.specs.Calls.{judged, step, reopenRefusal, reopen}
-use Rattle.lockmgr.proofs.Judging.{judged-zero, reopen-zero}
+use Rattle.lockmgr.specs.Calls.{step, reopenRefusal, reopen}
+use Rattle.lockmgr.proofs.Judging.{by-call, reopen-zero}
 
 -- any step on well-formed buffers
 pub step-keeps-form : (verb t x : ℕ) (table mail : List ℕ) → Formed table mail → FormKept table mail (step verb t x table mail)
-unfolding step
 step-keeps-form verb t x table mail f =
-    by-test (FormKept table mail) (eqb (judged verb t x table mail) 0)
-    (λ e. let known = judged-zero verb t x table mail (eqb-true (judged verb t x table mail) 0 e) in acted-keeps-form verb t x table mail (known .0) (known .1) (known .2))
-    (λ _. unchanged table mail f (judged verb t x table mail))
+    by-call verb t x table mail (FormKept table mail) (λ n _. unchanged table mail f n)
+    (λ low high j u fits. committed-keeps table mail f t _ (plan-keeps t x table mail j verb low high u) fits)
 
 -- any reopening
 pub reopen-keeps-form : (t : ℕ) (table mail : List ℕ) → Formed table mail → Formed (reopen t table mail .table) mail

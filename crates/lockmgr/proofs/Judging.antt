@@ -2,13 +2,14 @@
 use mathlib.Core.Path.{_≡_, refl, _∙_}
 use mathlib.Core.Bool.{Bool, true, false, cond, not, _&&_}
 use mathlib.Core.List.{List, [], _∷_, _++_}
+use mathlib.Core.Logic.{_≢_}
 use Prim.Native.Nat.{ℕ, _≤_}
 use native.Mathlib.Omega.{arith}
 use lib.Dec.{eqb}
 use lib.ListN.{length}
-use borrow.Author.Tests.{le-leb, eqb-true, eq-eqb, ne-eqb}
+use borrow.Author.Tests.{le-leb, eqb-true, eqb-false, eq-eqb, ne-eqb}
 use Rattle.lists.specs.Lists.{between, allOf}
-use Rattle.lists.proofs.Tests.{and-both, between-intro, fails, within}
+use Rattle.lists.proofs.Tests.{and-both, between-intro, by-answer, fails, within}
 use Rattle.message.specs.Limits.{maxSessions, maxItems}
 use Rattle.session.specs.Seniority
 use Rattle.mailbox.specs.Layout as Mail
@@ -16,22 +17,23 @@ use Rattle.table.specs.Layout as Table
 use Rattle.table.proofs.Laws as TableLaws
 use Rattle.refusal.specs.Refusal
 use Rattle.refusal.specs.Refusal.{Cause, cause, first}
-use Rattle.step.specs.Step.{acted, stepped, refusedAnswer, Formed}
-use Rattle.step.specs.Parts.{Judged}
+use Rattle.step.specs.Step.{Stepped, plan, acted, stepped, refusedAnswer, committed, Formed}
+use Rattle.step.specs.Parts.{Judged, Unhindered}
+use Rattle.step.proofs.Acting.{by-outcome}
 use Rattle.refusal.proofs.Causes.{first-stops, first-goes-on, unmet-not}
 use Rattle.reopen.specs.Reopening as Reopening
 use Rattle.reopen.specs.Reopening.{mayReopen, reopenCauses, reopened}
 use Rattle.cycletext.specs.OnTable.{text, textCauses, textAnswer, described, unlessRefused}
-use Rattle.lockmgr.specs.Calls.{Config, bufferCauses, judged, sizesFit, startRefusal, step, reportCauses, reportRefusal, sessionCauses, reopenRefusal, reopen, cycleText}
+use Rattle.lockmgr.specs.Calls.{Config, bufferCauses, judged, sizesFit, startRefusal, stepBy, step, reportCauses, reportRefusal, sessionCauses, reopenRefusal, reopen, cycleTextBy, cycleText}
 
 -- a step by what judging answers
 module _ (verb t x : ℕ) (table mail : List ℕ) where
   pub step-refused : (judged verb t x table mail ≡ 0 → ⊥) → step verb t x table mail ≡ stepped (refusedAnswer (judged verb t x table mail)) table mail
-  unfolding step
+  unfolding step stepBy
   step-refused e = rw (ne-eqb (judged verb t x table mail) 0 e) refl
 
-  pub step-acts : judged verb t x table mail ≡ 0 → step verb t x table mail ≡ acted verb t x table mail
-  unfolding step
+  pub step-acts : judged verb t x table mail ≡ 0 → step verb t x table mail ≡ acted (Table.senior table) verb t x table mail
+  unfolding step stepBy
   step-acts e = rw (e) refl
 
 -- where no cause lies in the buffers or behind them, the buffers are well-formed, and no cause lies behind
@@ -64,6 +66,20 @@ judged-zero verb t x table mail e =
         item-high = item .1;
       },
     )
+
+-- whatever holds of a refused step, and of one that was judged and that nothing hinders, holds of a step
+pub by-call : (verb t x : ℕ) (table mail : List ℕ) (P : Stepped → Type 0) → ((n : ℕ) → n ≢ 0 → P (stepped (refusedAnswer n) table mail))
+    → (1 ≤ verb → verb ≤ 4 → Judged t x table mail → Unhindered verb t x table (Mail.entriesOf mail)
+    → length (plan (Table.senior table) verb t x table (Mail.entriesOf mail) .entries) ≤ Mail.capacityOf mail
+    → P (committed t (Mail.capacityOf mail) (plan (Table.senior table) verb t x table (Mail.entriesOf mail))))
+    → P (step verb t x table mail)
+by-call verb t x table mail P refused done =
+    let n = judged verb t x table mail in
+    by-answer (eqb n 0)
+    (λ e. let z = eqb-true n 0 e in
+    let known = judged-zero verb t x table mail z in
+    rw (step-acts verb t x table mail z) (by-outcome (Table.senior table) verb t x table mail P refused (done (known .0) (known .1) (known .2))))
+    (λ e. let z = eqb-false n 0 e in rw (step-refused verb t x table mail z) (refused n z))
 
 -- the causes of the verb, of the buffers and of the numbers, one after another
 module _ (verb t x : ℕ) (table mail : List ℕ) where
@@ -225,12 +241,12 @@ module _ (t : ℕ) (table : List ℕ) where
   -- the text of a cycle is refused for the same causes, and then for its own
   module _ (buffer : List ℕ) where
     pub text-refused : (reportRefusal t table ≡ 0 → ⊥) → cycleText t table buffer ≡ described (textAnswer (reportRefusal t table) 0) buffer
-    unfolding reportRefusal cycleText
+    unfolding reportRefusal cycleText cycleTextBy
     text-refused h =
         rw (first-stops (reportCauses t table) (textCauses t table buffer) h, ne-eqb (first (reportCauses t table)) 0 h) refl
 
     pub text-judged : reportRefusal t table ≡ 0 → cycleText t table buffer ≡ unlessRefused (first (textCauses t table buffer)) (text table t) buffer
-    unfolding reportRefusal cycleText allOf
+    unfolding reportRefusal cycleText cycleTextBy allOf
     text-judged e = rw (first-goes-on (reportCauses t table) (textCauses t table buffer) refl e) refl
 
 -- a reopening: the causes of the buffers, that of the number, and its own

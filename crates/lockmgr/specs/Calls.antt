@@ -16,7 +16,7 @@ use Rattle.refusal.specs.Refusal.{Cause, cause, first}
 use Rattle.step.specs.Step.{Stepped, request, deliverToSession, unless, acted}
 use Rattle.reopen.specs.Reopening as Reopening
 use Rattle.reopen.specs.Reopening.{Reopened, reopenCauses}
-use Rattle.cycletext.specs.OnTable.{Described, text, textCauses, unlessRefused}
+use Rattle.cycletext.specs.OnTable.{Described, textBy, textCausesBy, unlessRefused}
 use Rattle.lockmgr.specs.declared.Cycle.{Cycle}
 
 -- ---- start
@@ -76,9 +76,12 @@ judged verb t x table mail =
     ∷ (bufferCauses table mail
     ++ (cause (not (between 1 (Table.sessionsOf table) t && between 1 (Table.itemsOf table) x)) Refusal.badNumber ∷ [])))
 
--- a step that was judged acts, or is refused for a cause of its own
+-- a step that was judged acts, or is refused for a cause of its own; by a seniority, and by that of the table
+unfoldable pub stepBy : (ℕ → ℕ → Bool) → ℕ → ℕ → ℕ → List ℕ → List ℕ → Stepped
+stepBy senior verb t x table mail = unless (judged verb t x table mail) table mail (acted senior verb t x table mail)
+
 unfoldable pub step : ℕ → ℕ → ℕ → List ℕ → List ℕ → Stepped
-step verb t x table mail = unless (judged verb t x table mail) table mail (acted verb t x table mail)
+step verb t x table mail = stepBy (Table.senior table) verb t x table mail
 
 -- ---- report
 -- the report reads the table alone: RULES 4.8
@@ -111,6 +114,10 @@ unfoldable pub reopen : ℕ → List ℕ → List ℕ → Reopened
 reopen t table mail = Reopening.unlessRefused (reopenRefusal t table mail) t table
 
 -- ---- cycle text
--- the causes of a report, and those of the text: RULES 4.11
+-- the causes of a report, and those of the text: RULES 4.11; by a seniority, and by that of the table
+unfoldable pub cycleTextBy : (ℕ → ℕ → Bool) → ℕ → List ℕ → List ℕ → Described
+cycleTextBy senior t table buffer =
+    unlessRefused (first (reportCauses t table ++ textCausesBy senior t table buffer)) (textBy senior table t) buffer
+
 unfoldable pub cycleText : ℕ → List ℕ → List ℕ → Described
-cycleText t table buffer = unlessRefused (first (reportCauses t table ++ textCauses t table buffer)) (text table t) buffer
+cycleText t table buffer = cycleTextBy (Table.senior table) t table buffer

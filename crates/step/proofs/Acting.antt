@@ -2,19 +2,21 @@
 use mathlib.Core.Path.{_≡_, refl, sym, ap, _∙_}
 use mathlib.Core.Bool.{Bool, true, false, cond, false≢true, true≢false}
 use mathlib.Core.List.{List, [], _∷_, _++_, map}
+use mathlib.Core.Logic.{_≢_}
 use Prim.Native.Nat.{ℕ, zero, suc, _+_, _≤_, _<_}
 use native.Mathlib.Omega.{arith}
 use lib.Dec.{eqb, ltb}
 use lib.ListN.{length, getD, length-append, length-map}
-use borrow.Author.Tests.{ne-eqb, eqb-false, ltb-false}
+use borrow.Author.Tests.{ne-eqb, eqb-true, eqb-false, ltb-false}
 use Rattle.lists.specs.Lists.{between, allOf, removeAt}
 use Rattle.lists.proofs.Laws.{findIndex-length, removeAt-le, removeAt-past}
-use Rattle.lists.proofs.Tests.{and-intro, between-intro, by-test, refuted}
+use Rattle.lists.proofs.Tests.{and-intro, between-intro, by-answer, by-test, refuted}
 use Rattle.buffer.proofs.Laws.{AreBytes}
 use Rattle.message.specs.declared.Message.{Message}
 use Rattle.message.specs.declared.Outbox.{Outbox}
 use Rattle.message.specs.Outbox as Outbox
 use Rattle.session.proofs.Laws.{requested-length, received-length}
+use Rattle.session.specs.declared.Session.{Session}
 use Rattle.session.specs.Rules as Session
 use Rattle.item.specs.NextHolder.{nextHolder}
 use Rattle.item.specs.Record.{Packed}
@@ -30,8 +32,8 @@ use Rattle.waits.specs.OnTable.{locks}
 use Rattle.refusal.specs.Refusal
 use Rattle.refusal.specs.Refusal.{cause, first}
 use Rattle.step.specs.Step as Step
-use Rattle.step.specs.Step.{Stepped, delivered, itemReceives, sessionReceives, sessionActs, sessionPlan, itemPlan, plan, stepCauses, hindered, overfull, acted, stepped, refusedAnswer, unless, committed, nothingToDeliver}
-use Rattle.step.specs.Parts.{Judged, ForItem, ForSession, Fitting, fitting, roomMade, concluded}
+use Rattle.step.specs.Step.{Plan, Stepped, delivered, itemReceives, sessionReceives, sessionActs, sessionPlan, itemPlan, plan, stageForbids, maskForbids, nothingToDeliver, stepCauses, hindered, overfull, acted, stepped, refusedAnswer, unless, committed}
+use Rattle.step.specs.Parts.{Judged, Unhindered, ForItem, ForSession, Fitting, fitting, roomMade, concluded}
 use Rattle.refusal.proofs.Causes.{first-stops, first-goes-on, unmet}
 
 -- what a step that was judged knows of its buffers
@@ -161,29 +163,51 @@ module _ (mail : List ℕ) (k n : ℕ) {fits : Bool} {after : List ℕ} (made : 
 
 -- ---- what a step does
 -- an item sends no more than an outbox has places for
-pub item-sends-few : (x : ℕ) (table : List ℕ) (e : Entry) → Packed (Table.item table x) → length (itemReceives x table e .sends) ≤ Outbox.room
+pub item-sends-few : (senior : ℕ → ℕ → Bool) (x : ℕ) (table : List ℕ) (e : Entry) → Packed (Table.item table x) → length (itemReceives senior (locks table x) e .sends) ≤ Outbox.room
 unfolding locks
-item-sends-few x table e p =
-    omega (arith, received-fits (Table.senior table) (nextHolder (Table.senior table)) (locks table x) (seenByItem e) (omega (arith, p .fits, queue-length (Table.item table x) p)))
+item-sends-few senior x table e p =
+    omega (arith, received-fits senior (nextHolder senior) (locks table x) (seenByItem e) (omega (arith, p .fits, queue-length (Table.item table x) p)))
 
 -- a session sends at most a request and 64 probes
-pub session-sends-few : (t : ℕ) (table : List ℕ) (e : Entry) → length (Table.session table t .juniors) ≡ 64 → length (sessionReceives t table e .sends) ≤ 65
-session-sends-few t table e h = received-length (Table.session table t) h (Table.senior table) t (seenBySession e)
+module _ (senior : ℕ → ℕ → Bool) (t : ℕ) (s : Session) (h : length (s .juniors) ≡ 64) (e : Entry) where
+  pub session-sends-few : length (sessionReceives senior t s e .sends) ≤ 65
+  session-sends-few = received-length s h senior t (seenBySession e)
 
-pub acts-few : (verb t x : ℕ) (table : List ℕ) → length (Table.session table t .juniors) ≡ 64 → (e : Entry) → length (sessionActs verb t x table e .sends) ≤ 65
-unfolding sessionActs Session.released
-acts-few verb t x table h e =
-    by-test Few (eqb verb Step.request) (λ _. requested-length (Table.session table t) h x)
-    (λ _. by-test Few (eqb verb Step.release) (λ _. omega arith) (λ _. session-sends-few t table e h))
-  where
-    Few : Session.After → Type 0
-    Few r = length (r .sends) ≤ 65
+  pub acts-few : (verb x : ℕ) → length (sessionActs senior verb t x s e .sends) ≤ 65
+  unfolding sessionActs Session.released
+  acts-few verb x =
+      by-test Few (eqb verb Step.request) (λ _. requested-length s h x)
+      (λ _. by-test Few (eqb verb Step.release) (λ _. omega arith) (λ _. session-sends-few))
+    where
+      Few : Session.After → Type 0
+      Few r = length (r .sends) ≤ 65
 
-module _ (verb t x : ℕ) (table mail : List ℕ) where
+-- ---- the causes of a step
+module _ (verb t x : ℕ) (table : List ℕ) (entries : List Entry) where
+  -- where none of them holds, none hinders it
+  pub unhindered : first (stepCauses verb t x table entries) ≡ 0 → Unhindered verb t x table entries
+  unhindered e =
+      let s = unmet (stageForbids verb (Table.session table t .stage)) 5 _ e in
+      let m = unmet (maskForbids verb x (Table.session table t .held)) 6 _ (s .1) in
+      let r = unmet (nothingToDeliver verb (delivered verb t x entries) entries) 7 _ (m .1) in
+      record { stage = s .0; mask = m .0; route = r .0 }
+
+  -- a delivery that none hinders finds its entry
+  pub delivers : Unhindered verb t x table entries → 1 ≤ verb → verb ≤ 4 → (verb ≡ Step.request → ⊥) → (verb ≡ Step.release → ⊥) → delivered verb t x entries < length entries
+  delivers u low high a b =
+      let k = delivered verb t x entries in
+      let is : between 3 4 verb ≡ true = between-intro 3 4 verb (omega (arith, a, b)) high in
+      let other = eqb-false k (length entries) (refuted (eqb k (length entries)) (nothingToDeliver verb k entries) (λ q. and-intro is q) (u .route)) in
+      omega (arith, other, delivered-length verb t x entries)
+
+module _ (senior : ℕ → ℕ → Bool) (verb t x : ℕ) (table mail : List ℕ) where
   abbrev causes : ℕ
   causes = first (stepCauses verb t x table (entriesOf mail))
 
-  pub acted-refused : (causes ≡ 0 → ⊥) → acted verb t x table mail ≡ stepped (refusedAnswer causes) table mail
+  abbrev planned : Plan
+  planned = plan senior verb t x table (entriesOf mail)
+
+  pub acted-refused : (causes ≡ 0 → ⊥) → acted senior verb t x table mail ≡ stepped (refusedAnswer causes) table mail
   unfolding acted hindered
   acted-refused h = rw (first-stops (stepCauses verb t x table (entriesOf mail)) _ h, ne-eqb causes 0 h) refl
 
@@ -192,47 +216,46 @@ module _ (verb t x : ℕ) (table mail : List ℕ) where
   tail false r = refl
 
   -- what no cause but room can hinder
-  pub acted-concluded : causes ≡ 0 → acted verb t x table mail ≡ concluded t table mail (plan verb t x table (entriesOf mail))
+  pub acted-concluded : causes ≡ 0 → acted senior verb t x table mail ≡ concluded t table mail planned
   unfolding acted hindered first allOf
   acted-concluded e =
-      let p = plan verb t x table (entriesOf mail) in
-      rw (first-goes-on (stepCauses verb t x table (entriesOf mail)) (cause (overfull (capacityOf mail) (p .entries)) Refusal.mailFull ∷ []) refl e)
-      (tail (overfull (capacityOf mail) (p .entries)) (committed t (capacityOf mail) p))
+      rw (first-goes-on (stepCauses verb t x table (entriesOf mail)) (cause (overfull (capacityOf mail) (planned .entries)) Refusal.mailFull ∷ []) refl e)
+      (tail (overfull (capacityOf mail) (planned .entries)) (committed t (capacityOf mail) planned))
 
-  -- a delivery that no cause hinders finds its entry
-  pub delivers : 1 ≤ verb → verb ≤ 4 → causes ≡ 0 → (verb ≡ Step.request → ⊥) → (verb ≡ Step.release → ⊥) → delivered verb t x (entriesOf mail) < countOf mail
-  delivers low high e a b =
-      let entries = entriesOf mail in
-      let k = delivered verb t x entries in
-      let s = unmet _ 5 _ e in
-      let m = unmet _ 6 _ (s .1) in
-      let r = unmet (nothingToDeliver verb k entries) 7 _ (m .1) in
-      let is : between 3 4 verb ≡ true = between-intro 3 4 verb (omega (arith, a, b)) high in
-      let other = eqb-false k (length entries) (refuted (eqb k (length entries)) (nothingToDeliver verb k entries) (λ q. and-intro is q) (r .0)) in
-      omega (arith, other, delivered-length verb t x entries, MailLaws.length-entries mail)
+  -- a step that was judged is refused, or nothing hinders it and it does what is planned
+  pub by-outcome : (P : Stepped → Type 0) → ((n : ℕ) → n ≢ 0 → P (stepped (refusedAnswer n) table mail))
+      → (Unhindered verb t x table (entriesOf mail) → length (planned .entries) ≤ capacityOf mail → P (committed t (capacityOf mail) planned))
+      → P (acted senior verb t x table mail)
+  by-outcome P refused done =
+      by-answer (eqb causes 0)
+      (λ e. let z = eqb-true causes 0 e in
+      rw (acted-concluded z)
+      (by-test P (overfull (capacityOf mail) (planned .entries)) (λ _. refused Refusal.mailFull (λ q. absurd (omega (arith, q))))
+      (λ f. done (unhindered verb t x table (entriesOf mail) z) (ltb-false (capacityOf mail) (length (planned .entries)) f))))
+      (λ e. rw (acted-refused (eqb-false causes 0 e)) (refused causes (eqb-false causes 0 e)))
 
 -- an item acts in a delivery to it, a session in every other step
-module _ (verb t x : ℕ) (table : List ℕ) (entries : List Entry) where
+module _ (senior : ℕ → ℕ → Bool) (verb t x : ℕ) (table : List ℕ) (entries : List Entry) where
   abbrev taken : Entry
   taken = getD entries (delivered verb t x entries) unused
 
   abbrev rest : List Entry
   rest = removeAt (delivered verb t x entries) entries
 
-  pub item-acts : eqb verb Step.deliverToItem ≡ true → plan verb t x table entries ≡ itemPlan x table rest (itemReceives x table taken)
+  pub item-acts : eqb verb Step.deliverToItem ≡ true → plan senior verb t x table entries ≡ itemPlan x table rest (itemReceives senior (locks table x) taken)
   unfolding plan
   item-acts e = rw (e) refl
 
-  pub session-acts : eqb verb Step.deliverToItem ≡ false → plan verb t x table entries ≡ sessionPlan t table rest (sessionActs verb t x table taken)
+  pub session-acts : eqb verb Step.deliverToItem ≡ false → plan senior verb t x table entries ≡ sessionPlan t table rest (sessionActs senior verb t x (Table.session table t) taken)
   unfolding plan
   session-acts e = rw (e) refl
 
 -- a request and a release deliver nothing
-module _ (t x : ℕ) (table : List ℕ) (entries : List Entry) where
-  pub request-plan : plan Step.request t x table entries ≡ sessionPlan t table entries (Session.requested x (Table.session table t))
+module _ (senior : ℕ → ℕ → Bool) (t x : ℕ) (table : List ℕ) (entries : List Entry) where
+  pub request-plan : plan senior Step.request t x table entries ≡ sessionPlan t table entries (Session.requested x (Table.session table t))
   unfolding plan delivered sessionActs
   request-plan = rw (removeAt-past (length entries) entries (omega arith)) refl
 
-  pub release-plan : plan Step.release t x table entries ≡ sessionPlan t table entries (Session.released x (Table.session table t))
+  pub release-plan : plan senior Step.release t x table entries ≡ sessionPlan t table entries (Session.released x (Table.session table t))
   unfolding plan delivered sessionActs
   release-plan = rw (removeAt-past (length entries) entries (omega arith)) refl

@@ -1,6 +1,6 @@
 -- Form is kept: a step that was judged leaves well-formed buffers of the same sizes.
 use mathlib.Core.Path.{_≡_, refl}
-use mathlib.Core.Bool.{Bool, true, _&&_, _||_}
+use mathlib.Core.Bool.{Bool, true, false, _&&_, _||_}
 use mathlib.Core.List.{List, map}
 use Prim.Native.Nat.{ℕ, _≤_, _<_}
 use native.Mathlib.Omega.{arith}
@@ -29,12 +29,10 @@ use Rattle.table.proofs.Laws as TableLaws
 use Rattle.waits.specs.OnTable.{locks}
 use Rattle.wellformed.proofs.Sessions.{SessionKept, session-kept, request-kept, release-kept}
 use Rattle.wellformed.proofs.Items.{ItemKept, item-kept, unpacked-lock, packed-lock}
-use Rattle.refusal.specs.Refusal.{first}
 use Rattle.step.specs.Step as Step
 use Rattle.step.specs.Step.{Plan, Stepped, Formed, delivered, itemReceives, sessionReceives, sessionActs, sessionPlan, itemPlan, plan, stepCauses, overfull, acted, stepped, refusedAnswer, committed}
-use Rattle.step.specs.Parts.{Judged, concluded}
-use Rattle.refusal.proofs.Causes.{unmet}
-use Rattle.step.proofs.Acting.{by-verb, delivers, acted-refused, acted-concluded}
+use Rattle.step.specs.Parts.{Judged, Unhindered}
+use Rattle.step.proofs.Acting.{by-verb, delivers, item-acts, session-acts}
 
 -- what is planned on a well-formed table and well-formed entries is so again
 pub record Planned (table : List ℕ) (p : Plan) : Type 0 where
@@ -44,7 +42,7 @@ pub record Planned (table : List ℕ) (p : Plan) : Type 0 where
   pub formed : Table.wellFormed (p .table) ≡ true
   pub entries : allOf (Entry.wellFormed (Table.sessionsOf table) (Table.itemsOf table)) (p .entries) ≡ true
 
-module _ (table : List ℕ) (sized : Table.sized table ≡ true) (formed : Table.wellFormed table ≡ true) where
+module _ (table : List ℕ) where
   abbrev S : ℕ
   S = Table.sessionsOf table
 
@@ -54,7 +52,7 @@ module _ (table : List ℕ) (sized : Table.sized table ≡ true) (formed : Table
   abbrev isEntry : Entry → Bool
   isEntry = Entry.wellFormed S M
 
-  module _ (rest : List Entry) (w : allOf isEntry rest ≡ true) where
+  module _ (sized : Table.sized table ≡ true) (formed : Table.wellFormed table ≡ true) (rest : List Entry) (w : allOf isEntry rest ≡ true) where
     session-planned : (t : ℕ) → 1 ≤ t → t ≤ S → (r : Session.After) → SessionKept S M t r → Planned table (sessionPlan t table rest r)
     session-planned t l h r k = record {
       sized = TableLaws.sized-withSession table sized t l h (r .session) (k .juniors);
@@ -78,97 +76,92 @@ module _ (table : List ℕ) (sized : Table.sized table ≡ true) (formed : Table
         }
 
 -- the entry of a route that is there
-module _ (direction t x : ℕ) (l : List Entry) (found : Entry.earliest direction t x l < length l) where
-  abbrev head : Entry
-  head = getD l (Entry.earliest direction t x l) unused
+abbrev head : ℕ → ℕ → ℕ → List Entry → Entry
+head direction t x l = getD l (Entry.earliest direction t x l) unused
 
-  on-route : onRoute direction t x head ≡ true
+module _ (direction t x : ℕ) (l : List Entry) (found : Entry.earliest direction t x l < length l) where
+  abbrev here : Entry
+  here = head direction t x l
+
+  on-route : onRoute direction t x here ≡ true
   on-route = findIndex-found (onRoute direction t x) l unused found
 
-  pub head-session : head .session ≡ t
+  pub head-session : here .session ≡ t
   head-session =
-      let front = and-both (eqb (head .direction) direction && eqb (head .session) t) (eqb (head .item) x) on-route .0 in
-      eqb-true (head .session) t (and-both (eqb (head .direction) direction) (eqb (head .session) t) front .1)
+      let front = and-both (eqb (here .direction) direction && eqb (here .session) t) (eqb (here .item) x) on-route .0 in
+      eqb-true (here .session) t (and-both (eqb (here .direction) direction) (eqb (here .session) t) front .1)
 
-  pub head-item : head .item ≡ x
-  head-item = eqb-true (head .item) x (and-both (eqb (head .direction) direction && eqb (head .session) t) (eqb (head .item) x) on-route .1)
+  pub head-item : here .item ≡ x
+  head-item = eqb-true (here .item) x (and-both (eqb (here .direction) direction && eqb (here .session) t) (eqb (here .item) x) on-route .1)
 
+-- ---- what a step that was judged and that nothing hinders leaves of its party, and sends
 module _ (t x : ℕ) (table mail : List ℕ) (j : Judged t x table mail) where
   abbrev entries : List Entry
   entries = Mail.entriesOf mail
 
-  all-entries : allOf (Entry.wellFormed (Table.sessionsOf table) (Table.itemsOf table)) entries ≡ true
-  all-entries = MailLaws.formed-facts (Table.sessionsOf table) (Table.itemsOf table) mail (j .formed .mail-formed) .entries
+  abbrev senior : ℕ → ℕ → Bool
+  senior = Table.senior table
 
-  t-range : between 1 (Table.sessionsOf table) t ≡ true
-  t-range = between-intro 1 (Table.sessionsOf table) t (j .session-low) (j .session-high)
+  all-entries : allOf (isEntry table) entries ≡ true
+  all-entries = MailLaws.formed-facts (S table) (M table) mail (j .formed .mail-formed) .entries
 
-  x-range : between 1 (Table.itemsOf table) x ≡ true
-  x-range = between-intro 1 (Table.itemsOf table) x (j .item-low) (j .item-high)
+  t-range : between 1 (S table) t ≡ true
+  t-range = between-intro 1 (S table) t (j .session-low) (j .session-high)
 
-  session-formed : SessionRecord.wellFormed (Table.sessionsOf table) (Table.itemsOf table) (Table.session table t) ≡ true
+  x-range : between 1 (M table) x ≡ true
+  x-range = between-intro 1 (M table) x (j .item-low) (j .item-high)
+
+  session-formed : SessionRecord.wellFormed (S table) (M table) (Table.session table t) ≡ true
   session-formed = TableLaws.well-formed-session table (j .formed .records .formed) t (j .session-low) (j .session-high)
 
   session-juniors : length (Table.session table t .juniors) ≡ 64
   session-juniors = TableLaws.juniors-length table (j .formed .records .sized) t (j .session-low) (j .session-high)
 
-  module _ (direction : ℕ) (found : Entry.earliest direction t x entries < length entries) where
-    head-formed : Entry.wellFormed (Table.sessionsOf table) (Table.itemsOf table) (head direction t x entries found) ≡ true
-    head-formed = all-getD (Entry.wellFormed (Table.sessionsOf table) (Table.itemsOf table)) entries (Entry.earliest direction t x entries) unused all-entries found
+  abbrev takenBy : ℕ → Entry
+  takenBy verb = getD entries (delivered verb t x entries) unused
 
-  item-keeps : (found : Entry.earliest toItem t x entries < length entries)
-      → ItemKept (Table.sessionsOf table) (Table.itemsOf table) x (itemReceives x table (getD entries (Entry.earliest toItem t x entries) unused))
-  unfolding locks
-  item-keeps found =
-      let S = Table.sessionsOf table in
-      let M = Table.itemsOf table in
-      let lock = unpacked-lock S (Table.item table x) (TableLaws.well-formed-item table (j .formed .records .formed) x (j .item-low) (j .item-high)) in
-      rw (head-item toItem t x entries found) at (item-kept (Table.senior table) (nextHolder (Table.senior table)) S M (head toItem t x entries found) (head-formed toItem found) (locks table x) lock (next-inside (senior-weak (Table.ranks table)) (locks table x .queue)))
+  head-formed : (direction : ℕ) → Entry.earliest direction t x entries < length entries → isEntry table (head direction t x entries) ≡ true
+  head-formed direction found = all-getD (isEntry table) entries (Entry.earliest direction t x entries) unused all-entries found
 
-  session-keeps : (found : Entry.earliest toSession t x entries < length entries)
-      → SessionKept (Table.sessionsOf table) (Table.itemsOf table) t (sessionReceives t table (getD entries (Entry.earliest toSession t x entries) unused))
-  session-keeps found =
-      let S = Table.sessionsOf table in
-      let M = Table.itemsOf table in
-      rw (head-session toSession t x entries found) at (session-kept (Table.senior table) S M (head toSession t x entries found) (head-formed toSession found) (Table.session table t) session-formed session-juniors)
+  -- an item, in a delivery to it
+  pub item-keeps : Unhindered Step.deliverToItem t x table entries → ItemKept (S table) (M table) x (itemReceives senior (locks table x) (takenBy Step.deliverToItem))
+  unfolding locks delivered
+  item-keeps u =
+      let found = delivers Step.deliverToItem t x table entries u (omega arith) (omega arith) (λ q. absurd (omega arith)) (λ q. absurd (omega arith)) in
+      let lock = unpacked-lock (S table) (Table.item table x) (TableLaws.well-formed-item table (j .formed .records .formed) x (j .item-low) (j .item-high)) in
+      rw (head-item toItem t x entries found) at (item-kept senior (nextHolder senior) (S table) (M table) (head toItem t x entries) (head-formed toItem found) (locks table x) lock (next-inside (senior-weak (Table.ranks table)) (locks table x .queue)))
 
-  -- what each verb plans, where no cause hinders it
+  -- a session, in every other step
+  abbrev Kept : ℕ → Type 0
+  Kept verb = eqb verb Step.deliverToItem ≡ false → Unhindered verb t x table entries → SessionKept (S table) (M table) t (sessionActs senior verb t x (Table.session table t) (takenBy verb))
+
+  pub session-keeps : (verb : ℕ) → 1 ≤ verb → verb ≤ 4 → Kept verb
+  unfolding sessionActs delivered
+  session-keeps =
+      by-verb Kept
+      (λ _ _. request-kept (S table) (M table) t x t-range x-range (Table.session table t) session-formed session-juniors)
+      (λ _ u. let stage = Table.session table t .stage in
+      release-kept (S table) (M table) t x t-range x-range (Table.session table t) session-formed session-juniors (not-false (eqb stage Stage.growing || eqb stage Stage.shrinking) (u .stage)))
+      (λ q _. absurd (eqb-false 3 3 q refl))
+      (λ _ u. let found = delivers Step.deliverToSession t x table entries u (omega arith) (omega arith) (λ q. absurd (omega arith)) (λ q. absurd (omega arith)) in
+      rw (head-session toSession t x entries found) at (session-kept senior (S table) (M table) (head toSession t x entries) (head-formed toSession found) (Table.session table t) session-formed session-juniors))
+
+  -- so its plan is well-formed
+  others : (k : ℕ) → allOf (isEntry table) (removeAt k entries) ≡ true
+  others k = all-removeAt (isEntry table) k entries all-entries
+
   abbrev Plans : ℕ → Type 0
-  Plans verb = first (stepCauses verb t x table entries) ≡ 0 → Planned table (plan verb t x table entries)
+  Plans verb = Unhindered verb t x table entries → Planned table (plan senior verb t x table entries)
 
-  others : (k : ℕ) → allOf (Entry.wellFormed (Table.sessionsOf table) (Table.itemsOf table)) (removeAt k entries) ≡ true
-  others k = all-removeAt (Entry.wellFormed (Table.sessionsOf table) (Table.itemsOf table)) k entries all-entries
-
-  by-session : (k : ℕ) (r : Session.After) → SessionKept (Table.sessionsOf table) (Table.itemsOf table) t r → Planned table (sessionPlan t table (removeAt k entries) r)
-  by-session k r h = session-planned table (j .formed .records .sized) (j .formed .records .formed) (removeAt k entries) (others k) t (j .session-low) (j .session-high) r h
-
-  request-plans : Plans Step.request
-  unfolding plan delivered sessionActs
-  request-plans _ = by-session (length entries) _ (request-kept (Table.sessionsOf table) (Table.itemsOf table) t x t-range x-range (Table.session table t) session-formed session-juniors)
-
-  release-plans : Plans Step.release
-  unfolding plan delivered sessionActs
-  release-plans e =
-      let stage = Table.session table t .stage in
-      let allowed = not-false (eqb stage Stage.growing || eqb stage Stage.shrinking) (unmet _ 5 _ e .0) in
-      by-session (length entries) _ (release-kept (Table.sessionsOf table) (Table.itemsOf table) t x t-range x-range (Table.session table t) session-formed session-juniors allowed)
-
-  item-plans : Plans Step.deliverToItem
-  unfolding plan delivered
-  item-plans e =
-      let found : Entry.earliest toItem t x entries < length entries = omega (arith, delivers Step.deliverToItem t x table mail (omega arith) (omega arith) e (λ q. absurd (omega arith)) (λ q. absurd (omega arith)), MailLaws.length-entries mail) in
-      let k = Entry.earliest toItem t x entries in
-      item-planned table (j .formed .records .sized) (j .formed .records .formed) (removeAt k entries) (others k) x (j .item-low) (j .item-high) _ (item-keeps found)
-
-  session-plans : Plans Step.deliverToSession
-  unfolding plan delivered sessionActs
-  session-plans e =
-      let found : Entry.earliest toSession t x entries < length entries = omega (arith, delivers Step.deliverToSession t x table mail (omega arith) (omega arith) e (λ q. absurd (omega arith)) (λ q. absurd (omega arith)), MailLaws.length-entries mail) in
-      by-session (Entry.earliest toSession t x entries) _ (session-keeps found)
-
-  -- the plan of a step that no cause hinders
   pub plan-keeps : (verb : ℕ) → 1 ≤ verb → verb ≤ 4 → Plans verb
-  plan-keeps = by-verb Plans request-plans release-plans item-plans session-plans
+  plan-keeps verb low high =
+      let k = delivered verb t x entries in
+      by-answer (eqb verb Step.deliverToItem)
+      (λ e. rw (eqb-true verb Step.deliverToItem e) (λ u.
+      rw (item-acts senior Step.deliverToItem t x table entries refl)
+      (item-planned table (j .formed .records .sized) (j .formed .records .formed) _ (others _) x (j .item-low) (j .item-high) _ (item-keeps u))))
+      (λ e u. rw (session-acts senior verb t x table entries e)
+      (session-planned table (j .formed .records .sized) (j .formed .records .formed) (removeAt k entries) (others k) t (j .session-low) (j .session-high) _ (session-keeps verb low high e u)))
 
 -- well-formed buffers, of the sizes that they had
 pub record FormKept (table mail : List ℕ) (r : Stepped) : Type 0 where
@@ -181,7 +174,7 @@ module _ (table mail : List ℕ) (f : Formed table mail) where
   pub unchanged : (n : ℕ) → FormKept table mail (stepped (refusedAnswer n) table mail)
   unchanged n = record { formed = f; sessions = refl; items = refl; capacity = refl }
 
-  committed-keeps : (t : ℕ) (p : Plan) → Planned table p → length (p .entries) ≤ Mail.capacityOf mail → FormKept table mail (committed t (Mail.capacityOf mail) p)
+  pub committed-keeps : (t : ℕ) (p : Plan) → Planned table p → length (p .entries) ≤ Mail.capacityOf mail → FormKept table mail (committed t (Mail.capacityOf mail) p)
   committed-keeps t p h fits =
       let C = Mail.capacityOf mail in
       let m = MailLaws.sized-facts mail (f .mail-sized) in
@@ -195,16 +188,3 @@ module _ (table mail : List ℕ) (f : Formed table mail) where
         items = h .items;
         capacity = MailLaws.capacity-mail C (p .entries) (m .low) (m .high) fits;
       }
-
-  concluded-keeps : (t : ℕ) (p : Plan) → Planned table p → FormKept table mail (concluded t table mail p)
-  concluded-keeps t p h =
-      by-test (FormKept table mail) (overfull (Mail.capacityOf mail) (p .entries)) (λ _. unchanged 9)
-      (λ e. committed-keeps t p h (ltb-false (Mail.capacityOf mail) (length (p .entries)) e))
-
--- a step on buffers that were judged
-pub acted-keeps-form : (verb t x : ℕ) (table mail : List ℕ) → 1 ≤ verb → verb ≤ 4 → Judged t x table mail → FormKept table mail (acted verb t x table mail)
-acted-keeps-form verb t x table mail low high j =
-    let causes = first (stepCauses verb t x table (Mail.entriesOf mail)) in
-    by-answer (eqb causes 0)
-    (λ e. let z = eqb-true causes 0 e in rw (acted-concluded verb t x table mail z) (concluded-keeps table mail (j .formed) t _ (plan-keeps t x table mail j verb low high z)))
-    (λ e. rw (acted-refused verb t x table mail (eqb-false causes 0 e)) (unchanged table mail (j .formed) causes))

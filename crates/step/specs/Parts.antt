@@ -11,7 +11,7 @@ use Rattle.mailbox.specs.Entry.{Entry, seenBySession}
 use Rattle.mailbox.specs.Layout as Mail
 use Rattle.table.specs.Layout as Table
 use Rattle.refusal.specs.Refusal
-use Rattle.step.specs.Step.{Plan, Stepped, Formed, request, release, delivered, overfull, stepped, refusedAnswer, committed}
+use Rattle.step.specs.Step.{Plan, Stepped, Formed, request, release, delivered, stageForbids, maskForbids, nothingToDeliver, overfull, stepped, refusedAnswer, committed}
 
 -- a step was judged: both buffers are well-formed, and its session and item are there
 pub record Judged (t x : ℕ) (table mail : List ℕ) : Type 0 where
@@ -20,6 +20,12 @@ pub record Judged (t x : ℕ) (table mail : List ℕ) : Type 0 where
   pub session-high : t ≤ Table.sessionsOf table
   pub item-low : 1 ≤ x
   pub item-high : x ≤ Table.itemsOf table
+
+-- no cause of its own but room hinders a step
+pub record Unhindered (verb t x : ℕ) (table : List ℕ) (entries : List Entry) : Type 0 where
+  pub stage : stageForbids verb (Table.session table t .stage) ≡ false
+  pub mask : maskForbids verb x (Table.session table t .held) ≡ false
+  pub route : nothingToDeliver verb (delivered verb t x entries) entries ≡ false
 
 -- a step was judged, k is the place of what it delivers, and a delivery finds an entry there
 pub record Acting (verb t x k : ℕ) (table mail : List ℕ) : Type 0 where

@@ -9,10 +9,11 @@ use lib.ListN.{length, getD}
 use Rattle.lists.specs.Lists.{between, removeAt}
 use Rattle.bitset.specs.Bitset.{has}
 use Rattle.session.specs.Stage
+use Rattle.session.specs.declared.Session.{Session}
 use Rattle.session.specs.Rules as Session
 use Rattle.item.specs.declared.Event.{Event}
 use Rattle.item.specs.declared.Event.the-variants.{Nothing}
-use Rattle.item.specs.Record.{packed}
+use Rattle.item.specs.Record.{Lock, packed}
 use Rattle.item.specs.NextHolder.{nextHolder}
 use Rattle.item.specs.Rules as Item
 use Rattle.mailbox.specs.Entry.{Entry, toItem, toSession, unused, earliest, fromSession, fromItem, seenByItem, seenBySession}
@@ -59,18 +60,18 @@ delivered verb t x entries =
     cond (eqb verb deliverToItem) (earliest toItem t x entries)
     (cond (eqb verb deliverToSession) (earliest toSession t x entries) (length entries))
 
--- what item X does on the entry that is delivered to it, and what session T does
-abbrev pub itemReceives : ℕ → List ℕ → Entry → Item.After
-itemReceives x table e = Item.received (Table.senior table) (nextHolder (Table.senior table)) (locks table x) (seenByItem e)
+-- what an item does on the entry that is delivered to it, and what session T does: by the seniority, its own record and that entry alone
+abbrev pub itemReceives : (ℕ → ℕ → Bool) → Lock → Entry → Item.After
+itemReceives senior lock e = Item.received senior (nextHolder senior) lock (seenByItem e)
 
-abbrev pub sessionReceives : ℕ → List ℕ → Entry → Session.After
-sessionReceives t table e = Session.received (Table.senior table) t (Table.session table t) (seenBySession e)
+abbrev pub sessionReceives : (ℕ → ℕ → Bool) → ℕ → Session → Entry → Session.After
+sessionReceives senior t s e = Session.received senior t s (seenBySession e)
 
 -- what session T does: on a request, on a release, or on the entry that is delivered to it
-unfoldable pub sessionActs : ℕ → ℕ → ℕ → List ℕ → Entry → Session.After
-sessionActs verb t x table e =
-    cond (eqb verb request) (Session.requested x (Table.session table t))
-    (cond (eqb verb release) (Session.released x (Table.session table t)) (sessionReceives t table e))
+unfoldable pub sessionActs : (ℕ → ℕ → Bool) → ℕ → ℕ → ℕ → Session → Entry → Session.After
+sessionActs senior verb t x s e =
+    cond (eqb verb request) (Session.requested x s)
+    (cond (eqb verb release) (Session.released x s) (sessionReceives senior t s e))
 
 -- what a step does where nothing refuses it: the table and the entries after it, how many were sent, and what happened
 pub record Plan : Type 0 where
@@ -89,12 +90,12 @@ itemPlan x table rest r =
     record { table = Table.withItem table x (packed (r .lock)); entries = rest ++ map (fromItem x) (r .sends); sent = length (r .sends); event = r .event }
 
 -- an item acts in a delivery to it, a session in every other step; the entry that is delivered is gone, and the rest close up
-unfoldable pub plan : ℕ → ℕ → ℕ → List ℕ → List Entry → Plan
-plan verb t x table entries =
+unfoldable pub plan : (ℕ → ℕ → Bool) → ℕ → ℕ → ℕ → List ℕ → List Entry → Plan
+plan senior verb t x table entries =
     let k = delivered verb t x entries in
     cond (eqb verb deliverToItem)
-    (itemPlan x table (removeAt k entries) (itemReceives x table (getD entries k unused)))
-    (sessionPlan t table (removeAt k entries) (sessionActs verb t x table (getD entries k unused)))
+    (itemPlan x table (removeAt k entries) (itemReceives senior (locks table x) (getD entries k unused)))
+    (sessionPlan t table (removeAt k entries) (sessionActs senior verb t x (Table.session table t) (getD entries k unused)))
 
 -- the stage forbids a request or a release: RULES 8.6
 abbrev pub stageForbids : ℕ → ℕ → Bool
@@ -123,11 +124,11 @@ stepCauses verb t x table entries =
     ∷ []
 
 -- and at last room for what it sends
-unfoldable pub hindered : ℕ → ℕ → ℕ → List ℕ → List ℕ → ℕ
-hindered verb t x table mail =
+unfoldable pub hindered : (ℕ → ℕ → Bool) → ℕ → ℕ → ℕ → List ℕ → List ℕ → ℕ
+hindered senior verb t x table mail =
     first
     (stepCauses verb t x table (Mail.entriesOf mail)
-    ++ (cause (overfull (Mail.capacityOf mail) (plan verb t x table (Mail.entriesOf mail) .entries)) Refusal.mailFull ∷ []))
+    ++ (cause (overfull (Mail.capacityOf mail) (plan senior verb t x table (Mail.entriesOf mail) .entries)) Refusal.mailFull ∷ []))
 
 -- what a step answers, and both buffers after
 pub record Stepped : Type 0 where
@@ -153,7 +154,7 @@ answered t sent table e = acceptedAnswer sent (closed t table e) (Item.victim e)
 abbrev pub committed : ℕ → ℕ → Plan → Stepped
 committed t C p = stepped (answered t (p .sent) (p .table) (p .event)) (p .table) (Mail.mailBytes C (p .entries))
 
--- a step on buffers that were judged
-unfoldable pub acted : ℕ → ℕ → ℕ → List ℕ → List ℕ → Stepped
-acted verb t x table mail =
-    unless (hindered verb t x table mail) table mail (committed t (Mail.capacityOf mail) (plan verb t x table (Mail.entriesOf mail)))
+-- a step on buffers that were judged, by a seniority: that of the table in every call
+unfoldable pub acted : (ℕ → ℕ → Bool) → ℕ → ℕ → ℕ → List ℕ → List ℕ → Stepped
+acted senior verb t x table mail =
+    unless (hindered senior verb t x table mail) table mail (committed t (Mail.capacityOf mail) (plan senior verb t x table (Mail.entriesOf mail)))

@@ -15,8 +15,8 @@ ghost use Rattle.session.specs.Rules as SessionRules;
 ghost use Rattle.item.specs.Rules as ItemRules;
 ghost use Rattle.mailbox.specs.Entry.{unused};
 ghost use Rattle.mailbox.specs.Layout.{capacityOf, entryAt, entriesOf, mailBytes, Kept};
-ghost use Rattle.table.specs.Layout.{HasSession, HasItem, Formed, sessionsOf, wellFormed, withItem};
-ghost use Rattle.waits.specs.OnTable.{cycleLength};
+ghost use Rattle.table.specs.Layout.{HasSession, HasItem, Formed, sessionsOf, session, senior, wellFormed, withItem};
+ghost use Rattle.waits.specs.OnTable.{locks, cycleLength};
 ghost use Rattle.refusal.specs.Refusal.{first};
 ghost use Rattle.step.specs.Step.{refusedAnswer, acceptedAnswer, delivered, itemReceives, sessionReceives, sessionActs, stageForbids, maskForbids, stepCauses, sessionPlan, itemPlan, stepped, answered, acted};
 ghost use Rattle.step.specs.Parts.{Judged, Acting, ForItem, ForSession, fitting, roomMade, concluded};
@@ -122,7 +122,7 @@ fn step_refusal(verb: u64, t: u8, x: u8, k: usize, table: &[u8], mail: &[u8]) ->
 // What item x does on entry k.
 pub fn item_receives(x: u8, k: usize, table: &[u8], mail: &[u8]) -> ItemStep
     requires { ⌜ ForItem x k (now table) (now mail) ⌝ }
-    ensures { λ r. ⌜ (r ≡ ItemRules.stepOf (itemReceives x (now (table .entry)) (entryAt (now (mail .entry)) k))) × (r .outbox .n ≤ room) ⌝ }
+    ensures { λ r. ⌜ (r ≡ ItemRules.stepOf (itemReceives (senior (now (table .entry))) (locks (now (table .entry)) x) (entryAt (now (mail .entry)) k))) × (r .outbox .n ≤ room) ⌝ }
 {
     table::item(table, x).receive(table::ranks(table), mailbox::message_to_item(mail, k))
 }
@@ -130,7 +130,7 @@ pub fn item_receives(x: u8, k: usize, table: &[u8], mail: &[u8]) -> ItemStep
 // What session t does on entry k.
 pub fn session_receives(t: u8, k: usize, table: &[u8], mail: &[u8]) -> SessionStep
     requires { ⌜ ForSession t k (now table) (now mail) ⌝ }
-    ensures { λ r. ⌜ (r ≡ SessionRules.stepOf (sessionReceives t (now (table .entry)) (entryAt (now (mail .entry)) k))) × (r .outbox .n ≤ room) ⌝ }
+    ensures { λ r. ⌜ (r ≡ SessionRules.stepOf (sessionReceives (senior (now (table .entry))) t (session (now (table .entry)) t) (entryAt (now (mail .entry)) k))) × (r .outbox .n ≤ room) ⌝ }
 {
     table::session(table, t).receive(table::ranks(table), t, mailbox::message_to_session(mail, k))
 }
@@ -138,7 +138,7 @@ pub fn session_receives(t: u8, k: usize, table: &[u8], mail: &[u8]) -> SessionSt
 // What session t does in a step.
 fn session_acts(verb: u64, t: u8, x: u8, k: usize, table: &[u8], mail: &[u8]) -> SessionStep
     requires { ⌜ Acting verb t x k (now table) (now mail) ⌝ }
-    ensures { λ r. ⌜ r ≡ SessionRules.stepOf (sessionActs verb t x (now (table .entry)) (getD (entriesOf (now (mail .entry))) k unused)) ⌝ }
+    ensures { λ r. ⌜ r ≡ SessionRules.stepOf (sessionActs (senior (now (table .entry))) verb t x (session (now (table .entry)) t) (getD (entriesOf (now (mail .entry))) k unused)) ⌝ }
 {
     match verb {
         REQUEST => table::session(table, t).request(x),
@@ -241,7 +241,7 @@ fn closes(t: u8, table: &[u8]) -> u8
 // One step on buffers that were judged.
 pub fn act(verb: u64, t: u8, x: u8, table: &mut [u8], mail: &mut [u8]) -> Answer
     requires { ⌜ (1 ≤ verb) × (verb ≤ 4) × Judged t x (now table) (now mail) ⌝ }
-    ensures { λ a. ⌜ stepped a (now (table .exit)) (now (mail .exit)) ≡ acted verb t x (now (table .entry)) (now (mail .entry)) ⌝ }
+    ensures { λ a. ⌜ stepped a (now (table .exit)) (now (mail .exit)) ≡ acted (senior (now (table .entry))) verb t x (now (table .entry)) (now (mail .entry)) ⌝ }
 {
     let k = delivered(verb, t, x, mail);
     let cause = step_refusal(verb, t, x, k, table, mail);

@@ -6,19 +6,19 @@ use Prim.Native.Nat.{ℕ, _+_, _≤_}
 use native.Mathlib.Omega.{arith}
 use lib.Dec.{eqb}
 use Rattle.lists.specs.Lists.{between}
-use Rattle.lists.proofs.Tests.{between-intro, by-test}
+use Rattle.lists.proofs.Tests.{between-intro}
 use Rattle.session.specs.Stage
 use Rattle.item.specs.Rules as Item
 use Rattle.mailbox.specs.Layout as Mail
 use Rattle.table.specs.Layout as Table
 use Rattle.table.specs.Layout.{sessionsOf}
 use Rattle.waits.specs.OnTable.{cycleLength}
-use Rattle.step.specs.Step.{Stepped, stepped, plan, hindered, acted, Formed}
-use Rattle.lockmgr.specs.Calls.{judged, step}
+use Rattle.step.specs.Step.{Stepped, stepped, plan, Formed}
+use Rattle.lockmgr.specs.Calls.{step}
 use Rattle.step.specs.declared.Answer.{Answer}
 use Rattle.lockmgr.specs.Run as Run
 use Rattle.lockmgr.specs.Run.{one, declares, rollsBack, counted}
-use Rattle.lockmgr.proofs.Judging.{judged-zero, step-refused}
+use Rattle.lockmgr.proofs.Judging.{by-call, judged-zero, step-refused}
 use Rattle.step.proofs.Form.{FormKept}
 use Rattle.lockmgr.proofs.Form.{step-keeps-form}
 use Rattle.tally.specs.declared.Tally.{Tally}
@@ -46,13 +46,9 @@ never-both false = refl
 module _ (verb t x : ℕ) (table mail : List ℕ) where
   -- a step closes one cycle at most
   closes-one : step verb t x table mail .answer .closed ≤ 1
-  unfolding step acted
   closes-one =
-      let p = plan verb t x table (Mail.entriesOf mail) in
-      let few : Stepped → Type 0 = λ r. r .answer .closed ≤ 1 in
-      by-test few (eqb (judged verb t x table mail) 0)
-      (λ _. by-test few (eqb (hindered verb t x table mail) 0) (λ _. one-low (Item.joined (p .event) && not (eqb (cycleLength (p .table) t) 0))) (λ _. omega arith))
-      (λ _. omega arith)
+      by-call verb t x table mail (λ (r : Stepped). r .answer .closed ≤ 1) (λ _ _. omega arith)
+      (λ _ _ _ _ _. let p = plan (Table.senior table) verb t x table (Mail.entriesOf mail) in one-low (Item.joined (p .event) && not (eqb (cycleLength (p .table) t) 0)))
 
   -- a step that names a session that there is not is refused
   unnumbered : between 1 (sessionsOf table) t ≡ false → step verb t x table mail .table ≡ table

@@ -1,5 +1,6 @@
 -- Waits and cycles of a table.
 use Prim.Native.Nat.{ℕ}
+use mathlib.Core.Bool.{Bool}
 use mathlib.Core.List.{List}
 use Rattle.item.specs.Record.{Lock, unpacked}
 use Rattle.table.specs.Layout as Table
@@ -35,6 +36,9 @@ wait table t = Cycle.wait (waitsAt table) (waitsFor table) t
 abbrev pub leader : List ℕ → ℕ → ℕ
 leader table t = Cycle.leader (waitsFor table) (Table.sessionsOf table) (Table.senior table) t
 
--- the cycle on which t lies, from there and once round
+-- the cycle on which t lies, from there and once round; by a seniority, and by that of the table
+abbrev pub cycleBy : (ℕ → ℕ → Bool) → List ℕ → ℕ → List Wait
+cycleBy senior table t = Cycle.cycle (waitsAt table) (waitsFor table) (Table.sessionsOf table) senior t
+
 abbrev pub cycle : List ℕ → ℕ → List Wait
-cycle table t = Cycle.cycle (waitsAt table) (waitsFor table) (Table.sessionsOf table) (Table.senior table) t
+cycle table t = cycleBy (Table.senior table) table t

@@ -8,6 +8,7 @@ use Rattle.item.specs.Rules as Item
 use Rattle.mailbox.specs.Entry.{fromItem}
 use Rattle.mailbox.specs.Layout.{entryAt}
 use Rattle.table.specs.Layout as Table
+use Rattle.waits.specs.OnTable.{locks}
 use Rattle.step.specs.Step.{itemReceives}
 use Rattle.drain.proofs.Oldest.{due-spent, has-item, due-for-item, told-stopped, told-made}
 use Rattle.drain.proofs.deliver_to_item.Statement.{statement}
@@ -15,7 +16,7 @@ use Rattle.drain.proofs.deliver_to_item.Tie as tie
 
 -- what the item does
 abbrev Did : tie.Start → Item.After
-Did s = itemReceives (entryAt (s .args .mail .now) (s .args .k) .item) (s .args .table .now) (entryAt (s .args .mail .now) (s .args .k))
+Did s = itemReceives (Table.senior (s .args .table .now)) (locks (s .args .table .now) (entryAt (s .args .mail .now) (s .args .k) .item)) (entryAt (s .args .mail .now) (s .args .k))
 
 received : (c : tie.After-item-receives) → c .item-receives .result ≡ Item.stepOf (Did (c .before .before .before .before .before))
 received c = rw (← c .before .before .before .before .before .pre .1) (c .item-receives .ensures .0)

@@ -15,7 +15,7 @@ use Rattle.drain.proofs.deliver_to_session.Tie as tie
 
 -- what the session does
 abbrev Did : tie.Start → Session.After
-Did s = sessionReceives (entryAt (s .args .mail .now) (s .args .k) .session) (s .args .table .now) (entryAt (s .args .mail .now) (s .args .k))
+Did s = sessionReceives (Table.senior (s .args .table .now)) (entryAt (s .args .mail .now) (s .args .k) .session) (Table.session (s .args .table .now) (entryAt (s .args .mail .now) (s .args .k) .session)) (entryAt (s .args .mail .now) (s .args .k))
 
 received : (c : tie.After-session-receives) → c .session-receives .result ≡ Session.stepOf (Did (c .before .before .before .before .before))
 received c = rw (← c .before .before .before .before .before .pre .1) (c .session-receives .ensures .0)

@@ -5,6 +5,7 @@ use borrow.Author.Needs.{needs}
 use Rattle.item.specs.declared.ItemStep.{ItemStep}
 use Rattle.item.specs.Rules as Item
 use Rattle.mailbox.specs.Layout.{entryAt}
+use Rattle.table.specs.Layout.{senior}
 use Rattle.waits.specs.OnTable.{locks}
 use Rattle.step.specs.Step.{itemReceives}
 use Rattle.step.proofs.Acting.{item-sends-few}
@@ -28,8 +29,8 @@ unfolding locks
 returns c =
     let s = c .before .before .before .before .before .before in
     let e = entryAt (s .args .mail .now) (s .args .k) in
-    let does : c .receive .result ≡ Item.stepOf (itemReceives (s .args .x) (s .args .table .now) e) = c .receive .ensures ∙ rw (c .before .before .before .item .ensures, c .before .before .ranks .ensures, c .before .message-to-item .ensures) refl in
-    (does, omega (arith, ap (λ (r : ItemStep). r .outbox .n) does, item-sends-few (s .args .x) (s .args .table .now) e (s .pre .packed)))
+    let does : c .receive .result ≡ Item.stepOf (itemReceives (senior (s .args .table .now)) (locks (s .args .table .now) (s .args .x)) e) = c .receive .ensures ∙ rw (c .before .before .before .item .ensures, c .before .before .ranks .ensures, c .before .message-to-item .ensures) refl in
+    (does, omega (arith, ap (λ (r : ItemStep). r .outbox .n) does, item-sends-few (senior (s .args .table .now)) (s .args .x) (s .args .table .now) e (s .pre .packed)))
 
 pub item-receives-spec : {M : Type 1} → statement M
 item-receives-spec = tie.close (tie.spec item-requires ranks-requires message-to-item-requires receive-requires returns)

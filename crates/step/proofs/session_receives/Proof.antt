@@ -5,6 +5,7 @@ use borrow.Author.Needs.{needs}
 use Rattle.session.specs.declared.SessionStep.{SessionStep}
 use Rattle.session.specs.Rules as Session
 use Rattle.mailbox.specs.Layout.{entryAt}
+use Rattle.table.specs.Layout.{session, senior}
 use Rattle.table.proofs.Laws.{juniors-length}
 use Rattle.step.specs.Step.{sessionReceives}
 use Rattle.step.proofs.Acting.{session-sends-few}
@@ -28,8 +29,8 @@ returns c =
     let s = c .before .before .before .before .before .before in
     let h = s .pre .session in
     let e = entryAt (s .args .mail .now) (s .args .k) in
-    let does : c .receive .result ≡ Session.stepOf (sessionReceives (s .args .t) (s .args .table .now) e) = c .receive .ensures ∙ rw (c .before .before .before .session .ensures, c .before .before .ranks .ensures, c .before .message-to-session .ensures) refl in
-    let few = session-sends-few (s .args .t) (s .args .table .now) e (juniors-length (s .args .table .now) (h .sized) (s .args .t) (h .low) (h .high)) in
+    let does : c .receive .result ≡ Session.stepOf (sessionReceives (senior (s .args .table .now)) (s .args .t) (session (s .args .table .now) (s .args .t)) e) = c .receive .ensures ∙ rw (c .before .before .before .session .ensures, c .before .before .ranks .ensures, c .before .message-to-session .ensures) refl in
+    let few = session-sends-few (senior (s .args .table .now)) (s .args .t) (session (s .args .table .now) (s .args .t)) (juniors-length (s .args .table .now) (h .sized) (s .args .t) (h .low) (h .high)) e in
     (does, omega (arith, ap (λ (r : SessionStep). r .outbox .n) does, few))
 
 pub session-receives-spec : {M : Type 1} → statement M
