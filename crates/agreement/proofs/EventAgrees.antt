@@ -14,7 +14,7 @@ use Rattle.item.specs.Record.{Lock}
 use Rattle.deadlock.specs.Machine
 use Rattle.agreement.specs.Reading.{readStage, readState, rules}
 use Rattle.agreement.proofs.SessionAgrees.{by-stage}
-use Rattle.wellformed.proofs.Sessions.{session-facts}
+use Rattle.session.proofs.WellFormed.{session-facts}
 use Rattle.agreement.proofs.MoveAgrees.{StateWellFormed, placeOf, itemStep, session-at, item-at, item-step-agrees, taken-eq}
 
 -- stage 6 is read as rolled back, and no other stage

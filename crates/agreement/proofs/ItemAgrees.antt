@@ -23,7 +23,7 @@ use Rattle.deadlock.specs.Lists.{without}
 use Rattle.deadlock.specs.Machine
 use Rattle.deadlock.specs.Machine.{itemReceives}
 use Rattle.agreement.specs.Reading.{readHolder, readItem, readMessage, readSends, readItemStep, rules}
-use Rattle.wellformed.specs.Records.{LockWellFormed}
+use Rattle.item.proofs.WellFormed.{LockWellFormed}
 use Rattle.agreement.proofs.ReadingLists
 
 -- kinds are 1 to 10

@@ -24,7 +24,7 @@ use Rattle.item.specs.Record.{Lock}
 use Rattle.item.specs.Rules as ItemRules
 use Rattle.deadlock.specs.Lists.{updated}
 use Rattle.deadlock.specs.Machine
-use Rattle.wellformed.specs.Records.{LockWellFormed}
+use Rattle.item.proofs.WellFormed.{LockWellFormed}
 use Rattle.agreement.specs.Reading.{readStage, readHolder, readHeld, readSession, readItem, readMessage, readSessionStep, readItemStep, readEntries, readSessions, readItems, readState, directionOf, rules}
 use Rattle.agreement.proofs.ReadingSession.{fresh-read}
 use Rattle.mailbox.proofs.EntryLaws.{entry-facts}

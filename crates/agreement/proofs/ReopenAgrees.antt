@@ -16,7 +16,7 @@ use Rattle.session.specs.Record as SessionRecord
 use Rattle.session.specs.Rules as SessionRules
 use Rattle.item.specs.Record.{Lock}
 use Rattle.reopen.specs.Reopening.{isOver, entryNames, noEntryNames}
-use Rattle.wellformed.proofs.Sessions.{fresh-formed}
+use Rattle.session.proofs.WellFormed.{fresh-formed}
 use Rattle.deadlock.specs.Machine
 use Rattle.agreement.specs.Reading.{readStage, readHolder, readSession, readItem, readSends, readSessions, readEntries, readItems, readState, rules}
 use Rattle.agreement.proofs.ReadingSession.{fresh-read}

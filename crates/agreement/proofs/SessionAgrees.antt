@@ -18,7 +18,7 @@ use Rattle.session.specs.declared.Session.{Session}
 use Rattle.session.specs.Record.{wellFormed}
 use Rattle.session.specs.Rules as SessionRules
 use Rattle.session.specs.Rules.{received, requested, released}
-use Rattle.wellformed.proofs.Sessions.{session-facts}
+use Rattle.session.proofs.WellFormed.{session-facts}
 use Rattle.deadlock.specs.Lists.{oneTo}
 use Rattle.deadlock.specs.Machine
 use Rattle.deadlock.specs.Machine.{sessionReceives, onRequestCall, onReleaseCall}

@@ -12,6 +12,7 @@ use Rattle.lists.proofs.Searches.{distinct-length}
 use Rattle.lists.proofs.Tests.{within}
 use Rattle.session.specs.Seniority.{senior}
 use Rattle.session.proofs.Seniority.{senior-order}
+use Rattle.session.proofs.WellFormed.{held-fits}
 use Rattle.session.specs.declared.Session.{Session}
 use Rattle.session.specs.Record as SessionRecord
 use Rattle.item.specs.NextHolder.{nextHolder}
@@ -27,9 +28,9 @@ use Rattle.waits.specs.OnTable.{locks}
 use Rattle.step.specs.Step.{Formed}
 use Rattle.lockmgr.specs.Calls.{Config}
 use Rattle.deadlock.specs.Machine
-use Rattle.wellformed.specs.Records.{LockWellFormed}
+use Rattle.item.proofs.WellFormed.{LockWellFormed}
 use Rattle.agreement.specs.Reading.{readSession, readSessions, readState, rules}
-use Rattle.wellformed.proofs.Items.{unpacked-lock, packed-lock}
+use Rattle.item.proofs.WellFormed.{unpacked-lock, packed-lock}
 use Rattle.agreement.proofs.MoveAgrees.{Replaced, StateWellFormed}
 use Rattle.agreement.proofs.RulesLaws.{rules-laws}
 
@@ -119,7 +120,7 @@ module _ (conf : Config) (table : List ℕ) (l : List Entry) (g : Good conf tabl
     pub session-replaced : Replaced (conf .sessions) (Table.session table) (Table.session with-session) t s
     session-replaced =
         let n = session-known t r in record {
-          here = TableLaws.session-withSession table (g .sized) t (n .0) (n .1) s new-juniors (TableLaws.held-fits (conf .sessions) (conf .items) s few-items new-session);
+          here = TableLaws.session-withSession table (g .sized) t (n .0) (n .1) s new-juniors (held-fits (conf .sessions) (conf .items) s few-items new-session);
           elsewhere = λ j q d. TableLaws.other-withSession table (g .sized) t (n .0) (n .1) s new-juniors j (within 1 (conf .sessions) j q .0) (λ e. d (sym e));
         }
 

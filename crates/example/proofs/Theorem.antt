@@ -48,7 +48,7 @@ run-in-turn table mail y (c ∷ l) =
 
 -- from there on every answer and the last line are as printed
 computed : shown (inTurn (Table.started 2 2 (plain 2)) (Mail.mailBytes capacity []) Run.zeros calls) ≡ record { answers = printed; left = 0; tally = lastLine }
-unfolding splice every lowest member distinct allOf filter findIndex removeAt tabulate has insert remove bitsFrom rank senior Seniority.wellFormed plain isMostSenior mostSenior nextHolder SessionRecord.wellFormed Session.probesFrom Session.toHeld Session.requested Session.released Session.granted Session.resent Session.aborted Session.cleaned Session.cleanedWaiting Session.cleanedVictim Session.rolledBack Session.junior Session.keptProbe Session.probed Session.received ItemRecord.wellFormed Item.resends Item.without Item.onWithdraw Item.granted Item.probes Item.queued Item.onRequest Item.onProbe Item.onClean Item.onRebroadcast Item.handedOver Item.vacated Item.onRelease Item.received Entry.wellFormed Mail.sized Mail.entryAt Mail.entriesOf Mail.wellFormed Mail.routes Mail.bodies Mail.mailBytes Table.sized Table.session Table.withSession Table.item Table.withItem Table.ranks Table.wellFormed Table.repeated Table.started Waits.queuedAt Waits.waitsAt Waits.waitsFor Waits.reached Waits.cycleLength locks Refusal.first Step.delivered Step.sessionActs Step.plan Calls.judged Step.hindered Step.acted Calls.step inTurn
+unfolding splice every lowest member distinct allOf filter findIndex removeAt tabulate has insert remove bitsFrom rank senior Seniority.wellFormed plain isMostSenior mostSenior nextHolder SessionRecord.wellFormed Session.probesFrom Session.toHeld Session.requested Session.released Session.granted Session.resent Session.aborted Session.cleaned Session.cleanedWaiting Session.cleanedVictim Session.rolledBack Session.junior Session.keptProbe Session.probed Session.received ItemRecord.wellFormed Item.resends Item.without Item.onWithdraw Item.granted Item.probes Item.queued Item.onRequest Item.onProbe Item.onClean Item.onRebroadcast Item.handedOver Item.vacated Item.onRelease Item.received Entry.wellFormed Mail.sized Mail.entryAt Mail.entriesOf Mail.wellFormed Mail.routes Mail.bodies Mail.mailBytes Table.sized Table.session Table.withSession Table.item Table.withItem Table.ranks Table.wellFormed Table.repeated Table.started Waits.queuedAt Waits.waitsAt Waits.waitsFor Waits.reached Waits.cycleLength locks Refusal.first Step.delivered Step.sessionActs Step.plan Calls.judged Step.hindered Step.acted Calls.stepBy Calls.step inTurn
 computed = refl
 
 pub theorem : Example

@@ -244,31 +244,6 @@ unfolding vacated
 vacated-more senior next [] h = absurd (omega arith)
 vacated-more senior next (r ∷ q) h = refl
 
--- a well-formed record is what the rules ask for, where there are at most 64 sessions
-module _ (S : ℕ) (i : Item) (h : S ≤ 64) (q : length (i .queue) ≡ 64) where
-  pub wellFormed-packed : wellFormed S i ≡ true → Packed i
-  unfolding wellFormed distinct allOf
-  wellFormed-packed w =
-      let l = unpacked i .queue in
-      let tail = and-both _ (allOf (λ b. eqb b 0) (drop (i .waiting) (i .queue))) w in
-      let other = and-both _ (not (member (i .holder) l)) (tail .0) in
-      let once = and-both _ (distinct l) (other .0) in
-      let range = and-both _ (allOf (between 1 S) l) (once .0) in
-      let ends = and-both (leb (i .holder) S) (leb (i .waiting) 64) (range .0) in
-      let fits : i .waiting ≤ 64 = leb-true (i .waiting) 64 (ends .1) in
-      let full = waiting-length i q fits in
-      let left : length (drop (i .waiting) (i .queue)) ≡ 64 - length l = rw (length-drop, full, q) refl in
-      record {
-        fits = fits;
-        room = λ some.
-            let low : leb 1 (i .holder) ≡ true = le-leb 1 (i .holder) (omega arith) in
-            let all-once : distinct (i .holder ∷ l) ≡ true = rw (other .1) (once .1) in
-            let all-range : allOf (between 1 S) (i .holder ∷ l) ≡ true = rw (low, ends .0) (range .1) in
-            omega (arith, distinct-length S (i .holder ∷ l) all-once all-range);
-        zeros =
-            packed-eq (i .holder) (i .waiting) (i .queue) l (sym full) (sym (take-append-drop (i .waiting) (i .queue)) ∙ ap (λ (r : List ℕ). l ++ r) (zeros-all (drop (i .waiting) (i .queue)) (tail .1) ∙ ap (λ (n : ℕ). replicate n 0) left));
-      }
-
 -- the number of messages sent at once fits a byte
 abbrev Fits : After → Type 0
 Fits r = length (r .sends) ≤ 129

@@ -23,16 +23,17 @@ pub record Buffers : Type 0 where
 abbrev pub buffers : List ℕ → List ℕ → Buffers
 buffers table mail = record { table = table; mail = mail }
 
--- one step, done: its verb and session, the buffers before it, and what it answered and left
+-- one step, done: its verb, session and item, the buffers before it, and what it answered and left
 pub record Done : Type 0 where
   pub verb : ℕ
   pub session : ℕ
+  pub item : ℕ
   pub before : Buffers
   pub result : Stepped
 
 abbrev pub doneOn : Buffers → Step → Done
 doneOn b c =
-    record { verb = c .verb; session = c .session; before = b; result = Calls.step (c .verb) (c .session) (c .item) (b .table) (b .mail) }
+    record { verb = c .verb; session = c .session; item = c .item; before = b; result = Calls.step (c .verb) (c .session) (c .item) (b .table) (b .mail) }
 
 -- the buffers that a step leaves
 abbrev pub leftBy : Done → Buffers

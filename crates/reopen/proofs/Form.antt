@@ -6,7 +6,7 @@ use Rattle.session.specs.Record.{fresh}
 use Rattle.table.specs.Layout as Table
 use Rattle.table.proofs.Laws as TableLaws
 use Rattle.step.specs.Step.{Formed}
-use Rattle.wellformed.proofs.Sessions.{fresh-formed}
+use Rattle.session.proofs.WellFormed.{fresh-formed}
 
 pub reopened-formed : (t : ℕ) (table mail : List ℕ) → Formed table mail → 1 ≤ t → t ≤ Table.sessionsOf table → Formed (Table.withSession table t fresh) mail
 reopened-formed t table mail f low high =

@@ -28,7 +28,8 @@ use Rattle.table.specs.Layout as Table
 use Rattle.table.proofs.Laws as TableLaws
 use Rattle.waits.specs.OnTable.{locks}
 use Rattle.wellformed.proofs.Sessions.{SessionKept, session-kept, request-kept, release-kept}
-use Rattle.wellformed.proofs.Items.{ItemKept, item-kept, unpacked-lock, packed-lock}
+use Rattle.item.proofs.WellFormed.{unpacked-lock, packed-lock}
+use Rattle.wellformed.proofs.Items.{ItemKept, item-kept}
 use Rattle.step.specs.Step as Step
 use Rattle.step.specs.Step.{Plan, Stepped, Formed, delivered, itemReceives, sessionReceives, sessionActs, sessionPlan, itemPlan, plan, stepCauses, overfull, acted, stepped, refusedAnswer, committed}
 use Rattle.step.specs.Parts.{Judged, Unhindered}

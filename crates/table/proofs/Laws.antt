@@ -22,9 +22,11 @@ use Rattle.session.specs.Seniority
 use Rattle.session.specs.Stage
 use Rattle.session.proofs.Laws as SessionLaws
 use Rattle.session.proofs.Seniority.{senior-order}
+use Rattle.session.proofs.WellFormed.{held-fits}
 use Rattle.item.specs.declared.Item.{Item}
 use Rattle.item.specs.Record as ItemRecord
 use Rattle.item.proofs.Laws as ItemLaws
+use Rattle.item.proofs.WellFormed.{wellFormed-packed}
 use Rattle.table.specs.Layout.{header, sessionPlace, itemsStart, itemPlace, ranksPlace, size, sessionsOf, itemsOf, sized, session, withSession, item, withItem, ranks, senior, wellFormed}
 
 -- what `sized` says: S and M are within their bounds, and the length is that of S and M
@@ -138,18 +140,6 @@ module _ (t : List ℕ) where
   well-formed-intro f g r =
       in-form t ∙ rw (every-intro (sessionsOf t) (sessionOk t) f, every-intro (itemsOf t) (itemOk t) g, r) refl
 
-held-in-form : (S M : ℕ) (s : Session) → SessionRecord.wellFormed S M s ≡ true → ltb (s .held) (2 ^ M) ≡ true
-unfolding SessionRecord.wellFormed
-held-in-form S M s e =
-    let A = allOf (λ j. leb j S) (take S (s .juniors)) in
-    let Z = allOf (λ j. eqb j 0) (drop S (s .juniors)) in
-    let front = between Stage.growing Stage.rolledBack (s .stage) && cond (Stage.awaits (s .stage)) (between 1 M (s .awaited)) (eqb (s .awaited) 0) in
-    and-both front (ltb (s .held) (2 ^ M)) (and-both (front && ltb (s .held) (2 ^ M)) A (and-both (front && ltb (s .held) (2 ^ M) && A) Z e .0) .0) .1
-
--- the held items of a well-formed session fit eight bytes
-pub held-fits : (S M : ℕ) (s : Session) → M ≤ maxItems → SessionRecord.wellFormed S M s ≡ true → s .held < 2 ^ 64
-held-fits S M s h e = omega (arith, ltb-true (s .held) (2 ^ M) (held-in-form S M s e), pow-mono {i = M} {j = 64} h)
-
 -- a run of bytes behind the header leaves the header
 module _ (t : List ℕ) (at : ℕ) (l : List ℕ) (h : at + length l ≤ length t) (f : header ≤ at) where
   header-byte : (i : ℕ) → i < header → getD (splice t at l) i 0 ≡ getD t i 0
@@ -185,7 +175,7 @@ module _ (t : List ℕ) (e : sized t ≡ true) where
   -- a well-formed record has zeros behind its queue
   pub packed-item : wellFormed t ≡ true → (x : ℕ) → 1 ≤ x → x ≤ itemsOf t → ItemRecord.Packed (item t x)
   packed-item w x l h =
-      ItemLaws.wellFormed-packed (sessionsOf t) (item t x) (sized-facts t e .max-sessions) (queue-length x l h) (well-formed-item t w x l h)
+      wellFormed-packed (sessionsOf t) (item t x) (well-formed-item t w x l h) (sized-facts t e .max-sessions) (queue-length x l h)
 
   -- the table with the record of session k replaced
   module _ (k : ℕ) (l : 1 ≤ k) (h : k ≤ sessionsOf t) (s : Session) (j : length (s .juniors) ≡ maxSessions) where

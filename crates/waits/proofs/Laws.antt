@@ -21,8 +21,8 @@ use Rattle.table.proofs.Laws.{sized-facts, well-formed-item, queue-length, pack
 use Rattle.waits.specs.Waits.{queuedAt, waitsAt, waitsFor, reached, cycleLength}
 use Rattle.waits.specs.Walk.{oneMore, walkFromSession, walkFromItem}
 use Rattle.waits.specs.OnTable as OnTable
-use Rattle.wellformed.specs.Records.{LockWellFormed}
-use Rattle.wellformed.proofs.Items.{unpacked-lock}
+use Rattle.item.proofs.WellFormed.{LockWellFormed}
+use Rattle.item.proofs.WellFormed.{unpacked-lock}
 use Rattle.waits.specs.OnTable.{locks}
 use Rattle.waits.specs.Places.{placesAmong, WithPlaces}
 use Rattle.waits.proofs.Reached.{Graph, reached-suc}

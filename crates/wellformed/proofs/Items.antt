@@ -20,7 +20,7 @@ use Rattle.mailbox.specs.Entry.{Entry, fromItem, seenByItem}
 use Rattle.item.specs.declared.Item.{Item}
 use Rattle.item.specs.Record as ItemRecord
 use Rattle.item.specs.Record.{Lock, lock, packed, unpacked}
-use Rattle.wellformed.specs.Records.{LockWellFormed}
+use Rattle.item.proofs.WellFormed.{LockWellFormed, free-lock}
 use Rattle.wellformed.proofs.Entries.{session-range, item-range, a-range, b-range, plain-entry, pair-entry}
 use Rattle.item.specs.Rules.{After, dropped, received, resends, without, probes, granted, queued, handedOver, vacated, onRequest, onRelease, onProbe, onClean, onRebroadcast, onWithdraw}
 use Rattle.item.proofs.Laws.{unpacked-packed}
@@ -39,11 +39,6 @@ distinct-snoc t (a ∷ l) d e =
     let h = and-both (not (member a l)) (distinct l) d in
     let f = or-neither (eqb a t) (member t l) e in
     rw (member-snoc a t l (not-true (member a l) (h .0)) (λ q. eqb-false a t (f .0) (sym q))) (distinct-snoc t l (h .1) (f .1))
-
--- a free lock is well-formed
-pub free-lock : (S : ℕ) → LockWellFormed S ItemRecord.free
-unfolding allOf distinct member
-free-lock S = record { holder = zero-le; sessions = refl; once = refl; apart = refl }
 
 module _ (S M x : ℕ) where
   -- the test of a message that item x sends
@@ -173,24 +168,3 @@ module _ (senior : ℕ → ℕ → Bool) (next : List ℕ → ℕ) (S M : ℕ) (
       (λ _. by-test kept (eqb (e .kind) Kind.clean) (λ q. clean-kept S M (e .item) item senior next k w t session (e .a) (e .b) (first (carries Kind.clean q refl)) (second (carries Kind.clean q refl)))
       (λ _. by-test kept (eqb (e .kind) Kind.rebroadcast) (λ _. rebroadcast-kept S M (e .item) item senior next k w t session)
       (λ _. by-test kept (eqb (e .kind) Kind.withdraw) (λ _. withdraw-kept S M (e .item) item senior next k w t session) (λ _. dropped-kept S M (e .item) item senior next k w t session))))))
-
--- ---- the record as it is stored
-module _ (S : ℕ) where
-  pub unpacked-lock : (i : Item) → ItemRecord.wellFormed S i ≡ true → LockWellFormed S (unpacked i)
-  unfolding ItemRecord.wellFormed
-  unpacked-lock i w =
-      let l = unpacked i .queue in
-      let tail = and-both _ (allOf (λ b. eqb b 0) (drop (i .waiting) (i .queue))) w in
-      let other = and-both _ (not (member (i .holder) l)) (tail .0) in
-      let once = and-both _ (distinct l) (other .0) in
-      let range = and-both _ (allOf (between 1 S) l) (once .0) in
-      let ends = and-both (leb (i .holder) S) (leb (i .waiting) 64) (range .0) in
-      record { holder = leb-true (i .holder) S (ends .0); sessions = range .1; once = once .1; apart = not-true (member (i .holder) l) (other .1) }
-
-  pub packed-lock : (k : Lock) → S ≤ 64 → LockWellFormed S k → ItemRecord.wellFormed S (packed k) ≡ true
-  unfolding ItemRecord.wellFormed
-  packed-lock k few w =
-      let same : unpacked (packed k) .queue ≡ k .queue = ap (λ (j : Lock). j .queue) (unpacked-packed k) in
-      let fits = distinct-length S (k .queue) (w .once) (w .sessions) in
-      let tail : drop (length (k .queue)) (packed k .queue) ≡ replicate (64 - length (k .queue)) 0 = drop-append-seam (k .queue) (replicate (64 - length (k .queue)) 0) in
-      and-intro (and-intro (and-intro (and-intro (and-intro (le-leb (k .holder) S (w .holder)) (le-leb (length (k .queue)) 64 (omega arith))) (rw (same) (w .sessions))) (rw (same) (w .once))) (rw (same, w .apart) refl)) (rw (tail) (all-replicate (λ b. eqb b 0) (64 - length (k .queue)) 0 refl))

@@ -23,45 +23,11 @@ use Rattle.mailbox.specs.Entry.{Entry, toItem, fromSession, seenBySession}
 use Rattle.session.specs.Stage
 use Rattle.session.specs.declared.Session.{Session}
 use Rattle.session.specs.Record.{wellFormed, none, fresh}
-use Rattle.wellformed.specs.Records.{SessionWellFormed}
+use Rattle.session.proofs.WellFormed.{SessionWellFormed, session-facts, session-formed, none-juniors, none-zeros, none-length}
 use Rattle.wellformed.proofs.Entries.{session-range, item-range, a-range, b-range, plain-entry, pair-entry}
 use Rattle.session.specs.Rules.{After, dropped, probesFrom, storedProbes, stored, toHeld, requested, released, granted, resent, aborted, cleared, cleaned, cleanedWaiting, cleanedVictim, rolledBack, junior, keptProbe, probed, received}
 
-pub session-facts : (S M : ℕ) (s : Session) → wellFormed S M s ≡ true → SessionWellFormed S M s
-unfolding wellFormed
-session-facts S M s w =
-    let e = and-both _ (allOf (λ j. eqb j 0) (drop S (s .juniors))) w in
-    let d = and-both _ (allOf (λ j. leb j S) (take S (s .juniors))) (e .0) in
-    let c = and-both _ (ltb (s .held) (2 ^ M)) (d .0) in
-    let b = and-both _ (cond (Stage.awaits (s .stage)) (between 1 M (s .awaited)) (eqb (s .awaited) 0)) (c .0) in
-    record {
-      stage-low = within 1 6 (s .stage) (b .0) .0;
-      stage-high = within 1 6 (s .stage) (b .0) .1;
-      awaited = b .1;
-      held = ltb-true (s .held) (2 ^ M) (c .1);
-      juniors = d .1;
-      zeros = e .1;
-    }
-
-pub session-formed : (S M : ℕ) (s : Session) → SessionWellFormed S M s → wellFormed S M s ≡ true
-unfolding wellFormed
-session-formed S M s f =
-    and-intro (and-intro (and-intro (and-intro (between-intro 1 6 (s .stage) (f .stage-low) (f .stage-high)) (f .awaited)) (lt-ltb (s .held) (2 ^ M) (f .held))) (f .juniors)) (f .zeros)
-
 module _ (S M : ℕ) where
-  none-juniors : allOf (λ j. leb j S) (take S none) ≡ true
-  none-juniors = all-take (λ j. leb j S) S (replicate 64 0) (all-replicate (λ j. leb j S) 64 0 (le-leb 0 S (omega arith)))
-
-  none-zeros : allOf (λ j. eqb j 0) (drop S none) ≡ true
-  none-zeros = all-drop (λ j. eqb j 0) S (replicate 64 0) (all-replicate (λ j. eqb j 0) 64 0 refl)
-
-  none-length : length none ≡ 64
-  none-length = length-replicate {A = ℕ} 64 0
-
-  -- every session of a lock manager that was just started
-  pub fresh-formed : wellFormed S M fresh ≡ true
-  fresh-formed = session-formed S M fresh (record { stage-low = omega arith; stage-high = omega arith; awaited = refl; held = pow-pos M; juniors = none-juniors; zeros = none-zeros })
-
   module _ (t : ℕ) where
     -- the test of a message that session t sends
     abbrev pub isEntry : Message → Bool
@@ -155,7 +121,7 @@ module _ (S M : ℕ) where
         pub released-kept : (x : ℕ) → between 1 M x ≡ true → s .awaited ≡ 0 → SessionKept (released x s)
         unfolding released
         released-kept x r a = record {
-          session = session-formed S M _ (record { stage-low = omega arith; stage-high = omega arith; awaited = eq-eqb (s .awaited) 0 a; held = remove-below M x (s .held) (f .held); juniors = none-juniors; zeros = none-zeros });
+          session = session-formed S M _ (record { stage-low = omega arith; stage-high = omega arith; awaited = eq-eqb (s .awaited) 0 a; held = remove-below M x (s .held) (f .held); juniors = none-juniors S M; zeros = none-zeros S M });
           juniors = none-length;
           sends = all-one isEntry _ (plain-sent x Kind.release r refl refl);
         }
@@ -177,7 +143,7 @@ module _ (S M : ℕ) where
             by-test SessionKept (eqb x (s .awaited)) (λ _. record { session = session-formed S M s f; juniors = len; sends = stored-sent (s .awaited) r }) (λ _. dropped-kept)
 
         cleared-formed : wellFormed S M (cleared s) ≡ true
-        cleared-formed = session-formed S M (cleared s) (record { stage-low = f .stage-low; stage-high = f .stage-high; awaited = f .awaited; held = f .held; juniors = none-juniors; zeros = none-zeros })
+        cleared-formed = session-formed S M (cleared s) (record { stage-low = f .stage-low; stage-high = f .stage-high; awaited = f .awaited; held = f .held; juniors = none-juniors S M; zeros = none-zeros S M })
 
         cleaned-kept : (x : ℕ) → SessionKept (cleaned x s)
         unfolding cleaned
@@ -206,7 +172,7 @@ module _ (S M : ℕ) where
           aborted-kept : between 1 M (s .awaited) ≡ true → SessionKept (aborted a b s)
           unfolding aborted
           aborted-kept r = record {
-            session = session-formed S M _ (record { stage-low = omega arith; stage-high = omega arith; awaited = r; held = f .held; juniors = none-juniors; zeros = none-zeros });
+            session = session-formed S M _ (record { stage-low = omega arith; stage-high = omega arith; awaited = r; held = f .held; juniors = none-juniors S M; zeros = none-zeros S M });
             juniors = none-length;
             sends = all-one isEntry _ (clean-sent (s .awaited) a b r a-range b-range);
           }
