@@ -6,7 +6,7 @@ use model::{Answer, Config, Cycle, Drained, Misreading, Text};
 pub use crate::library::Library;
 
 pub trait Calls {
-    fn start(&self, config: Config, ranks: &[u8], table: &mut [u8], mail: &mut [u8]) -> u8;
+    fn start(&self, config: &Config, table: &mut [u8], mail: &mut [u8]) -> u8;
     fn step(&self, verb: u64, session: u64, item: u64, table: &mut [u8], mail: &mut [u8])
         -> Answer;
     fn report(&self, session: u64, table: &[u8]) -> Cycle;
@@ -19,9 +19,9 @@ pub trait Calls {
 macro_rules! calls {
     ($name:ident, $module:path) => {
         impl Calls for $name {
-            fn start(&self, config: Config, r: &[u8], table: &mut [u8], mail: &mut [u8]) -> u8 {
+            fn start(&self, config: &Config, table: &mut [u8], mail: &mut [u8]) -> u8 {
                 use $module as answers;
-                answers::start(config, r, table, mail)
+                answers::start(config, table, mail)
             }
             fn step(&self, v: u64, s: u64, i: u64, table: &mut [u8], mail: &mut [u8]) -> Answer {
                 use $module as answers;
@@ -59,8 +59,8 @@ calls!(Fast, fast);
 pub struct Misread(pub Misreading);
 
 impl Calls for Misread {
-    fn start(&self, config: Config, ranks: &[u8], table: &mut [u8], mail: &mut [u8]) -> u8 {
-        model::start_as(self.0, config, ranks, table, mail)
+    fn start(&self, config: &Config, table: &mut [u8], mail: &mut [u8]) -> u8 {
+        model::start_as(self.0, config, table, mail)
     }
     fn step(&self, v: u64, s: u64, i: u64, table: &mut [u8], mail: &mut [u8]) -> Answer {
         model::step_as(self.0, v, s, i, table, mail)

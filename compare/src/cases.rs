@@ -96,11 +96,11 @@ pub fn round(comparison: &mut Comparison, seed: u64) -> Outcome {
 fn fresh(
     comparison: &mut Comparison,
     random: &mut Random,
-    config: Config,
+    config: &Config,
 ) -> Result<Buffers, String> {
     let mut buffers = Buffers::filled(config, 0xA5);
     let ranks = forge::ranks(random, config.sessions);
-    match comparison.start(config, &ranks, &mut buffers)? {
+    match comparison.start(&config.with_ranks(&ranks), &mut buffers)? {
         ACCEPTED => Ok(buffers),
         refusal => Err(format!("start is refused with {refusal}")),
     }
@@ -119,7 +119,7 @@ impl Started {
     fn new(
         comparison: &mut Comparison,
         random: &mut Random,
-        config: Config,
+        config: &Config,
     ) -> Result<Started, String> {
         let buffers = fresh(comparison, random, config)?;
         let ranks = Ranks::decode(buffers.ranks()).ok_or("start leaves bad ranks")?;
@@ -264,14 +264,14 @@ fn every_room(
 }
 
 /// Any well-formed buffers, mostly small.
-fn forged_buffers(random: &mut Random) -> (Config, Buffers) {
+fn forged_buffers(random: &mut Random) -> (Config<'static>, Buffers) {
     let config = forge::config(random);
     let count = Filling::draw(random).of(random, config.capacity);
-    (config, well_formed(random, config, count))
+    (config, well_formed(random, &config, count))
 }
 
 /// A verb, a session and an item within their bounds.
-fn any_call(random: &mut Random, config: Config) -> (u64, u64, u64) {
+fn any_call(random: &mut Random, config: &Config) -> (u64, u64, u64) {
     let verb = random.between(REQUEST, LAST_VERB);
     (verb, config.any_session(random), config.any_item(random))
 }
@@ -308,7 +308,7 @@ enum Schedule {
 }
 
 impl Schedule {
-    fn draw(random: &mut Random, config: Config) -> Schedule {
+    fn draw(random: &mut Random, config: &Config) -> Schedule {
         match random.between(1, 8) {
             1 => Schedule::Oldest,
             2 => Schedule::Newest,
@@ -362,7 +362,7 @@ fn odd_number(random: &mut Random, right: u64, max: u64) -> u64 {
 }
 
 /// Any verb, session and item: most such steps are refused.
-fn any_step(random: &mut Random, config: Config) -> (u64, u64, u64) {
+fn any_step(random: &mut Random, config: &Config) -> (u64, u64, u64) {
     let verb = match random.between(0, 6) {
         6 => odd_number(random, REQUEST, LAST_VERB),
         verb => verb,
@@ -406,7 +406,7 @@ impl Rates {
 fn run(
     comparison: &mut Comparison,
     random: &mut Random,
-    config: Config,
+    config: &Config,
     rates: Rates,
     steps: u64,
 ) -> Outcome {
@@ -452,7 +452,7 @@ fn run(
 
 /// A session and an item for a request or a release, accepted if some tries
 /// find such.
-fn own_step(random: &mut Random, config: Config, buffers: &Buffers, verb: u64) -> (u64, u64) {
+fn own_step(random: &mut Random, config: &Config, buffers: &Buffers, verb: u64) -> (u64, u64) {
     let mut drawn = (1, 1);
     for _ in 0..6 {
         drawn = (config.any_session(random), config.any_item(random));
@@ -469,7 +469,7 @@ fn own_step(random: &mut Random, config: Config, buffers: &Buffers, verb: u64) -
 
 /// A session to be reopened: one that is done, if some tries find such; seldom any
 /// number.
-fn done_session(random: &mut Random, config: Config, buffers: &Buffers) -> Option<u64> {
+fn done_session(random: &mut Random, config: &Config, buffers: &Buffers) -> Option<u64> {
     if random.one_in(20) {
         return Some(random.between(0, config.sessions + 1));
     }
@@ -481,48 +481,43 @@ fn done_session(random: &mut Random, config: Config, buffers: &Buffers) -> Optio
 }
 
 fn small_run(comparison: &mut Comparison, random: &mut Random) -> Outcome {
-    let config = Config {
-        sessions: random.between(1, 8),
-        items: random.between(1, 8),
-        capacity: match random.between(1, 8) {
-            1 => 1,
-            2 => 2,
-            3 => random.between(3, 16),
-            4 => 64,
-            _ => 300,
-        },
+    let (sessions, items) = (random.between(1, 8), random.between(1, 8));
+    let capacity = match random.between(1, 8) {
+        1 => 1,
+        2 => 2,
+        3 => random.between(3, 16),
+        4 => 64,
+        _ => 300,
     };
+    let config = Config::plain(sessions, items, capacity);
     let rates = Rates::draw(random);
-    run(comparison, random, config, rates, 400)
+    run(comparison, random, &config, rates, 400)
 }
 
 /// Three sessions, whose ranks come in every order.
 fn three_sessions(comparison: &mut Comparison, random: &mut Random) -> Outcome {
-    let config = Config::new(3, random.between(2, 4), 64);
+    let config = Config::plain(3, random.between(2, 4), 64);
     let rates = Rates::draw(random);
-    run(comparison, random, config, rates, 150)
+    run(comparison, random, &config, rates, 150)
 }
 
 /// Few sessions, which are used again thousands of times.
 fn reusing_run(comparison: &mut Comparison, random: &mut Random) -> Outcome {
-    let config = Config::new(random.between(2, 4), random.between(2, 4), 64);
+    let config = Config::plain(random.between(2, 4), random.between(2, 4), 64);
     let rates = Rates::reusing(random);
-    run(comparison, random, config, rates, 150_000)
+    run(comparison, random, &config, rates, 150_000)
 }
 
 fn medium_run(comparison: &mut Comparison, random: &mut Random) -> Outcome {
-    let config = Config {
-        sessions: random.between(9, 32),
-        items: random.between(9, 32),
-        capacity: random.between(200, 1000),
-    };
+    let (sessions, items) = (random.between(9, 32), random.between(9, 32));
+    let config = Config::plain(sessions, items, random.between(200, 1000));
     let rates = Rates::draw(random);
-    run(comparison, random, config, rates, 500)
+    run(comparison, random, &config, rates, 500)
 }
 
 fn largest_run(comparison: &mut Comparison, random: &mut Random) -> Outcome {
     let rates = Rates::draw(random);
-    run(comparison, random, LARGEST, rates, 1500)
+    run(comparison, random, &LARGEST, rates, 1500)
 }
 
 /// Every session takes an item and asks for the next: a cycle of 64, or of
@@ -533,8 +528,8 @@ fn long_cycle(comparison: &mut Comparison, random: &mut Random) -> Outcome {
     } else {
         random.between(3, LARGEST.sessions - 1)
     };
-    let config = Config::new(sessions, sessions, LARGEST.capacity);
-    let mut started = Started::new(comparison, random, config)?;
+    let config = Config::plain(sessions, sessions, LARGEST.capacity);
+    let mut started = Started::new(comparison, random, &config)?;
     let mut accepted = |comparison: &mut Comparison, verb, session, item| {
         let answer = started.step(comparison, (verb, session, item))?;
         match answer.refusal {
@@ -599,7 +594,7 @@ fn texts_of(
 fn forged_cycle(
     comparison: &mut Comparison,
     random: &mut Random,
-    config: Config,
+    config: &Config,
     members: u64,
 ) -> Outcome {
     let (buffers, member) = forge::cycle(random, config, members as usize);
@@ -610,24 +605,18 @@ fn forged_cycle(
 
 fn texts(comparison: &mut Comparison, random: &mut Random) -> Outcome {
     let drawn = forge::config(random);
-    let config = Config {
-        sessions: drawn.sessions.max(2),
-        items: drawn.items.max(2),
-        ..drawn
-    };
+    let config = Config::plain(drawn.sessions.max(2), drawn.items.max(2), drawn.capacity);
     let members = random.between(2, config.sessions.min(config.items));
-    forged_cycle(comparison, random, config, members)
+    forged_cycle(comparison, random, &config, members)
 }
 
 /// Cycles of every length.
 fn texts_wide(comparison: &mut Comparison, random: &mut Random) -> Outcome {
     let members = random.between(2, LARGEST.sessions);
-    let config = Config {
-        sessions: random.between(members, LARGEST.sessions),
-        items: random.between(members, LARGEST.items),
-        capacity: 1,
-    };
-    forged_cycle(comparison, random, config, members)
+    let sessions = random.between(members, LARGEST.sessions);
+    let items = random.between(members, LARGEST.items);
+    let config = Config::plain(sessions, items, 1);
+    forged_cycle(comparison, random, &config, members)
 }
 
 fn texts_largest(comparison: &mut Comparison, random: &mut Random) -> Outcome {
@@ -635,14 +624,14 @@ fn texts_largest(comparison: &mut Comparison, random: &mut Random) -> Outcome {
         capacity: 1,
         ..LARGEST
     };
-    forged_cycle(comparison, random, config, LARGEST.sessions)
+    forged_cycle(comparison, random, &config, LARGEST.sessions)
 }
 
 /// A few steps, a report, a text, drains and reopenings on well-formed buffers.
 fn some_steps(
     comparison: &mut Comparison,
     random: &mut Random,
-    config: Config,
+    config: &Config,
     buffers: &mut Buffers,
     steps: u64,
 ) -> Outcome {
@@ -685,7 +674,7 @@ fn some_steps(
 fn forged(comparison: &mut Comparison, random: &mut Random) -> Outcome {
     let (config, mut buffers) = forged_buffers(random);
     let steps = random.between(3, 8);
-    some_steps(comparison, random, config, &mut buffers, steps)
+    some_steps(comparison, random, &config, &mut buffers, steps)
 }
 
 fn forged_largest(comparison: &mut Comparison, random: &mut Random) -> Outcome {
@@ -697,8 +686,8 @@ fn forged_largest(comparison: &mut Comparison, random: &mut Random) -> Outcome {
         5 => LARGEST.capacity - random.between(1, 130),
         _ => random.between(1, LARGEST.capacity),
     };
-    let mut buffers = well_formed(random, LARGEST, count);
-    some_steps(comparison, random, LARGEST, &mut buffers, 12)
+    let mut buffers = well_formed(random, &LARGEST, count);
+    some_steps(comparison, random, &LARGEST, &mut buffers, 12)
 }
 
 /// No room, or hardly any.
@@ -708,9 +697,9 @@ fn hardly_any_room(comparison: &mut Comparison, random: &mut Random) -> Outcome 
         config.capacity = random.between(1, 2);
     }
     let room = random.between(0, 3).min(config.capacity);
-    let mut buffers = well_formed(random, config, config.capacity - room);
+    let mut buffers = well_formed(random, &config, config.capacity - room);
     let steps = random.between(3, 8);
-    some_steps(comparison, random, config, &mut buffers, steps)
+    some_steps(comparison, random, &config, &mut buffers, steps)
 }
 
 /// The messages on the route of a delivery.
@@ -724,7 +713,7 @@ enum OnRoute {
 /// Deliveries from a full mail of which half goes in one direction, if there is
 /// more than one session or item: the message is alone on its route, as the first,
 /// one between or the last; or the route is as drawn; or there is none on it.
-fn search(comparison: &mut Comparison, random: &mut Random, config: Config) -> Outcome {
+fn search(comparison: &mut Comparison, random: &mut Random, config: &Config) -> Outcome {
     for routes in [Routes::Any, Routes::OneItem, Routes::OneSessionAndItem] {
         let buffers = full_mail(random, config, routes);
         let last = buffers.count() - 1;
@@ -754,15 +743,15 @@ fn searches(comparison: &mut Comparison, random: &mut Random) -> Outcome {
         capacity: random.between(2, 70),
         ..forge::config(random)
     };
-    search(comparison, random, config)
+    search(comparison, random, &config)
 }
 
 fn searches_largest(comparison: &mut Comparison, random: &mut Random) -> Outcome {
-    search(comparison, random, LARGEST)
+    search(comparison, random, &LARGEST)
 }
 
 /// A drain of any buffers at each count of messages from none to all.
-fn every_fill(comparison: &mut Comparison, random: &mut Random, config: Config) -> Outcome {
+fn every_fill(comparison: &mut Comparison, random: &mut Random, config: &Config) -> Outcome {
     for count in 0..=config.capacity {
         let mut buffers = well_formed(random, config, count);
         comparison.drain(limit(random), &mut buffers)?;
@@ -772,11 +761,11 @@ fn every_fill(comparison: &mut Comparison, random: &mut Random, config: Config) 
 
 fn drain_every_fill(comparison: &mut Comparison, random: &mut Random) -> Outcome {
     let config = forge::config(random);
-    every_fill(comparison, random, config)
+    every_fill(comparison, random, &config)
 }
 
 /// Small numbers and a wide mail.
-fn wide_config(random: &mut Random) -> Config {
+fn wide_config(random: &mut Random) -> Config<'static> {
     Config {
         capacity: random.between(65, 200),
         ..forge::config(random)
@@ -785,7 +774,7 @@ fn wide_config(random: &mut Random) -> Config {
 
 fn drain_every_fill_wide(comparison: &mut Comparison, random: &mut Random) -> Outcome {
     let config = wide_config(random);
-    every_fill(comparison, random, config)
+    every_fill(comparison, random, &config)
 }
 
 /// A count of messages for the largest mail, often nearly full.
@@ -801,7 +790,7 @@ fn largest_count(random: &mut Random) -> u64 {
 
 fn drain_largest(comparison: &mut Comparison, random: &mut Random) -> Outcome {
     let count = largest_count(random);
-    let mut buffers = well_formed(random, LARGEST, count);
+    let mut buffers = well_formed(random, &LARGEST, count);
     comparison.drain(limit(random), &mut buffers)?;
     Ok(())
 }
@@ -810,7 +799,7 @@ fn drain_largest(comparison: &mut Comparison, random: &mut Random) -> Outcome {
 fn circle(
     comparison: &mut Comparison,
     random: &mut Random,
-    config: Config,
+    config: &Config,
     count: u64,
     most: u64,
 ) -> Outcome {
@@ -834,25 +823,25 @@ fn circle(
 fn circles(comparison: &mut Comparison, random: &mut Random) -> Outcome {
     let config = forge::config(random);
     let count = random.between(0, config.capacity);
-    circle(comparison, random, config, count, 5 * config.capacity)
+    circle(comparison, random, &config, count, 5 * config.capacity)
 }
 
 fn circles_wide(comparison: &mut Comparison, random: &mut Random) -> Outcome {
     let config = wide_config(random);
     let count = random.between(0, config.capacity);
-    circle(comparison, random, config, count, 5 * config.capacity)
+    circle(comparison, random, &config, count, 5 * config.capacity)
 }
 
 fn circles_largest(comparison: &mut Comparison, random: &mut Random) -> Outcome {
     let count = largest_count(random);
-    circle(comparison, random, LARGEST, count, 300)
+    circle(comparison, random, &LARGEST, count, 300)
 }
 
 /// More deliveries than two bytes can count.
 fn circles_long(comparison: &mut Comparison, random: &mut Random) -> Outcome {
     let config = forge::config(random);
     let count = random.between(1, config.capacity);
-    let mut buffers = circling(random, config, count, Beside::Nothing);
+    let mut buffers = circling(random, &config, count, Beside::Nothing);
     comparison.drain(70_000, &mut buffers)?;
     Ok(())
 }
@@ -862,7 +851,7 @@ fn circles_long(comparison: &mut Comparison, random: &mut Random) -> Outcome {
 fn every_reason(
     comparison: &mut Comparison,
     random: &mut Random,
-    config: Config,
+    config: &Config,
     count: u64,
 ) -> Outcome {
     let session = config.any_session(random) as u8;
@@ -906,18 +895,12 @@ fn every_reason(
 /// Two sessions or more: the only one is named by every message.
 fn reopenings(comparison: &mut Comparison, random: &mut Random) -> Outcome {
     let drawn = forge::config(random);
-    let config = Config {
-        sessions: drawn.sessions.max(2),
-        ..drawn
-    };
+    let config = Config::plain(drawn.sessions.max(2), drawn.items, drawn.capacity);
     let count = Filling::draw(random).of(random, config.capacity);
-    every_reason(comparison, random, config, count)?;
-    let only = Config {
-        sessions: 1,
-        ..drawn
-    };
+    every_reason(comparison, random, &config, count)?;
+    let only = Config::plain(1, drawn.items, drawn.capacity);
     for stage in [SHRINKING, ROLLED_BACK] {
-        let mut buffers = reopenable(random, only, 0, 1, stage);
+        let mut buffers = reopenable(random, &only, 0, 1, stage);
         comparison.reopen(1, &mut buffers)?;
     }
     Ok(())
@@ -928,7 +911,7 @@ fn reopenings_largest(comparison: &mut Comparison, random: &mut Random) -> Outco
         1 => random.between(1, LARGEST.capacity),
         _ => 0,
     };
-    every_reason(comparison, random, LARGEST, LARGEST.capacity - room)
+    every_reason(comparison, random, &LARGEST, LARGEST.capacity - room)
 }
 
 /// The steps that send most: a request with all 64 probes; a clean, a release
@@ -941,7 +924,7 @@ fn many_sends(comparison: &mut Comparison, random: &mut Random) -> Outcome {
     };
     let room = random.between(0, 140);
     let count = config.capacity.saturating_sub(room);
-    let buffers = well_formed(random, config, count);
+    let buffers = well_formed(random, &config, count);
 
     let mut own = buffers.clone();
     let session = config.any_session(random);
@@ -986,7 +969,7 @@ fn everyone_waits(
     let item = LARGEST.any_item(random);
     let waiting = MAX_SESSIONS - usize::from(holder != 0);
     let record = buffers.item_mut(item as usize);
-    forge::set_item(random, LARGEST, record, holder, waiting);
+    forge::set_item(random, &LARGEST, record, holder, waiting);
     let ab = u8::from(kind == kind::CLEAN);
     let (route, body) = ([TO_ITEM, from, item as u8], [kind, ab, ab]);
     let mut first = buffers.clone();
@@ -1015,9 +998,9 @@ fn broken_forms(
     for way in breaks() {
         let config = config.unwrap_or_else(|| forge::config(random));
         let count = random.between(0, config.capacity);
-        let mut buffers = well_formed(random, config, count);
-        if way.apply(random, config, &mut buffers) {
-            refused(comparison, random, config, &mut buffers, way)?;
+        let mut buffers = well_formed(random, &config, count);
+        if way.apply(random, &config, &mut buffers) {
+            refused(comparison, random, &config, &mut buffers, way)?;
             comparison.coverage.broken(way.name);
         }
     }
@@ -1029,7 +1012,7 @@ fn broken_forms(
 fn refused(
     comparison: &mut Comparison,
     random: &mut Random,
-    config: Config,
+    config: &Config,
     buffers: &mut Buffers,
     way: &Break,
 ) -> Outcome {
@@ -1051,36 +1034,26 @@ fn refused(
 
 fn bad_ranks(comparison: &mut Comparison, random: &mut Random) -> Outcome {
     let drawn = forge::config(random);
-    let config = Config {
-        sessions: drawn.sessions.max(2),
-        ..drawn
-    };
-    every_bad_list(comparison, random, config)
+    let config = Config::plain(drawn.sessions.max(2), drawn.items, drawn.capacity);
+    every_bad_list(comparison, random, &config)
 }
 
 fn bad_ranks_largest(comparison: &mut Comparison, random: &mut Random) -> Outcome {
-    every_bad_list(comparison, random, LARGEST)
+    every_bad_list(comparison, random, &LARGEST)
 }
 
 /// Ranks broken in each way: in a table, at a start, and at a start beside a wrong
 /// size; then good ranks for another number of sessions.
-fn every_bad_list(comparison: &mut Comparison, random: &mut Random, config: Config) -> Outcome {
+fn every_bad_list(comparison: &mut Comparison, random: &mut Random, config: &Config) -> Outcome {
     for way in RANK_BREAKS {
         let count = random.between(0, config.capacity);
         let mut buffers = well_formed(random, config, count);
         way.apply(random, config, &mut buffers);
         refused(comparison, random, config, &mut buffers, way)?;
-        let bad = buffers.ranks();
-        let buffers = Buffers::filled(config, 0xA5);
-        refused_start(
-            comparison,
-            config,
-            bad,
-            buffers,
-            Refusal::BadRanks,
-            way.name,
-        )?;
-        bad_beside_size(comparison, random, config, bad)?;
+        let bad = config.with_ranks(buffers.ranks());
+        let filled = Buffers::filled(config, 0xA5);
+        refused_start(comparison, &bad, filled, Refusal::BadRanks, way.name)?;
+        bad_beside_size(comparison, random, &bad)?;
     }
     let sessions = config.sessions;
     let (less, more) = (random.between(1, sessions - 1), random.between(1, 40));
@@ -1094,28 +1067,31 @@ fn every_bad_list(comparison: &mut Comparison, random: &mut Random, config: Conf
         ("list too long by 256 or 65536", far_longer),
     ] {
         let buffers = Buffers::filled(config, 0xA5);
-        refused_start(comparison, config, &list, buffers, Refusal::BadSize, name)?;
+        let config = config.with_ranks(&list);
+        refused_start(comparison, &config, buffers, Refusal::BadSize, name)?;
     }
     Ok(())
 }
 
 /// Bad ranks at a start, in a list of a wrong length or beside another wrong size:
 /// 2 comes first.
-fn bad_beside_size(
-    comparison: &mut Comparison,
-    random: &mut Random,
-    config: Config,
-    bad: &[u8],
-) -> Outcome {
+fn bad_beside_size(comparison: &mut Comparison, random: &mut Random, bad: &Config) -> Outcome {
     let list = if random.one_in(2) {
-        [bad, &[0]].concat()
+        [bad.ranks, &[0]].concat()
     } else {
-        vec![0; bad.len() - 1]
+        vec![0; bad.ranks.len() - 1]
     };
-    let mut buffers = Buffers::filled(config, 0xA5);
+    let longer_or_shorter = bad.with_ranks(&list);
+    let mut buffers = Buffers::filled(bad, 0xA5);
     let (filled, name) = (buffers.clone(), "bad ranks in a list of a wrong length");
-    refused_start(comparison, config, &list, filled, Refusal::BadSize, name)?;
-    let mut other = config;
+    refused_start(
+        comparison,
+        &longer_or_shorter,
+        filled,
+        Refusal::BadSize,
+        name,
+    )?;
+    let mut other = *bad;
     match random.between(1, 4) {
         1 => buffers.table.push(0),
         2 => buffers.mail.truncate(buffers.mail.len() - 1),
@@ -1123,19 +1099,18 @@ fn bad_beside_size(
         _ => other.capacity -= 1,
     }
     let name = "bad ranks beside another wrong size";
-    refused_start(comparison, other, bad, buffers, Refusal::BadSize, name)
+    refused_start(comparison, &other, buffers, Refusal::BadSize, name)
 }
 
 /// A start that must be refused so.
 fn refused_start(
     comparison: &mut Comparison,
-    config: Config,
-    ranks: &[u8],
+    config: &Config,
     mut buffers: Buffers,
     refusal: Refusal,
     name: &'static str,
 ) -> Outcome {
-    let found = comparison.start(config, ranks, &mut buffers)?;
+    let found = comparison.start(config, &mut buffers)?;
     if found != refusal as u8 {
         return Err(format!("{name} is refused with {found}"));
     }
@@ -1155,7 +1130,7 @@ fn damaged(comparison: &mut Comparison, random: &mut Random) -> Outcome {
     for _ in 0..changes {
         damage(random, &mut buffers);
     }
-    let (mut verb, mut session, mut item) = any_call(random, config);
+    let (mut verb, mut session, mut item) = any_call(random, &config);
     if random.one_in(4) {
         session = odd_number(random, session, config.sessions);
     }
@@ -1227,19 +1202,17 @@ const _: () = assert!(
 );
 
 fn other_bounds(comparison: &mut Comparison, random: &mut Random) -> Outcome {
-    let config = Config {
-        sessions: random.between(MORE_SESSIONS + 1, LARGEST.sessions),
-        items: random.between(1, LARGEST.items - LESS_ITEMS),
-        capacity: random.between(1, 8),
-    };
+    let sessions = random.between(MORE_SESSIONS + 1, LARGEST.sessions);
+    let items = random.between(1, LARGEST.items - LESS_ITEMS);
+    let config = Config::plain(sessions, items, random.between(1, 8));
     let mut buffers = if random.one_in(2) {
-        fresh(comparison, random, config)?
+        fresh(comparison, random, &config)?
     } else {
-        well_formed(random, config, 0)
+        well_formed(random, &config, 0)
     };
     buffers.table[TABLE_SESSIONS] -= MORE_SESSIONS as u8;
     buffers.table[TABLE_ITEMS] += LESS_ITEMS as u8;
-    let (_, session, item) = any_call(random, config);
+    let (_, session, item) = any_call(random, &config);
     comparison.reopen(session, &mut buffers)?;
     comparison.step(REQUEST, session, item, &mut buffers)?;
     read(comparison, random, session, &buffers)?;
@@ -1250,7 +1223,7 @@ fn other_bounds(comparison: &mut Comparison, random: &mut Random) -> Outcome {
 /// Well-formed buffers and numbers that are seldom right.
 fn numbers(comparison: &mut Comparison, random: &mut Random) -> Outcome {
     let (config, mut buffers) = forged_buffers(random);
-    let (verb, session, item) = any_call(random, config);
+    let (verb, session, item) = any_call(random, &config);
     let odd_verb = odd_number(random, verb, LAST_VERB);
     let odd_session = odd_number(random, session, config.sessions);
     let odd_item = odd_number(random, item, config.items);
@@ -1267,15 +1240,15 @@ fn numbers(comparison: &mut Comparison, random: &mut Random) -> Outcome {
 fn starts(comparison: &mut Comparison, random: &mut Random) -> Outcome {
     let mut config = forge::config(random);
     if random.one_in(8) {
-        config.sessions = random.between(1, LARGEST.sessions);
-        config.items = random.between(1, LARGEST.items);
-        config.capacity = random.between(1, 300);
+        let sessions = random.between(1, LARGEST.sessions);
+        let items = random.between(1, LARGEST.items);
+        config = Config::plain(sessions, items, random.between(1, 300));
     }
     if random.one_in(60) {
         config = LARGEST;
     }
     let filler = random.between(0, 255) as u8;
-    let mut buffers = Buffers::filled(config, filler);
+    let mut buffers = Buffers::filled(&config, filler);
     let mut ranks = forge::ranks(random, config.sessions);
     match random.between(1, 9) {
         1 => config.sessions = odd_number(random, config.sessions, LARGEST.sessions),
@@ -1289,23 +1262,21 @@ fn starts(comparison: &mut Comparison, random: &mut Random) -> Outcome {
         }
         _ => {}
     }
-    comparison.start(config, &ranks, &mut buffers)?;
+    comparison.start(&config.with_ranks(&ranks), &mut buffers)?;
     // Bounds passed, and buffers of the length that would belong to them.
     if random.one_in(4) {
-        let mut config = Config::new(1, 1, 1);
-        match random.between(1, 6) {
-            1 => config.sessions = LARGEST.sessions + 1,
-            2 => config.items = LARGEST.items + 1,
-            3 => config.capacity = LARGEST.capacity + 1,
-            4 => config.sessions = 0,
-            5 => config.items = 0,
-            _ => config.capacity = 0,
-        }
-        let mut buffers = Buffers::filled(config, filler);
-        let ranks = Ranks::plain(config.sessions as usize);
-        comparison.start(config, ranks.bytes(), &mut buffers)?;
+        let config = match random.between(1, 6) {
+            1 => Config::plain(LARGEST.sessions + 1, 1, 1),
+            2 => Config::plain(1, LARGEST.items + 1, 1),
+            3 => Config::plain(1, 1, LARGEST.capacity + 1),
+            4 => Config::plain(0, 1, 1),
+            5 => Config::plain(1, 0, 1),
+            _ => Config::plain(1, 1, 0),
+        };
+        let mut buffers = Buffers::filled(&config, filler);
+        comparison.start(&config, &mut buffers)?;
         // The same numbers carried by the buffers.
-        buffers.set_numbers(config);
+        buffers.set_config(&config);
         comparison.step(REQUEST, 1, 1, &mut buffers)?;
         comparison.reopen(1, &mut buffers)?;
         read(comparison, random, 1, &buffers)?;
@@ -1318,17 +1289,17 @@ fn starts(comparison: &mut Comparison, random: &mut Random) -> Outcome {
 /// for the table, a report and a text; and where a session may be reopened, that.
 pub fn every_value(comparison: &mut Comparison) -> Outcome {
     let mut random = Random::new(0);
-    let config = Config::new(2, 2, 2);
+    let config = Config::plain(2, 2, 2);
     for count in 0..=config.capacity {
-        let buffers = well_formed(&mut random, config, count);
+        let buffers = well_formed(&mut random, &config, count);
         for place in 0..buffers.table.len() + buffers.mail.len() {
             for value in 0..=255 {
-                one_change(comparison, &mut random, config, &buffers, place, value)?;
+                one_change(comparison, &mut random, &config, &buffers, place, value)?;
             }
         }
     }
     for stage in [SHRINKING, ROLLED_BACK] {
-        let done = reopenable(&mut random, config, config.capacity, 2, stage);
+        let done = reopenable(&mut random, &config, config.capacity, 2, stage);
         for place in 0..done.table.len() + done.mail.len() {
             for value in 0..=255 {
                 comparison.reopen(2, &mut changed(&done, place, value))?;
@@ -1343,22 +1314,22 @@ pub fn every_place(comparison: &mut Comparison) -> Outcome {
     let mut random = Random::new(0);
     let (last_session, last_item) = (LARGEST.sessions, LARGEST.items);
     let configs = [
-        (Config::new(1, 1, 1), 1),
-        (Config::new(3, 5, 7), 4),
-        (Config::new(16, 15, 17), 16),
-        (Config::new(17, 33, 31), 15),
-        (Config::new(last_session - 1, last_item, 65), 32),
-        (Config::new(last_session, last_item - 1, 300), 299),
+        (Config::plain(1, 1, 1), 1),
+        (Config::plain(3, 5, 7), 4),
+        (Config::plain(16, 15, 17), 16),
+        (Config::plain(17, 33, 31), 15),
+        (Config::plain(last_session - 1, last_item, 65), 32),
+        (Config::plain(last_session, last_item - 1, 300), 299),
         (LARGEST, 64),
         (LARGEST, LARGEST.capacity - 6),
     ];
     for (config, count) in configs {
-        let buffers = well_formed(&mut random, config, count);
+        let buffers = well_formed(&mut random, &config, count);
         let session = config.any_session(&mut random);
-        let done = reopenable(&mut random, config, count, session as u8, ROLLED_BACK);
+        let done = reopenable(&mut random, &config, count, session as u8, ROLLED_BACK);
         for place in 0..buffers.table.len() + buffers.mail.len() {
             let value = random.between(1, 255) as u8;
-            one_change(comparison, &mut random, config, &buffers, place, value)?;
+            one_change(comparison, &mut random, &config, &buffers, place, value)?;
             // Often the session itself.
             let value = if random.one_in(2) {
                 session as u8
@@ -1386,7 +1357,7 @@ fn changed(buffers: &Buffers, place: usize, value: u8) -> Buffers {
 fn one_change(
     comparison: &mut Comparison,
     random: &mut Random,
-    config: Config,
+    config: &Config,
     buffers: &Buffers,
     place: usize,
     value: u8,

@@ -9,7 +9,7 @@ use model::layout::{
     HELD, MAIL_CAPACITY, MAIL_COUNT, MAIL_HEADER, QUEUE, QUEUE_LENGTH, ROUTE_ITEM, ROUTE_SESSION,
     ROUTE_SIZE, STAGE, TABLE_HEADER, TABLE_ITEMS, TABLE_SESSIONS,
 };
-use model::{Answer, Config, Cycle, Drained, Ranks, Text, ACCEPTED};
+use model::{Answer, Config, Cycle, Drained, Text, ACCEPTED};
 use std::fmt::Debug;
 
 /// The two buffers of a lock manager.
@@ -21,20 +21,19 @@ pub struct Buffers {
 
 impl Buffers {
     /// Buffers of the lengths that a start asks for, filled with one byte.
-    pub fn filled(config: Config, filler: u8) -> Buffers {
+    pub fn filled(config: &Config, filler: u8) -> Buffers {
         Buffers {
             table: vec![filler; config.table_length()],
             mail: vec![filler; config.mail_length()],
         }
     }
 
-    /// The numbers of a config and plain ranks, written where the buffers carry
-    /// them.
-    pub fn set_numbers(&mut self, config: Config) {
+    /// What the buffers carry of a config, written there.
+    pub fn set_config(&mut self, config: &Config) {
         self.table[TABLE_SESSIONS] = config.sessions as u8;
         self.table[TABLE_ITEMS] = config.items as u8;
         write_u16(&mut self.mail[MAIL_CAPACITY], config.capacity as usize);
-        self.set_ranks(Ranks::plain(config.sessions as usize).bytes());
+        self.set_ranks(config.ranks);
     }
 
     pub fn ranks(&self) -> &[u8] {
@@ -212,22 +211,19 @@ impl Comparison {
         same_bytes(call, before, "mail", &self.mail, &self.after.mail)
     }
 
-    pub fn start(
-        &mut self,
-        config: Config,
-        ranks: &[u8],
-        buffers: &mut Buffers,
-    ) -> Result<u8, String> {
+    pub fn start(&mut self, config: &Config, buffers: &mut Buffers) -> Result<u8, String> {
         self.load(buffers);
-        self.ranks.load(ranks);
+        self.ranks.load(config.ranks);
+        let lent = config.with_ranks(self.ranks.lent());
         let (table, mail) = (self.table.lent(), self.mail.lent());
-        let found = self.subject.start(config, self.ranks.lent(), table, mail);
+        let found = self.subject.start(&lent, table, mail);
         let after = &mut self.after;
-        let expected = model::start(config, ranks, &mut after.table, &mut after.mail);
-        let call = format!("start {config:?} with {} ranks", ranks.len());
+        let expected = model::start(config, &mut after.table, &mut after.mail);
+        let (numbers, ranks) = (config.numbers(), config.ranks.len());
+        let call = format!("start {numbers:?} with {ranks} ranks");
         same_answer(&call, buffers, found, expected)?;
         self.same_buffers(&call, buffers)?;
-        same_bytes(&call, buffers, "ranks", &self.ranks, ranks)?;
+        same_bytes(&call, buffers, "ranks", &self.ranks, config.ranks)?;
         self.coverage.start(config, buffers, expected);
         std::mem::swap(buffers, &mut self.after);
         Ok(expected)

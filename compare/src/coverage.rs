@@ -544,8 +544,8 @@ impl Coverage {
     /// A list of calls begins with an accepted start.
     pub fn started(&mut self, ranks: &Ranks) {
         let list = ranks.bytes();
-        let reversed = list.iter().rev().eq(Ranks::plain(list.len()).bytes());
-        let order = match (Ranks::is_plain(ranks.bytes()), reversed) {
+        let reversed = list.iter().rev().eq(Ranks::plain_list(list.len()));
+        let order = match (Ranks::is_plain(list), reversed) {
             (true, _) => 0,
             (false, true) => 1,
             (false, false) => 2,
@@ -616,9 +616,8 @@ impl Coverage {
         }
     }
 
-    pub(crate) fn start(&mut self, config: Config, before: &Buffers, refusal: u8) {
-        let numbers = [config.sessions, config.items, config.capacity];
-        self.count(START, refusal, &numbers, before);
+    pub(crate) fn start(&mut self, config: &Config, before: &Buffers, refusal: u8) {
+        self.count(START, refusal, &config.numbers(), before);
         if refusal == ACCEPTED && before.table.iter().chain(&before.mail).any(|&b| b != 0) {
             self.situations.hit("accepted start on used bytes");
         }

@@ -356,7 +356,7 @@ fn cycle_length(table: &[u8], size: Size, session: u8) -> u8 {
     0
 }
 
-pub fn start(config: Config, ranks: &[u8], table: &mut [u8], mail: &mut [u8]) -> u8 {
+pub fn start(config: &Config, table: &mut [u8], mail: &mut [u8]) -> u8 {
     let numbers = (
         within(config.sessions, MAX_SESSIONS),
         within(config.items, MAX_ITEMS),
@@ -365,11 +365,11 @@ pub fn start(config: Config, ranks: &[u8], table: &mut [u8], mail: &mut [u8]) ->
     let (Some(sessions), Some(items), Some(capacity)) = numbers else {
         return Refusal::BadSize as u8;
     };
-    let lengths = [table.len(), mail.len(), ranks.len()];
+    let lengths = [table.len(), mail.len(), config.ranks.len()];
     if lengths != [config.table_length(), config.mail_length(), sessions] {
         return Refusal::BadSize as u8;
     }
-    if !ranks_well_formed(ranks) {
+    if !ranks_well_formed(config.ranks) {
         return Refusal::BadRanks as u8;
     }
     table.fill(0);
@@ -379,7 +379,7 @@ pub fn start(config: Config, ranks: &[u8], table: &mut [u8], mail: &mut [u8]) ->
     for session in 1..=sessions {
         table[session_at(session)][STAGE] = GROWING;
     }
-    table[ranks_at(sessions, items)].copy_from_slice(ranks);
+    table[ranks_at(sessions, items)].copy_from_slice(config.ranks);
     write_u16(&mut mail[MAIL_CAPACITY], capacity);
     ACCEPTED
 }

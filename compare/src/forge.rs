@@ -13,30 +13,29 @@ use model::layout::{
 use model::scenario::Random;
 use model::{Config, Ranks, Refusal};
 
-/// What a start is given: mostly small numbers, so that messages and records
-/// often fit each other.
-pub fn config(random: &mut Random) -> Config {
+/// A plain config: mostly small numbers, so that messages and records often fit
+/// each other.
+pub fn config(random: &mut Random) -> Config<'static> {
     let number = |random: &mut Random, max| match random.between(1, 20) {
         1 => random.between(9, max),
         2..=5 => random.between(4, 8),
         _ => random.between(1, 3),
     };
-    Config {
-        sessions: number(random, Config::LARGEST.sessions),
-        items: number(random, Config::LARGEST.items),
-        capacity: match random.between(1, 10) {
-            1 => 1,
-            2 => 2,
-            3 => random.between(17, 100),
-            _ => random.between(3, 16),
-        },
-    }
+    let sessions = number(random, Config::LARGEST.sessions);
+    let items = number(random, Config::LARGEST.items);
+    let capacity = match random.between(1, 10) {
+        1 => 1,
+        2 => 2,
+        3 => random.between(17, 100),
+        _ => random.between(3, 16),
+    };
+    Config::plain(sessions, items, capacity)
 }
 
 /// Ranks for so many sessions: plain, reversed or in any order, which for few is
 /// often one of the two.
 pub fn ranks(random: &mut Random, sessions: u64) -> Vec<u8> {
-    let mut plain = Ranks::plain(sessions as usize).bytes().to_vec();
+    let mut plain = Ranks::plain_list(sessions as usize).to_vec();
     match random.between(1, if sessions > 8 { 3 } else { 6 }) {
         1 => plain,
         2 => {
@@ -77,10 +76,11 @@ impl Filling {
     }
 }
 
-/// Any well-formed buffers, with so many messages.
-pub fn well_formed(random: &mut Random, config: Config, messages: u64) -> Buffers {
+/// Any well-formed buffers with the numbers of a config, any ranks and so many
+/// messages.
+pub fn well_formed(random: &mut Random, config: &Config, messages: u64) -> Buffers {
     let mut buffers = Buffers::filled(config, 0);
-    buffers.set_numbers(config);
+    buffers.set_config(config);
     for session in 1..=config.sessions as usize {
         session_record(random, config, buffers.session_mut(session));
     }
@@ -100,7 +100,7 @@ pub fn well_formed(random: &mut Random, config: Config, messages: u64) -> Buffer
 const AWAITING: [u8; 3] = [WAITING, CLEANING, WITHDRAWING];
 const AT_REST: [u8; 3] = [GROWING, SHRINKING, ROLLED_BACK];
 
-fn session_record(random: &mut Random, config: Config, record: &mut [u8]) {
+fn session_record(random: &mut Random, config: &Config, record: &mut [u8]) {
     // Growing and waiting more often than the rest.
     let stage = match random.between(1, 9) as u8 {
         7 | 8 => WAITING,
@@ -133,7 +133,7 @@ fn session_record(random: &mut Random, config: Config, record: &mut [u8]) {
     }
 }
 
-fn item_record(random: &mut Random, config: Config, record: &mut [u8]) {
+fn item_record(random: &mut Random, config: &Config, record: &mut [u8]) {
     let holder = match random.between(1, 5) {
         1 => 0,
         _ => config.any_session(random),
@@ -144,7 +144,13 @@ fn item_record(random: &mut Random, config: Config, record: &mut [u8]) {
 }
 
 /// An item with this holder, or 0, for which so many others wait, in any order.
-pub fn set_item(random: &mut Random, config: Config, record: &mut [u8], holder: u8, length: usize) {
+pub fn set_item(
+    random: &mut Random,
+    config: &Config,
+    record: &mut [u8],
+    holder: u8,
+    length: usize,
+) {
     let others = (1..=config.sessions as u8).filter(|&session| session != holder);
     record.fill(0);
     record[HOLDER] = holder;
@@ -160,7 +166,7 @@ fn set_queue(record: &mut [u8], queue: &[u8]) {
 /// Well-formed buffers in which so many sessions wait in a cycle; one of them.
 /// They may stand in other queues too: in those of items that nobody holds, and
 /// of higher-numbered ones than the one at which they wait.
-pub fn cycle(random: &mut Random, config: Config, members: usize) -> (Buffers, u8) {
+pub fn cycle(random: &mut Random, config: &Config, members: usize) -> (Buffers, u8) {
     let mut buffers = well_formed(random, config, 0);
     let sessions = random.some_of((1..=config.sessions as u8).collect(), members);
     let items = random.some_of((1..=config.items as u8).collect(), members);
@@ -213,7 +219,7 @@ fn has_sessions(kind: u8) -> bool {
     matches!(kind, kind::PROBE | kind::CLEAN | kind::ABORT)
 }
 
-fn message(random: &mut Random, config: Config) -> ([u8; ROUTE_SIZE], [u8; BODY_SIZE]) {
+fn message(random: &mut Random, config: &Config) -> ([u8; ROUTE_SIZE], [u8; BODY_SIZE]) {
     let direction = if random.one_in(2) {
         TO_ITEM
     } else {
@@ -226,7 +232,7 @@ fn message(random: &mut Random, config: Config) -> ([u8; ROUTE_SIZE], [u8; BODY_
 }
 
 /// Any body that a message on this route can have.
-fn body(random: &mut Random, config: Config, route: [u8; ROUTE_SIZE]) -> [u8; BODY_SIZE] {
+fn body(random: &mut Random, config: &Config, route: [u8; ROUTE_SIZE]) -> [u8; BODY_SIZE] {
     let kinds = if route[DIRECTION] == TO_ITEM {
         KINDS_TO_ITEM
     } else {
@@ -253,7 +259,7 @@ pub enum Routes {
 }
 
 /// Any well-formed buffers with a full mail, half of which goes in one direction.
-pub fn full_mail(random: &mut Random, config: Config, routes: Routes) -> Buffers {
+pub fn full_mail(random: &mut Random, config: &Config, routes: Routes) -> Buffers {
     let mut buffers = well_formed(random, config, 0);
     buffers.set_count(config.capacity as usize);
     let one_session = config.any_session(random) as u8;
@@ -281,7 +287,7 @@ pub fn full_mail(random: &mut Random, config: Config, routes: Routes) -> Buffers
 /// where there is none, to another item or the other direction, with new bodies.
 pub fn clear_route(
     random: &mut Random,
-    config: Config,
+    config: &Config,
     buffers: &mut Buffers,
     route: [u8; ROUTE_SIZE],
     kept: Option<usize>,
@@ -408,7 +414,7 @@ pub fn named_by(buffers: &Buffers, place: usize, session: u8) -> Vec<Named> {
 /// there is none where it is the only one.
 pub fn reopenable(
     random: &mut Random,
-    config: Config,
+    config: &Config,
     messages: u64,
     session: u8,
     stage: u8,
@@ -447,19 +453,25 @@ pub fn reopenable(
 }
 
 /// Any session but this one. There must be another.
-fn other(random: &mut Random, config: Config, session: u8) -> u8 {
+fn other(random: &mut Random, config: &Config, session: u8) -> u8 {
     let steps = random.between(1, config.sessions - 1);
     ((u64::from(session) - 1 + steps) % config.sessions + 1) as u8
 }
 
 /// A session stores a probe that does not name it.
-pub fn store_other(random: &mut Random, config: Config, buffers: &mut Buffers, session: u8) {
+pub fn store_other(random: &mut Random, config: &Config, buffers: &mut Buffers, session: u8) {
     let [initiator, junior] = [0; 2].map(|_| other(random, config, session));
     buffers.session_mut(session.into())[JUNIORS][usize::from(initiator) - 1] = junior;
 }
 
 /// Names a session at one place more. There must be another session.
-pub fn name(random: &mut Random, config: Config, buffers: &mut Buffers, session: u8, named: Named) {
+pub fn name(
+    random: &mut Random,
+    config: &Config,
+    buffers: &mut Buffers,
+    session: u8,
+    named: Named,
+) {
     let [one, another] = [0; 2].map(|_| other(random, config, session));
     let item = config.any_item(random);
     match named {
@@ -524,7 +536,7 @@ pub enum Beside {
 
 /// Well-formed buffers with cleans that circle for ever: sessions 1 to n wait,
 /// each for an item that the next one holds.
-pub fn circling(random: &mut Random, config: Config, messages: u64, beside: Beside) -> Buffers {
+pub fn circling(random: &mut Random, config: &Config, messages: u64, beside: Beside) -> Buffers {
     let mut buffers = well_formed(random, config, messages);
     let n = random.between(1, config.sessions.min(config.items)) as u8;
     let holder = |item| item % n + 1;
@@ -569,7 +581,7 @@ pub struct Break {
 }
 
 impl Break {
-    pub fn apply(&self, random: &mut Random, config: Config, buffers: &mut Buffers) -> bool {
+    pub fn apply(&self, random: &mut Random, config: &Config, buffers: &mut Buffers) -> bool {
         (self.apply)(&mut Target {
             random,
             config,
@@ -605,7 +617,7 @@ enum Byte {
 /// whether it could.
 struct Target<'a> {
     random: &'a mut Random,
-    config: Config,
+    config: &'a Config<'a>,
     buffers: &'a mut Buffers,
 }
 

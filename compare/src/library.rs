@@ -172,9 +172,9 @@ impl Library {
     /// start of an earlier layout would be another function; a report is the same
     /// in every layout.
     fn takes_tables(&self) -> bool {
-        let config = Config::new(1, 1, 1);
-        let mut fresh = Buffers::filled(config, 0);
-        model::start(config, &[1], &mut fresh.table, &mut fresh.mail);
+        let config = Config::plain(1, 1, 1);
+        let mut fresh = Buffers::filled(&config, 0);
+        model::start(&config, &mut fresh.table, &mut fresh.mail);
         self.report(1, &fresh.table).refusal == ACCEPTED
     }
 
@@ -203,11 +203,12 @@ fn pointer(bytes: &mut [u8]) -> *mut u8 {
 }
 
 impl Calls for Library {
-    fn start(&self, config: Config, ranks: &[u8], table: &mut [u8], mail: &mut [u8]) -> u8 {
-        let Config {
+    fn start(&self, config: &Config, table: &mut [u8], mail: &mut [u8]) -> u8 {
+        let &Config {
             sessions,
             items,
             capacity,
+            ranks,
         } = config;
         // SAFETY: each pointer is good for its length, two `&mut` never overlap, and
         // the ranks are only read.

@@ -161,7 +161,7 @@ enum Wrong {
 /// Writes plain ranks into a table whose length is right.
 fn make_plain(table: &mut [u8]) {
     if let Some((sessions, items)) = Table::size(table) {
-        table[ranks_at(sessions, items)].copy_from_slice(Ranks::plain(sessions).bytes());
+        table[ranks_at(sessions, items)].copy_from_slice(Ranks::plain_list(sessions));
     }
 }
 
@@ -182,13 +182,13 @@ fn unseen<A>(wrong: bool, table: &mut [u8], call: impl FnOnce(&mut [u8]) -> A) -
 }
 
 impl Calls for Wrong {
-    fn start(&self, config: Config, ranks: &[u8], table: &mut [u8], mail: &mut [u8]) -> u8 {
+    fn start(&self, config: &Config, table: &mut [u8], mail: &mut [u8]) -> u8 {
         let last = mail.last().copied();
-        let counted = match self {
-            Wrong::NarrowRanks => ranks.len() & 255,
-            _ => ranks.len(),
+        let ranks = match self {
+            Wrong::NarrowRanks => &config.ranks[..config.ranks.len() & 255],
+            _ => config.ranks,
         };
-        let refusal = model::start(config, &ranks[..counted], table, mail);
+        let refusal = model::start(&config.with_ranks(ranks), table, mail);
         match (self, last) {
             (Wrong::ShortStart, Some(last)) => *mail.last_mut().unwrap() = last,
             (Wrong::PlainStart, _) if refusal == ACCEPTED => make_plain(table),

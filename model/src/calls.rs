@@ -151,19 +151,13 @@ fn number(given: u64, max: usize) -> Result<u8, Refusal> {
 }
 
 /// F-6: "Start now takes S ranks, one for each session."
-pub fn start(config: Config, ranks: &[u8], table: &mut [u8], mail: &mut [u8]) -> u8 {
-    start_as(Misreading::None, config, ranks, table, mail)
+pub fn start(config: &Config, table: &mut [u8], mail: &mut [u8]) -> u8 {
+    start_as(Misreading::None, config, table, mail)
 }
 
 /// A start by the rules, or by one misreading of them.
-pub fn start_as(
-    misreading: Misreading,
-    config: Config,
-    ranks: &[u8],
-    table: &mut [u8],
-    mail: &mut [u8],
-) -> u8 {
-    match try_start(misreading, config, ranks, table, mail) {
+pub fn start_as(misreading: Misreading, config: &Config, table: &mut [u8], mail: &mut [u8]) -> u8 {
+    match try_start(misreading, config, table, mail) {
         Ok(()) => ACCEPTED,
         Err(refusal) => refusal as u8,
     }
@@ -171,12 +165,11 @@ pub fn start_as(
 
 fn try_start(
     misreading: Misreading,
-    config: Config,
-    ranks: &[u8],
+    config: &Config,
     table: &mut [u8],
     mail: &mut [u8],
 ) -> Result<(), Refusal> {
-    let judged = Ranks::decode_as(misreading, ranks).ok_or(Refusal::BadRanks);
+    let judged = Ranks::decode_as(misreading, config.ranks).ok_or(Refusal::BadRanks);
     if misreading == Misreading::RanksFirst && judged.is_err() {
         return Err(Refusal::BadRanks);
     }
@@ -188,7 +181,7 @@ fn try_start(
         return Err(Refusal::BadSize);
     }
     // F-6: "A start list of the wrong length is 2"
-    if ranks.len() != sessions {
+    if config.ranks.len() != sessions {
         return Err(match misreading {
             Misreading::WrongLengthIs14 => Refusal::BadRanks,
             _ => Refusal::BadSize,

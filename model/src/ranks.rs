@@ -3,6 +3,17 @@
 use crate::layout::distinct;
 use crate::misreading::Misreading;
 
+/// The numbers of a byte, from 1 on.
+const NUMBERS: [u8; 255] = {
+    let mut numbers = [0; 255];
+    let mut k = 0;
+    while k < numbers.len() {
+        numbers[k] = k as u8 + 1;
+        k += 1;
+    }
+    numbers
+};
+
 /// The rank of each session. F-6: "the numbers 1 to S, with none missing and
 /// none twice; rank 1 is the most senior".
 #[derive(Clone, PartialEq, Eq, Debug)]
@@ -11,12 +22,20 @@ pub struct Ranks(Vec<u8>);
 impl Ranks {
     /// F-6: "rank k for session k".
     pub fn plain(sessions: usize) -> Ranks {
-        Ranks((1..=sessions as u8).collect())
+        Ranks(Ranks::plain_list(sessions).to_vec())
+    }
+
+    /// The list of these. It ends where a byte does.
+    pub const fn plain_list(sessions: usize) -> &'static [u8] {
+        match NUMBERS.split_at_checked(sessions) {
+            Some((list, _)) => list,
+            None => &NUMBERS,
+        }
     }
 
     /// Whether a list has these.
     pub fn is_plain(list: &[u8]) -> bool {
-        list == Ranks::plain(list.len()).bytes()
+        list == Ranks::plain_list(list.len())
     }
 
     /// The ranks of a list, if they are such numbers. S is the length of the

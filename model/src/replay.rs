@@ -5,7 +5,6 @@ use crate::calls::{start, step, Answer};
 use crate::config::Config;
 use crate::layout::{read_u16, within, MAX_CAPACITY, MAX_ITEMS, MAX_SESSIONS};
 use crate::mailbox::count;
-use crate::ranks::Ranks;
 use crate::table::{rolled_back, Table};
 
 /// "S and M (1 byte each), n (2 bytes, 0 to 4,096)".
@@ -53,12 +52,11 @@ fn run(input: &[u8]) -> Option<String> {
     }
     let (verbs, pairs) = rest.split_at(steps);
 
-    let config = Config::new(sessions as u64, items as u64, CAPACITY as u64);
+    // F-6: "rank k for session k", "and replay uses those ranks"
+    let config = Config::plain(sessions as u64, items as u64, CAPACITY as u64);
     let mut table = vec![0; config.table_length()];
     let mut mail = vec![0; config.mail_length()];
-    // F-6: "rank k for session k", "and replay uses those ranks"
-    let ranks = Ranks::plain(sessions);
-    start(config, ranks.bytes(), &mut table, &mut mail);
+    start(&config, &mut table, &mut mail);
     let mut tally = Tally::default();
     let mut output = String::new();
     for (index, (&verb, pair)) in (1..).zip(verbs.iter().zip(pairs.chunks(2))) {

@@ -57,12 +57,12 @@ impl Random {
     }
 }
 
-impl Config {
-    pub fn any_session(self, random: &mut Random) -> u64 {
+impl Config<'_> {
+    pub fn any_session(&self, random: &mut Random) -> u64 {
         random.between(1, self.sessions)
     }
 
-    pub fn any_item(self, random: &mut Random) -> u64 {
+    pub fn any_item(&self, random: &mut Random) -> u64 {
         random.between(1, self.items)
     }
 }
@@ -83,7 +83,7 @@ enum Schedule {
 }
 
 impl Schedule {
-    fn draw(random: &mut Random, config: Config) -> Schedule {
+    fn draw(random: &mut Random, config: &Config) -> Schedule {
         match random.between(1, 8) {
             1 => Schedule::OldestMessage,
             2 => Schedule::NewestMessage,
@@ -190,7 +190,8 @@ pub const DELIVERIES_BOUND: u64 = 5_000;
 /// One lock manager with its two buffers and the check of its list of calls.
 struct Desk {
     misreading: Misreading,
-    config: Config,
+    /// Plain; the ranks that were drawn stand in the table.
+    config: Config<'static>,
     wide: bool,
     plain: bool,
     /// How often each session was reopened, where the run reopens sessions.
@@ -236,22 +237,22 @@ impl Desk {
         } else {
             random.between(1, NARROW)
         };
-        let config = Config::new(sessions, items, capacity);
+        let config = Config::plain(sessions, items, capacity);
         let ranks = if random.one_in(8) {
-            Ranks::plain(sessions as usize)
+            config.ranks.to_vec()
         } else {
-            Ranks::decode(&random.order(sessions)).ok_or("no ranks")?
+            random.order(sessions)
         };
         let mut table = vec![0; config.table_length()];
         let mut mail = vec![0; config.mail_length()];
-        if start(config, ranks.bytes(), &mut table, &mut mail) != ACCEPTED {
+        if start(&config.with_ranks(&ranks), &mut table, &mut mail) != ACCEPTED {
             return Err("start is refused".to_string());
         }
         Ok(Desk {
             misreading,
             config,
             wide,
-            plain: Ranks::is_plain(ranks.bytes()),
+            plain: Ranks::is_plain(&ranks),
             reopened: None,
             table,
             mail,
@@ -284,7 +285,7 @@ impl Desk {
         let deliver_all_one_in = self.random.between(1, 6);
         let drain_one_in = self.random.between(40, 200);
         for _ in 0..bursts {
-            let schedule = Schedule::draw(&mut self.random, self.config);
+            let schedule = Schedule::draw(&mut self.random, &self.config);
             for _ in 0..self.random.between(5, 60) {
                 if self.random.one_in(50) {
                     self.any_step()?;
@@ -489,7 +490,7 @@ impl Desk {
 
     /// Deliveries alone, in the order of some schedule, until the mail is empty.
     fn deliver_all(&mut self) -> Result<(), String> {
-        let schedule = Schedule::draw(&mut self.random, self.config);
+        let schedule = Schedule::draw(&mut self.random, &self.config);
         let mut deliveries = 0;
         while count(&self.mail) != 0 {
             if deliveries == DELIVERIES_BOUND {

@@ -71,12 +71,12 @@ session 2 waits for item 1 held by session 1
 
 #[test]
 fn the_printed_example() {
-    let config = Config::new(2, 2, 8);
+    let config = Config::plain(2, 2, 8);
     let (mut table, mut mail) = (
         vec![0; config.table_length()],
         vec![0; config.mail_length()],
     );
-    start(config, Ranks::plain(2).bytes(), &mut table, &mut mail);
+    start(&config, &mut table, &mut mail);
     let steps = [
         (1, 1, 1),
         (1, 2, 2),

@@ -14,7 +14,7 @@ use model::mailbox::{kind, Body, Direction, Mailbox, Message, Route};
 use model::replay::MAX_STEPS;
 use model::session::Stage;
 use model::table::Table;
-use model::{replay, report, start, Config, Cycle, Ranks, Refusal, ACCEPTED};
+use model::{replay, report, start, Config, Cycle, Refusal, ACCEPTED};
 
 const PRINTED: &str = "\
 1 1 1 1 0 1 0 0 0
@@ -139,45 +139,44 @@ fn layout_in_figures() {
 /// With plain ranks; what other lists give is in tests/ranks.rs.
 #[test]
 fn start_refuses_sizes() {
-    let fits = |s: u64, m: u64, c: u64, table: usize, mail: usize| {
+    let fits = |config: &Config, table: usize, mail: usize| {
         let mut desk = Desk {
             table: vec![0xA5; table],
             mail: vec![0xA5; mail],
         };
         let before = desk.clone();
-        let config = Config::new(s, m, c);
-        let ranks = Ranks::plain(s.min(100) as usize);
-        let refusal = start(config, ranks.bytes(), &mut desk.table, &mut desk.mail);
+        let refusal = start(config, &mut desk.table, &mut desk.mail);
         assert!(refusal == ACCEPTED || refusal == Refusal::BadSize as u8);
         assert_eq!(desk == before, refusal != ACCEPTED);
         refusal == ACCEPTED
     };
-    let (table, mail) = (table_length(2, 3), mail_length(7));
-    assert!(fits(2, 3, 7, table, mail));
-    assert!(!fits(3, 2, 7, table, mail));
-    assert!(!fits(2, 3, 7, table - 1, mail));
-    assert!(!fits(2, 3, 7, table + 1, mail));
-    assert!(!fits(2, 3, 7, table, mail - 1));
-    assert!(!fits(2, 3, 7, table, mail + 1));
-    assert!(!fits(2, 3, 7, 0, 0));
-    for (sessions, items, capacity) in [
-        (2, 3, 0),
-        (2, 3, MAX_CAPACITY + 1),
-        (0, 3, 7),
-        (MAX_SESSIONS + 1, 3, 7),
-        (2, 0, 7),
-        (2, MAX_ITEMS + 1, 7),
+    let good = Config::plain(2, 3, 7);
+    let (table, mail) = (good.table_length(), good.mail_length());
+    assert!(fits(&good, table, mail));
+    assert!(!fits(&Config::plain(3, 2, 7), table, mail));
+    assert!(!fits(&good, table - 1, mail));
+    assert!(!fits(&good, table + 1, mail));
+    assert!(!fits(&good, table, mail - 1));
+    assert!(!fits(&good, table, mail + 1));
+    assert!(!fits(&good, 0, 0));
+    let largest = Config::LARGEST;
+    for config in [
+        Config::plain(2, 3, 0),
+        Config::plain(2, 3, largest.capacity + 1),
+        Config::plain(0, 3, 7),
+        Config::plain(largest.sessions + 1, 3, 7),
+        Config::plain(2, 0, 7),
+        Config::plain(2, largest.items + 1, 7),
     ] {
-        let (table, mail) = (table_length(sessions, items), mail_length(capacity));
-        let [s, m, c] = [sessions, items, capacity].map(|number| number as u64);
-        assert!(!fits(s, m, c, table, mail));
+        assert!(!fits(&config, config.table_length(), config.mail_length()));
     }
     // Nothing is cut off before it is judged.
-    let high = 1 << 32;
-    assert!(!fits(high + 2, 3, 7, table, mail));
-    assert!(!fits(2, (1 << 63) + 3, 7, table, mail));
-    assert!(!fits(2, 3, (1 << 16) + 7, table, mail));
-    assert!(!fits(u64::MAX, u64::MAX, u64::MAX, table, mail));
+    let (sessions, items, capacity) = ((1 << 32) + 2, (1 << 63) + 3, (1 << 16) + 7);
+    assert!(!fits(&Config { sessions, ..good }, table, mail));
+    assert!(!fits(&Config { items, ..good }, table, mail));
+    assert!(!fits(&Config { capacity, ..good }, table, mail));
+    let most = Config::plain(u64::MAX, u64::MAX, u64::MAX);
+    assert!(!fits(&most, table, mail));
 }
 
 #[test]

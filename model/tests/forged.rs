@@ -418,13 +418,9 @@ fn decoding_keeps_every_byte() {
         let capacity = random.between(1, 4) as usize;
         let mut table = vec![0; table_length(sessions, items)];
         let mut mail = vec![0; mail_length(capacity)];
-        let config = Config::new(sessions as u64, items as u64, capacity as u64);
-        start(
-            config,
-            &random.order(config.sessions),
-            &mut table,
-            &mut mail,
-        );
+        let ranks = random.order(sessions as u64);
+        let config = Config::plain(sessions as u64, items as u64, capacity as u64);
+        start(&config.with_ranks(&ranks), &mut table, &mut mail);
         // A few bytes behind the sizes and the capacity.
         for _ in 0..random.between(0, 4) {
             let place = random.between(TABLE_HEADER as u64, table.len() as u64 - 1) as usize;

@@ -7,7 +7,7 @@ use desk::{Desk, RELEASE, REQUEST, TO_ITEM, TO_SESSION};
 use model::calls::deliver_as;
 use model::demand3::Demand3;
 use model::item::Item;
-use model::layout::{mail_length, ranks_at, session_at, table_length, MAIL_COUNT, STAGE};
+use model::layout::{ranks_at, session_at, MAIL_COUNT, STAGE};
 use model::mailbox::{count, Body};
 use model::scenario::Random;
 use model::session::{Session, Stage};
@@ -37,7 +37,7 @@ fn of_rank(list: &[u8], rank: u8) -> u8 {
 /// Each of three sessions holds the item of its number and has asked for the
 /// next one.
 fn deadlock(list: [u8; 3]) -> Desk {
-    let mut desk = Desk::ranked(&list, 3, 64);
+    let mut desk = Desk::started(&Config::plain(3, 3, 64).with_ranks(&list));
     for session in 1..=3 {
         desk.sends(REQUEST, session, session, 1);
     }
@@ -116,7 +116,9 @@ fn the_text_begins_with_the_most_senior() {
 #[test]
 fn a_freed_item_goes_to_the_most_senior() {
     for list in ORDERS {
-        let mut desk = Desk::ranked(&[&list[..], &[4]].concat(), 1, 8).forged(|table| {
+        let four = [&list[..], &[4]].concat();
+        let config = Config::plain(4, 1, 8).with_ranks(&four);
+        let mut desk = Desk::started(&config).forged(|table| {
             table.sessions[3].held = 1;
             table.items[0] = Item {
                 holder: 4,
@@ -228,16 +230,18 @@ const LISTS: [(&[u8], u8); 16] = [
     (&[0, 4, 4], Refusal::BadRanks as u8),
 ];
 
-/// A start for three sessions and two items with so many bytes too many; a
-/// refused one leaves both buffers as they were.
-fn started(list: &[u8], capacity: u64, more_table: usize, more_mail: usize) -> (u8, Desk) {
+/// Three sessions and two items.
+const THREE: Config = Config::plain(3, 2, 4);
+
+/// A start on buffers for three sessions, with so many bytes too many; a refused
+/// one leaves both as they were.
+fn started(config: &Config, more_table: usize, more_mail: usize) -> (u8, Desk) {
     let before = Desk {
-        table: vec![0xA5; table_length(3, 2) + more_table],
-        mail: vec![0xA5; mail_length(4) + more_mail],
+        table: vec![0xA5; THREE.table_length() + more_table],
+        mail: vec![0xA5; THREE.mail_length() + more_mail],
     };
     let mut after = before.clone();
-    let config = Config::new(3, 2, capacity);
-    let refusal = start(config, list, &mut after.table, &mut after.mail);
+    let refusal = start(config, &mut after.table, &mut after.mail);
     assert_eq!(after == before, refusal != ACCEPTED);
     (refusal, after)
 }
@@ -245,14 +249,16 @@ fn started(list: &[u8], capacity: u64, more_table: usize, more_mail: usize) -> (
 #[test]
 fn start_judges_the_list_last() {
     for (list, refusal) in LISTS {
-        assert_eq!(started(list, 4, 0, 0).0, refusal, "{list:?}");
+        let config = THREE.with_ranks(list);
+        assert_eq!(started(&config, 0, 0).0, refusal, "{list:?}");
         // Another wrong size comes before the list.
         for (capacity, more_table, more_mail) in [(4, 1, 0), (4, 0, 1), (0, 0, 0), (5, 0, 0)] {
-            let (refusal, _) = started(list, capacity, more_table, more_mail);
+            let config = Config { capacity, ..config };
+            let (refusal, _) = started(&config, more_table, more_mail);
             assert_eq!(refusal, Refusal::BadSize as u8, "{list:?}");
         }
     }
-    let (_, desk) = started(&[2, 3, 1], 4, 0, 0);
+    let (_, desk) = started(&THREE.with_ranks(&[2, 3, 1]), 0, 0);
     let mut plain = Desk::new(3, 2, 4);
     plain.table[ranks_at(3, 2)].copy_from_slice(&[2, 3, 1]);
     assert_eq!(desk, plain);

@@ -11,7 +11,7 @@ use model::mailbox::{count, Body, Direction, Mailbox, Message, Route};
 use model::scenario::{run_reopening, Counts};
 use model::session::{Session, Stage};
 use model::table::Table;
-use model::{Misreading, Refusal, ACCEPTED};
+use model::{Config, Misreading, Refusal, ACCEPTED};
 
 /// The session that is reopened, and two others.
 const OWN: u8 = 2;
@@ -47,7 +47,8 @@ fn message(direction: Direction, session: u8, item: u8, body: Body) -> Message {
 /// other holders, waiting sessions and stored probes, and messages of others, some
 /// of them about item 2.
 fn done(stage: Stage) -> Desk {
-    let desk = Desk::ranked(&RANKS, ITEMS.into(), 16).forged(|table| {
+    let config = Config::plain(RANKS.len() as u64, ITEMS.into(), 16).with_ranks(&RANKS);
+    let desk = Desk::started(&config).forged(|table| {
         table.session_mut(ONE).held = 0b0101;
         table.session_mut(ONE).juniors[3] = 5;
         table.session_mut(OWN).stage = stage;
@@ -361,7 +362,7 @@ fn settles(desk: &mut Desk, demand3: &mut Demand3, steps: &[(u64, u64, u64)]) {
 #[test]
 fn rolled_back_again() {
     for (ranks, victim) in [([1, 2], 2), ([2, 1], 1)] {
-        let mut desk = Desk::ranked(&ranks, 2, 16);
+        let mut desk = Desk::started(&Config::plain(2, 2, 16).with_ranks(&ranks));
         let (fresh, mut demand3) = (desk.clone(), Demand3::default());
         for round in 1..=50 {
             settles(&mut desk, &mut demand3, &[(REQUEST, 1, 1), (REQUEST, 2, 2)]);

@@ -70,7 +70,7 @@ enum Table {
 /// S = M = n, with plain ranks. Session k holds item k. Session 1 is growing;
 /// session n waits for item 1, its request is still in the mail.
 fn fill_table(buffers: &mut Buffers, n: usize, contents: Table) {
-    buffers.set_ranks(Ranks::plain(n).bytes());
+    buffers.set_ranks(Ranks::plain_list(n));
     for session in 1..=n {
         let record = buffers.session_mut(session);
         let waits_for = match contents {
@@ -113,7 +113,7 @@ fn fill_table(buffers: &mut Buffers, n: usize, contents: Table) {
 /// Buffers with so many messages. In the middle of the mail stand the request
 /// of session n to item 1 and a probe (1, n) from item 2 to session n, alone on
 /// their routes.
-fn buffers(config: Config, count: u64, contents: Table) -> Buffers {
+fn buffers(config: &Config, count: u64, contents: Table) -> Buffers {
     let n = config.sessions as u8;
     let mut buffers = well_formed(&mut Random::new(7), config, count);
     fill_table(&mut buffers, n.into(), contents);
@@ -142,7 +142,7 @@ enum Order {
 
 /// The delivery of a release: it stands at this place of the mail, alone on its
 /// route. Session S gives up item 1, for which all others wait in this order.
-fn release(mut buffers: Buffers, config: Config, place: usize, order: Order) -> Row {
+fn release(mut buffers: Buffers, config: &Config, place: usize, order: Order) -> Row {
     let holder = config.sessions as u8;
     buffers.session_mut(holder.into()).fill(0);
     buffers.session_mut(holder.into())[STAGE] = SHRINKING;
@@ -173,22 +173,18 @@ fn release(mut buffers: Buffers, config: Config, place: usize, order: Order) -> 
 /// Small buffers with the longest queue: one item, for which all others wait, and
 /// its release as the only message. The 125 messages of a release that sends
 /// probes would fit too.
-const LONG_QUEUE: Config = Config {
-    sessions: LARGEST.sessions,
-    items: 1,
-    capacity: 128,
-};
+const LONG_QUEUE: Config = Config::plain(LARGEST.sessions, 1, 128);
 
 fn long_queue_rows() -> Vec<Row> {
-    let mut buffers = Buffers::filled(LONG_QUEUE, 0);
-    buffers.set_numbers(LONG_QUEUE);
+    let mut buffers = Buffers::filled(&LONG_QUEUE, 0);
+    buffers.set_config(&LONG_QUEUE);
     for session in 1..=LONG_QUEUE.sessions as usize {
         let record = buffers.session_mut(session);
         record[STAGE] = WAITING;
         record[AWAITED] = 1;
     }
     buffers.set_count(1);
-    let row = |order| release(buffers.clone(), LONG_QUEUE, 0, order);
+    let row = |order| release(buffers.clone(), &LONG_QUEUE, 0, order);
     vec![
         row(Order::MostSeniorInFront),
         row(Order::MostSeniorAtTheEnd),
@@ -212,14 +208,14 @@ fn search_rows() -> Vec<Row> {
     let last = LARGEST.capacity as usize - 1;
     let row = |name, routes, place: Option<usize>| {
         let mut random = Random::new(7);
-        let mut buffers = full_mail(&mut random, LARGEST, routes);
+        let mut buffers = full_mail(&mut random, &LARGEST, routes);
         fill_table(&mut buffers, LARGEST.sessions as usize, Table::Light);
         let item = buffers.route(last / 2)[ROUTE_ITEM];
         let route = [TO_SESSION, session as u8, item];
         if let Some(place) = place {
             buffers.set_message(place, route, [kind::WITHDRAWN, 0, 0]);
         }
-        clear_route(&mut random, LARGEST, &mut buffers, route, place);
+        clear_route(&mut random, &LARGEST, &mut buffers, route, place);
         Row {
             name,
             call: Call::Step(DELIVER_TO_SESSION, session, item.into()),
@@ -246,7 +242,7 @@ fn search_rows() -> Vec<Row> {
 
 /// Texts of cycles, and none for a session that waits for none. Where the table is
 /// full, sessions 1 and 2 wait for each other, and session S for none.
-fn text_rows(config: Config) -> Vec<Row> {
+fn text_rows(config: &Config) -> Vec<Row> {
     let row = |name, session, contents| Row {
         name,
         call: Call::CycleText(session),
@@ -268,16 +264,12 @@ fn text_rows(config: Config) -> Vec<Row> {
 }
 
 /// Two sessions and two items.
-const SMALL: Config = Config {
-    sessions: 2,
-    items: 2,
-    capacity: 16,
-};
+const SMALL: Config = Config::plain(2, 2, 16);
 
 /// Reopenings of the last session in buffers drawn at random, which do not name it.
 /// With a full mail also one that is refused: the last message is a probe of which
 /// the session is the junior.
-fn reopen_rows(config: Config, count: u64) -> Vec<Row> {
+fn reopen_rows(config: &Config, count: u64) -> Vec<Row> {
     let session = config.sessions as u8;
     let row = |name, stage| Row {
         name,
@@ -299,7 +291,7 @@ fn reopen_rows(config: Config, count: u64) -> Vec<Row> {
     rows
 }
 
-fn rows(config: Config, count: u64) -> Vec<Row> {
+fn rows(config: &Config, count: u64) -> Vec<Row> {
     let n = config.sessions;
     let full = count == config.capacity;
     let contents = if full { Table::Full } else { Table::Light };
@@ -478,10 +470,9 @@ struct DrainRow {
 /// A lock manager from its start: the sessions of each list ask for an item, and
 /// before the next list all mail is delivered.
 fn reached(lists: &[&[(u64, u64)]]) -> Buffers {
-    let mut buffers = Buffers::filled(LARGEST, 0);
+    let mut buffers = Buffers::filled(&LARGEST, 0);
     let Buffers { table, mail } = &mut buffers;
-    let ranks = Ranks::plain(LARGEST.sessions as usize);
-    let refusal = Model.start(LARGEST, ranks.bytes(), table, mail);
+    let refusal = Model.start(&LARGEST, table, mail);
     assert_eq!(refusal, ACCEPTED);
     for requests in lists {
         Model.drain(u64::MAX, table, mail);
@@ -506,7 +497,7 @@ fn drain_rows() -> Vec<DrainRow> {
     // Forged, since hardly any list of steps leaves so many messages: half of the
     // sessions wait, and the messages are of every kind. In a drain of 1,000 the
     // places behind the last message run out three times.
-    let many = buffers(LARGEST, 4000, Table::Light);
+    let many = buffers(&LARGEST, 4000, Table::Light);
     let row = |name, limit, buffers: &Buffers| DrainRow {
         name,
         limit,
@@ -671,35 +662,36 @@ fn bench(libraries: &Libraries) {
     let mut missed = 0;
     let largest = (LARGEST.sessions, LARGEST.capacity);
     for (n, capacity) in [(8, 64), (16, 256), largest] {
-        let config = Config::new(n, n, capacity);
-        header(config, libraries);
+        let config = Config::plain(n, n, capacity);
+        header(&config, libraries);
         let mut counts = vec![0, capacity / 8, capacity];
         if n == LARGEST.sessions {
             counts.insert(1, 64);
         }
         for count in counts {
-            print(count, rows(config, count), libraries, &mut missed);
+            print(count, rows(&config, count), libraries, &mut missed);
         }
-        print(0, text_rows(config), libraries, &mut missed);
+        print(0, text_rows(&config), libraries, &mut missed);
     }
-    header(LONG_QUEUE, libraries);
+    header(&LONG_QUEUE, libraries);
     print(1, long_queue_rows(), libraries, &mut missed);
-    header(LARGEST, libraries);
+    header(&LARGEST, libraries);
     print(LARGEST.capacity, search_rows(), libraries, &mut missed);
     for count in [0, LARGEST.capacity] {
-        print(count, reopen_rows(LARGEST, count), libraries, &mut missed);
+        print(count, reopen_rows(&LARGEST, count), libraries, &mut missed);
     }
-    header(SMALL, libraries);
-    print(0, reopen_rows(SMALL, 0), libraries, &mut missed);
+    header(&SMALL, libraries);
+    print(0, reopen_rows(&SMALL, 0), libraries, &mut missed);
     print_drains(libraries, &mut missed);
     println!("\n{missed} targets missed.");
 }
 
-fn header(config: Config, libraries: &Libraries) {
+fn header(config: &Config, libraries: &Libraries) {
     let Config {
         sessions,
         items,
         capacity,
+        ..
     } = config;
     let bytes = config.table_length() + config.mail_length();
     println!("\nS = {sessions}, M = {items}, C = {capacity}: {bytes} bytes");

@@ -47,9 +47,9 @@ impl Beside {
 }
 
 impl Calls for Beside {
-    fn start(&self, config: Config, ranks: &[u8], table: &mut [u8], mail: &mut [u8]) -> u8 {
+    fn start(&self, config: &Config, table: &mut [u8], mail: &mut [u8]) -> u8 {
         self.ask("start", table, mail, |lib, table, mail| {
-            let refusal = lib.start(config, ranks, table, mail);
+            let refusal = lib.start(config, table, mail);
             (refusal, refusal)
         })
     }

@@ -10,7 +10,7 @@ use model::replay::{CAPACITY, MAX_STEPS};
 use model::scenario::Random;
 use model::session::Stage;
 use model::table::Table;
-use model::{Config, Ranks, Refusal, Verb, ACCEPTED};
+use model::{Config, Refusal, Verb, ACCEPTED};
 use std::process::ExitCode;
 
 const RUNS: u64 = 520;
@@ -47,11 +47,10 @@ struct Recorder {
 
 impl Recorder {
     fn new(sessions: usize, items: usize) -> Recorder {
-        let config = Config::new(sessions as u64, items as u64, CAPACITY as u64);
+        let config = Config::plain(sessions as u64, items as u64, CAPACITY as u64);
         let mut table = vec![0; config.table_length()];
         let mut mail = vec![0; config.mail_length()];
-        let ranks = Ranks::plain(sessions);
-        let refusal = model::start(config, ranks.bytes(), &mut table, &mut mail);
+        let refusal = model::start(&config, &mut table, &mut mail);
         assert_eq!(refusal, ACCEPTED);
         Recorder {
             sessions,

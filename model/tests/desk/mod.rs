@@ -1,7 +1,7 @@
 //! What the tests of the calls share.
 
 use model::table::Table;
-use model::{drain, reopen, start, step, Answer, Config, Drained, Ranks, Refusal, Verb, ACCEPTED};
+use model::{drain, reopen, start, step, Answer, Config, Drained, Refusal, Verb, ACCEPTED};
 
 pub const REQUEST: u64 = Verb::Request as u64;
 pub const RELEASE: u64 = Verb::Release as u64;
@@ -16,18 +16,17 @@ pub struct Desk {
 }
 
 impl Desk {
-    /// With plain ranks.
+    /// A plain one.
     pub fn new(sessions: u64, items: u64, capacity: u64) -> Desk {
-        Desk::ranked(Ranks::plain(sessions as usize).bytes(), items, capacity)
+        Desk::started(&Config::plain(sessions, items, capacity))
     }
 
-    pub fn ranked(ranks: &[u8], items: u64, capacity: u64) -> Desk {
-        let config = Config::new(ranks.len() as u64, items, capacity);
+    pub fn started(config: &Config) -> Desk {
         let mut desk = Desk {
             table: vec![0xA5; config.table_length()],
             mail: vec![0xA5; config.mail_length()],
         };
-        let refusal = start(config, ranks, &mut desk.table, &mut desk.mail);
+        let refusal = start(config, &mut desk.table, &mut desk.mail);
         assert_eq!(refusal, ACCEPTED);
         desk
     }
