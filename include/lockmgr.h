@@ -462,15 +462,20 @@ enum lockmgr_verb {
 };
 
 /*
- * Why a call was refused. The causes are judged in this order and the first
- * that holds is answered. All other fields of a refused answer are 0, and the
- * buffers are as they were.
+ * Why a call was refused: the first cause that holds is answered. All other
+ * fields of a refused answer are 0, and the buffers are as they were.
  *
- * lockmgr_start gives only 2 and 14; lockmgr_step gives 1 to 9; lockmgr_drain
- * gives only 2, 3 and 4; lockmgr_reopen gives only 2 to 5 and 15;
- * lockmgr_report gives only 2, 3 and 5; lockmgr_cycle_text gives only 2, 3, 5,
- * 10 and 11. No call gives 12 or 13: they are what the statement program prints
- * in place of a statement.
+ * Each call judges its own causes, and in its own order; the numbers tell none:
+ *
+ *   lockmgr_start        2, 14
+ *   lockmgr_step         1, 2, 3, 4, 5, 6, 7, 8, 9
+ *   lockmgr_drain        2, 3, 4
+ *   lockmgr_reopen       2, 3, 4, 5, 15
+ *   lockmgr_report       2, 3, 5
+ *   lockmgr_cycle_text   2, 3, 5, 10, 11
+ *
+ * No call gives 12 or 13: they are what the statement program prints in place
+ * of a statement, 12 where both hold.
  */
 enum lockmgr_refusal {
     /* The call was accepted. */

@@ -128,6 +128,30 @@ static manager with_mail(manager m, buffer mail)
 
 /* ---- Calls, each with a look at what a refusal leaves ------------------- */
 
+/* The causes of the calls, in the order in which they are judged: RULES 8.0. */
+static const unsigned start_order[] = {LOCKMGR_BAD_SIZE, LOCKMGR_BAD_RANKS};
+static const unsigned step_order[] = {
+    LOCKMGR_BAD_VERB,   LOCKMGR_BAD_SIZE,   LOCKMGR_BAD_TABLE,
+    LOCKMGR_BAD_MAIL,   LOCKMGR_BAD_NUMBER, LOCKMGR_WRONG_STAGE,
+    LOCKMGR_WRONG_ITEM, LOCKMGR_NO_MESSAGE, LOCKMGR_MAIL_FULL,
+};
+static const unsigned drain_order[] = {LOCKMGR_BAD_SIZE, LOCKMGR_BAD_TABLE, LOCKMGR_BAD_MAIL};
+static const unsigned reopen_order[] = {
+    LOCKMGR_BAD_SIZE, LOCKMGR_BAD_TABLE, LOCKMGR_BAD_MAIL, LOCKMGR_BAD_NUMBER, LOCKMGR_IN_USE,
+};
+static const unsigned report_order[] = {LOCKMGR_BAD_SIZE, LOCKMGR_BAD_TABLE, LOCKMGR_BAD_NUMBER};
+
+static int is_given(unsigned refusal, const unsigned *causes, size_t count)
+{
+    for (size_t k = 0; k < count; k++)
+        if (causes[k] == refusal)
+            return 1;
+    return refusal == LOCKMGR_ACCEPTED;
+}
+
+/* 1 if a call with these causes can answer so. */
+#define GIVES(causes, refusal) is_given(refusal, causes, LENGTH(causes))
+
 /* What start is given. */
 typedef struct {
     uint64_t sessions, items, capacity;
@@ -141,8 +165,7 @@ static unsigned start_with_ranks(config c, buffer ranks, manager m)
                                      m.table.bytes, m.table.length, m.mail.bytes, m.mail.length);
     calls++;
     accepted += refusal == LOCKMGR_ACCEPTED;
-    CHECK(refusal == LOCKMGR_ACCEPTED || refusal == LOCKMGR_BAD_SIZE ||
-          refusal == LOCKMGR_BAD_RANKS);
+    CHECK(GIVES(start_order, refusal));
     if (refusal != LOCKMGR_ACCEPTED)
         CHECK(same(m, before));
     CHECK(equal(ranks, ranks_before));
@@ -174,7 +197,7 @@ static lockmgr_answer step(uint64_t verb, uint64_t session, uint64_t item, manag
     lockmgr_answer answer = lockmgr_step(verb, session, item, m.table.bytes, m.table.length,
                                          m.mail.bytes, m.mail.length);
     calls++;
-    CHECK(answer.refusal <= LOCKMGR_MAIL_FULL);
+    CHECK(GIVES(step_order, answer.refusal));
     if (answer.refusal != LOCKMGR_ACCEPTED) {
         CHECK(!answer.sent && !answer.closed && !answer.victim && !answer.initiator);
         CHECK(same(m, before));
@@ -228,8 +251,7 @@ static lockmgr_drained drain(uint64_t limit, manager m)
     lockmgr_drained drained =
         lockmgr_drain(limit, m.table.bytes, m.table.length, m.mail.bytes, m.mail.length);
     calls++;
-    CHECK(drained.refusal == LOCKMGR_ACCEPTED || drained.refusal == LOCKMGR_BAD_SIZE ||
-          drained.refusal == LOCKMGR_BAD_TABLE || drained.refusal == LOCKMGR_BAD_MAIL);
+    CHECK(GIVES(drain_order, drained.refusal));
     if (drained.refusal != LOCKMGR_ACCEPTED) {
         CHECK(drained.made == 0 && drained.ending == 0);
         CHECK(same(m, stepped));
@@ -264,8 +286,7 @@ static unsigned reopen(uint64_t session, manager m)
         lockmgr_reopen(session, m.table.bytes, m.table.length, m.mail.bytes, m.mail.length);
     allow(m.mail, PROT_READ | PROT_WRITE);
     calls++;
-    CHECK(refusal == LOCKMGR_ACCEPTED || refusal == LOCKMGR_IN_USE ||
-          (refusal >= LOCKMGR_BAD_SIZE && refusal <= LOCKMGR_BAD_NUMBER));
+    CHECK(GIVES(reopen_order, refusal));
     if (refusal == LOCKMGR_ACCEPTED) {
         uint8_t *record = expected.table.bytes + LOCKMGR_SESSION_PLACE(session);
         accepted++;
@@ -325,8 +346,7 @@ static lockmgr_cycle report(uint64_t session, buffer table)
     lockmgr_cycle cycle = lockmgr_report(session, table.bytes, table.length);
     calls++;
     accepted += cycle.refusal == LOCKMGR_ACCEPTED;
-    CHECK(cycle.refusal == LOCKMGR_ACCEPTED || cycle.refusal == LOCKMGR_BAD_SIZE ||
-          cycle.refusal == LOCKMGR_BAD_TABLE || cycle.refusal == LOCKMGR_BAD_NUMBER);
+    CHECK(GIVES(report_order, cycle.refusal));
     CHECK(cycle.length <= LOCKMGR_MAX_SESSIONS);
     CHECK(cycle.refusal == LOCKMGR_ACCEPTED || cycle.length == 0);
     texts(session, table, cycle);

@@ -32,36 +32,12 @@ const REUSED_AT_LEAST: u64 = 2_000;
 
 /// The calls and the refusals that each can give.
 const CALLS: [(&str, &[Refusal]); 6] = [
-    ("start", &[Refusal::BadSize, Refusal::BadRanks]),
-    ("step", Refusal::ALL.split_at(Refusal::MailFull as usize).0),
-    (
-        "report",
-        &[Refusal::BadSize, Refusal::BadTable, Refusal::BadNumber],
-    ),
-    (
-        "drain",
-        &[Refusal::BadSize, Refusal::BadTable, Refusal::BadMail],
-    ),
-    (
-        "cycle text",
-        &[
-            Refusal::BadSize,
-            Refusal::BadTable,
-            Refusal::BadNumber,
-            Refusal::NoCycle,
-            Refusal::ShortBuffer,
-        ],
-    ),
-    (
-        "reopen",
-        &[
-            Refusal::BadSize,
-            Refusal::BadTable,
-            Refusal::BadMail,
-            Refusal::BadNumber,
-            Refusal::InUse,
-        ],
-    ),
+    ("start", &Refusal::START_ORDER),
+    ("step", &Refusal::STEP_ORDER),
+    ("report", &Refusal::REPORT_ORDER),
+    ("drain", &Refusal::DRAIN_ORDER),
+    ("cycle text", &Refusal::TEXT_ORDER),
+    ("reopen", &Refusal::REOPEN_ORDER),
 ];
 
 const START: usize = 0;
@@ -72,7 +48,7 @@ const CYCLE_TEXT: usize = 4;
 const REOPEN: usize = 5;
 
 /// Refusals by their number and, first, an accepted call. No call gives 12 and 13.
-const ANSWERS: usize = Refusal::InUse as usize + 1;
+const ANSWERS: usize = Refusal::LAST as usize + 1;
 
 /// The numbers that some call answers.
 fn answers() -> impl Iterator<Item = usize> {

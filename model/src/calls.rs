@@ -61,7 +61,8 @@ pub struct Text {
     pub length: u16,
 }
 
-/// Why a call is refused (01: turned back), in the order of the causes.
+/// Why a call is refused (01: turned back), by number. The numbers tell no order:
+/// the causes of a call are judged in the order of its list below.
 #[derive(Clone, Copy, PartialEq, Eq, Debug)]
 #[repr(u8)]
 pub enum Refusal {
@@ -107,6 +108,50 @@ impl Refusal {
         Refusal::NoCycle,
         Refusal::ShortBuffer,
         Refusal::BadRanks,
+        Refusal::InUse,
+    ];
+
+    /// The greatest number.
+    pub const LAST: Refusal = Refusal::ALL[Refusal::ALL.len() - 1];
+
+    /// F-6: "A bad list gives 14 at start, after 2".
+    pub const START_ORDER: [Refusal; 2] = [Refusal::BadSize, Refusal::BadRanks];
+
+    /// As the table of causes in 01 has them.
+    pub const STEP_ORDER: [Refusal; 9] = [
+        Refusal::BadVerb,
+        Refusal::BadSize,
+        Refusal::BadTable,
+        Refusal::BadMail,
+        Refusal::BadNumber,
+        Refusal::WrongStage,
+        Refusal::WrongItem,
+        Refusal::NoMessage,
+        Refusal::MailFull,
+    ];
+
+    /// It "reads the table alone and gives only 2, 3, 5".
+    pub const REPORT_ORDER: [Refusal; 3] =
+        [Refusal::BadSize, Refusal::BadTable, Refusal::BadNumber];
+
+    /// F-2: "only 2, 3 and 4 of 01 apply to it, before any delivery".
+    pub const DRAIN_ORDER: [Refusal; 3] = [Refusal::BadSize, Refusal::BadTable, Refusal::BadMail];
+
+    /// F-4: "Refusals 2, 3 and 5 come first, then 10 [..] and 11".
+    pub const TEXT_ORDER: [Refusal; 5] = [
+        Refusal::BadSize,
+        Refusal::BadTable,
+        Refusal::BadNumber,
+        Refusal::NoCycle,
+        Refusal::ShortBuffer,
+    ];
+
+    /// F-7: "15, after 2 to 5".
+    pub const REOPEN_ORDER: [Refusal; 5] = [
+        Refusal::BadSize,
+        Refusal::BadTable,
+        Refusal::BadMail,
+        Refusal::BadNumber,
         Refusal::InUse,
     ];
 }
