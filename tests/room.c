@@ -183,9 +183,9 @@ static int drain(order next)
 }
 
 /* A request or a release, then a drain. */
-static int call_and_drain(unsigned verb, unsigned session, unsigned item, order next)
+static int call_and_drain(unsigned verb, unsigned rank, unsigned item, order next)
 {
-    return call(verb, session, item) == LOCKMGR_ACCEPTED && drain(next);
+    return call(verb, rank, item) == LOCKMGR_ACCEPTED && drain(next);
 }
 
 /* Whatever its limit, a drain makes no delivery and ends with this. */
@@ -231,8 +231,8 @@ static int release_with_long_queue(unsigned capacity)
 {
     start(S, 1, capacity);
     CHECK(call_and_drain(LOCKMGR_REQUEST, S, 1, oldest));
-    for (unsigned session = S - 1; session >= 1; session--)
-        CHECK(call_and_drain(LOCKMGR_REQUEST, session, 1, oldest));
+    for (unsigned rank = S - 1; rank >= 1; rank--)
+        CHECK(call_and_drain(LOCKMGR_REQUEST, rank, 1, oldest));
     CHECK(call(LOCKMGR_RELEASE, S, 1) == LOCKMGR_ACCEPTED);
     CHECK(count() == 1);
     return drain(oldest);
@@ -254,8 +254,8 @@ static void test_not_jammed(void)
 {
     start(S, 2, S - 2);
     CHECK(call_and_drain(LOCKMGR_REQUEST, S, 1, oldest));
-    for (unsigned session = S - 1; session >= 2; session--)
-        CHECK(call_and_drain(LOCKMGR_REQUEST, session, 1, oldest));
+    for (unsigned rank = S - 1; rank >= 2; rank--)
+        CHECK(call_and_drain(LOCKMGR_REQUEST, rank, 1, oldest));
     CHECK(call(LOCKMGR_RELEASE, S, 1) == LOCKMGR_ACCEPTED);
     CHECK(call(LOCKMGR_REQUEST, 1, 2) == LOCKMGR_ACCEPTED);
     check_stopped(LOCKMGR_DRAIN_FULL);
@@ -299,18 +299,18 @@ static void test_passed_over(void)
     start(S, M, CAPACITY);
     for (unsigned item = 1; item < AWAITED; item++)
         CHECK(call_and_drain(LOCKMGR_REQUEST, HUB, item, oldest));
-    for (unsigned session = 1; session < INITIATOR; session++)
-        CHECK(call_and_drain(LOCKMGR_REQUEST, session, session + 1, oldest));
+    for (unsigned rank = 1; rank < INITIATOR; rank++)
+        CHECK(call_and_drain(LOCKMGR_REQUEST, rank, rank + 1, oldest));
     CHECK(call_and_drain(LOCKMGR_REQUEST, INITIATOR, AWAITED, oldest));
     CHECK(call_and_drain(LOCKMGR_REQUEST, HUB, AWAITED, oldest));
-    for (unsigned session = HUB + 1; session <= S; session++) {
-        CHECK(call(LOCKMGR_REQUEST, session, session) == LOCKMGR_ACCEPTED);
+    for (unsigned rank = HUB + 1; rank <= S; rank++) {
+        CHECK(call(LOCKMGR_REQUEST, rank, rank) == LOCKMGR_ACCEPTED);
         CHECK(deliver_all_but_pumped());
-        CHECK(call(LOCKMGR_REQUEST, INITIATOR, session) == LOCKMGR_ACCEPTED);
+        CHECK(call(LOCKMGR_REQUEST, INITIATOR, rank) == LOCKMGR_ACCEPTED);
         CHECK(deliver_all_but_pumped());
-        CHECK(call(LOCKMGR_REQUEST, session, 1) == LOCKMGR_ACCEPTED);
-        CHECK(deliver_all_but_pumped() == (session < S));
-        CHECK(count() == 31 * (session - HUB) + (session == S));
+        CHECK(call(LOCKMGR_REQUEST, rank, 1) == LOCKMGR_ACCEPTED);
+        CHECK(deliver_all_but_pumped() == (rank < S));
+        CHECK(count() == 31 * (rank - HUB) + (rank == S));
     }
     CHECK(count() == CAPACITY && jammed());
     CHECK(lockmgr_report(ranked(HUB), table, table_len).length == 3);
@@ -325,17 +325,17 @@ static void test_passed_over(void)
  * its victim stands behind the resends. */
 static unsigned calls; /* steps and reopenings of this pump */
 
-static void makes(unsigned verb, unsigned session, unsigned item)
+static void makes(unsigned verb, unsigned rank, unsigned item)
 {
     calls++;
-    CHECK(call(verb, session, item) == LOCKMGR_ACCEPTED);
+    CHECK(call(verb, rank, item) == LOCKMGR_ACCEPTED);
 }
 
 /* A request that is delivered. */
-static void asks(unsigned session, unsigned item)
+static void asks(unsigned rank, unsigned item)
 {
-    makes(LOCKMGR_REQUEST, session, item);
-    makes(LOCKMGR_DELIVER_TO_ITEM, session, item);
+    makes(LOCKMGR_REQUEST, rank, item);
+    makes(LOCKMGR_DELIVER_TO_ITEM, rank, item);
 }
 
 /* One turn: the holder of item 1 gives it to the other, and is reopened. */
@@ -369,8 +369,8 @@ static void test_turns(void)
         }
         CHECK(count() == turn);
     }
-    for (unsigned session = 2; session >= 1; session--) {
-        asks(session, 2);
+    for (unsigned rank = 2; rank >= 1; rank--) {
+        asks(rank, 2);
         makes(LOCKMGR_DELIVER_TO_SESSION, 3, 2); /* its probe, */
         makes(LOCKMGR_DELIVER_TO_ITEM, 3, 1);    /* which session 3 sends on */
     }
@@ -417,8 +417,8 @@ static int worst_oldest_first(unsigned capacity)
     int fits = 1;
     start(S, M, capacity);
     fits &= call_and_drain(LOCKMGR_REQUEST, S - 1, 1, oldest);
-    for (unsigned session = 1; session <= S - 2; session++)
-        fits &= call_and_drain(LOCKMGR_REQUEST, session, 1, oldest);
+    for (unsigned rank = 1; rank <= S - 2; rank++)
+        fits &= call_and_drain(LOCKMGR_REQUEST, rank, 1, oldest);
     fits &= call_and_drain(LOCKMGR_REQUEST, S, 2, oldest);
     fits &= call_and_drain(LOCKMGR_REQUEST, S, 1, oldest);
     for (unsigned item = 3; item <= M; item++)
@@ -435,9 +435,9 @@ static int worst_any_order(unsigned capacity)
     for (unsigned item = 2; item <= M; item++)
         fits &= call_and_drain(LOCKMGR_REQUEST, 2, item, spreading_last);
     fits &= call_and_drain(LOCKMGR_REQUEST, S - 1, 1, spreading_last);
-    for (unsigned session = 1; session <= S - 2; session++)
-        if (session != 2)
-            fits &= call_and_drain(LOCKMGR_REQUEST, session, 1, spreading_last);
+    for (unsigned rank = 1; rank <= S - 2; rank++)
+        if (rank != 2)
+            fits &= call_and_drain(LOCKMGR_REQUEST, rank, 1, spreading_last);
     fits &= call_and_drain(LOCKMGR_REQUEST, S, 2, spreading_last);
     return fits & call_and_drain(LOCKMGR_REQUEST, 2, 1, spreading_last);
 }
@@ -449,8 +449,8 @@ static int worst_calls_at_any_time(unsigned capacity)
     start(S, M, capacity);
     for (unsigned item = 1; item <= M; item++)
         fits &= call_and_drain(LOCKMGR_REQUEST, S, item, oldest);
-    for (unsigned session = S - 1; session >= 1; session--)
-        fits &= call(LOCKMGR_REQUEST, session, 1) == LOCKMGR_ACCEPTED;
+    for (unsigned rank = S - 1; rank >= 1; rank--)
+        fits &= call(LOCKMGR_REQUEST, rank, 1) == LOCKMGR_ACCEPTED;
     fits &= call(LOCKMGR_RELEASE, S, 1) == LOCKMGR_ACCEPTED;
     for (unsigned item = 2; item <= M; item++) {
         fits &= deliver(0) == LOCKMGR_ACCEPTED;
@@ -466,8 +466,8 @@ static int worst_reopened(unsigned capacity, order next)
 {
     int fits = 1;
     start(S, M, capacity);
-    for (unsigned session = S - 1; session >= 1; session--)
-        fits &= call_and_drain(LOCKMGR_REQUEST, session, 1, next);
+    for (unsigned rank = S - 1; rank >= 1; rank--)
+        fits &= call_and_drain(LOCKMGR_REQUEST, rank, 1, next);
     for (unsigned item = 2; fits && item <= M; item++) {
         fits &= call_and_drain(LOCKMGR_REQUEST, S, item, next);
         fits &= call_and_drain(LOCKMGR_REQUEST, S, 1, next);
@@ -492,13 +492,13 @@ static int worst_reopened_any_order(unsigned capacity)
 static void reopen_all(void)
 {
     for (unsigned round = 0; round < S; round++) {
-        for (unsigned session = 1; session <= S; session++) {
+        for (unsigned rank = 1; rank <= S; rank++) {
             for (unsigned item = 1; item <= M; item++)
-                if (lockmgr_stage(table, ranked(session)) != LOCKMGR_WAITING &&
-                    lockmgr_holds(table, ranked(session), item))
-                    CHECK(call_and_drain(LOCKMGR_RELEASE, session, item, oldest));
-            if (lockmgr_finished(table, ranked(session)))
-                CHECK(reopen(session) == LOCKMGR_ACCEPTED);
+                if (lockmgr_stage(table, ranked(rank)) != LOCKMGR_WAITING &&
+                    lockmgr_holds(table, ranked(rank), item))
+                    CHECK(call_and_drain(LOCKMGR_RELEASE, rank, item, oldest));
+            if (lockmgr_finished(table, ranked(rank)))
+                CHECK(reopen(rank) == LOCKMGR_ACCEPTED);
         }
     }
     CHECK(memcmp(table, started_table, table_len) == 0);
@@ -530,8 +530,8 @@ static void test_long_drain(void)
 {
     start(S, M, ENOUGH);
     for (unsigned turn = 0; turn < 2; turn++) {
-        for (unsigned session = 1; session <= S; session++)
-            CHECK(call(LOCKMGR_REQUEST, session, (session - 1 + turn) % M + 1) == LOCKMGR_ACCEPTED);
+        for (unsigned rank = 1; rank <= S; rank++)
+            CHECK(call(LOCKMGR_REQUEST, rank, (rank - 1 + turn) % M + 1) == LOCKMGR_ACCEPTED);
         CHECK(drain(oldest));
     }
     CHECK(delivered == 8198);
@@ -548,21 +548,21 @@ static unsigned reopened;
 static void random_call(unsigned sessions, unsigned items)
 {
     for (unsigned k = 0; k < 8; k++) {
-        unsigned session = between(1, sessions), item = between(1, items);
-        unsigned stage = lockmgr_stage(table, ranked(session));
-        int held = lockmgr_holds(table, ranked(session), item);
-        if (lockmgr_finished(table, ranked(session))) {
-            unsigned refusal = reopen(session);
+        unsigned rank = between(1, sessions), item = between(1, items);
+        unsigned stage = lockmgr_stage(table, ranked(rank));
+        int held = lockmgr_holds(table, ranked(rank), item);
+        if (lockmgr_finished(table, ranked(rank))) {
+            unsigned refusal = reopen(rank);
             CHECK(refusal == LOCKMGR_ACCEPTED || (refusal == LOCKMGR_IN_USE && count() > 0));
             reopened += refusal == LOCKMGR_ACCEPTED;
             return;
         }
         if (stage == LOCKMGR_GROWING && !held) {
-            CHECK(call(LOCKMGR_REQUEST, session, item) == LOCKMGR_ACCEPTED);
+            CHECK(call(LOCKMGR_REQUEST, rank, item) == LOCKMGR_ACCEPTED);
             return;
         }
         if (held && (stage == LOCKMGR_SHRINKING || between(1, 10) == 1)) {
-            unsigned refusal = call(LOCKMGR_RELEASE, session, item);
+            unsigned refusal = call(LOCKMGR_RELEASE, rank, item);
             CHECK(refusal == LOCKMGR_ACCEPTED || refusal == LOCKMGR_WRONG_STAGE);
             return;
         }
