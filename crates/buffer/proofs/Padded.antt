@@ -4,7 +4,7 @@ use mathlib.Core.List.{List, _++_, append-assoc}
 use Prim.Native.Nat.{ℕ, zero, suc, _+_, _-_, _≤_}
 use native.Mathlib.Nat.{add-assoc}
 use native.Mathlib.Omega.{arith}
-use lib.ListN.{length, take, drop, replicate, length-append, length-drop, length-replicate}
+use lib.ListN.{length, take, drop, replicate, length-append, length-drop, length-replicate, replicate-append-replicate}
 use lib.Seq.{take-append-add, drop-append-add, take-append-le, drop-append-le, take-at, drop-at, take-length}
 use Rattle.buffer.specs.Bytes.{slice, splice, padded}
 
@@ -29,6 +29,13 @@ drop-zeros (suc k) (suc n) = let e : suc n - suc k ≡ n - k = omega arith in dr
 
 pub length-padded : (n : ℕ) (r : List ℕ) → length r ≤ n → length (padded n r) ≡ n
 length-padded n r h = rw (length-append, length-replicate) (omega arith)
+
+-- zeros at the end of a list are padding
+pub padded-zeros : (n : ℕ) (r : List ℕ) (k : ℕ) → length r + k ≤ n → padded n (r ++ replicate k 0) ≡ padded n r
+padded-zeros n r k h =
+    let len : length (r ++ replicate k 0) ≡ length r + k = length-append r (replicate k 0) ∙ ap (λ (j : ℕ). length r + j) (length-replicate k 0) in
+    let all : k + (n - length (r ++ replicate k 0)) ≡ n - length r = omega arith in
+    rw (append-assoc r (replicate k 0) (replicate (n - length (r ++ replicate k 0)) 0), replicate-append-replicate {A = ℕ} k (n - length (r ++ replicate k 0)) 0, all) refl
 
 -- the padding
 pub slice-padding : (n : ℕ) (r : List ℕ) (at k : ℕ) → at ≡ length r → k ≡ n - length r → slice (padded n r) at k ≡ replicate k 0

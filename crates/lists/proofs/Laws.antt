@@ -3,17 +3,17 @@ use mathlib.Core.Path.{_≡_, refl, sym, ap, _∙_}
 use mathlib.Core.Bool.{Bool, true, false, cond, not, _&&_, _||_, and-true, and-false, and-assoc, or-assoc, or-false, or-true, true≢false}
 use mathlib.Core.List.{List, [], _∷_, _++_, map, append-assoc, append-nil}
 use Prim.Native.Nat.{ℕ, zero, suc, _+_, _-_, _*_, _≤_, _<_, zero-le}
-use native.Mathlib.Nat.{add-zero}
+use native.Mathlib.Nat.{add-zero, mul-zero, mul-suc}
 use native.Mathlib.Numerals.{add-one}
 use native.Mathlib.Omega.{arith}
-use lib.Dec.{eqb, ltb, leb·zero, leb·suc-suc}
+use lib.Dec.{eqb, leb, ltb, leb·zero, leb·suc-suc}
 use lib.ListN.{length, getD, take, drop, set, replicate, length-append, length-drop, length-replicate, length-set, replicate-append-replicate, drop-of-length-le}
-use lib.Seq.{drop-cons, set-at, take-suc, ext-getD, getD-set-same, getD-set-other}
-use borrow.Author.Tests.{eqb-true, eqb-false, ne-eqb, not-true}
-use Rattle.lists.specs.Lists.{everyBelow, member, distinct, allOf, filter, findIndex, removeAt, tabulate}
+use lib.Seq.{drop-cons, drop-at, set-at, take-at, take-suc, ext-getD, getD-set-same, getD-set-other}
+use borrow.Author.Tests.{eqb-true, eqb-false, leb-true, leb-false, ne-eqb, not-true}
+use Rattle.lists.specs.Lists.{everyBelow, member, distinct, allOf, filter, findIndex, removeAt, tabulate, appendUpTo}
 use Rattle.lists.proofs.Tests.{and-both, and-intro, or-neither, by-test, eqb-sym, eqb-self}
 
--- ---- filter, findIndex, removeAt, tabulate
+-- ---- filter, findIndex, removeAt, tabulate, appendUpTo
 cond-findIndex : (t : Bool) (k n : ℕ) → k ≤ n → cond t 0 (suc k) ≤ suc n
 cond-findIndex true k n h = omega arith
 cond-findIndex false k n h = omega arith
@@ -123,6 +123,36 @@ module _ {A : Type 0} where
   unfolding tabulate
   tabulate-last zero f = refl
   tabulate-last (suc n) f = ap (λ (r : List A). f 0 ∷ r) (tabulate-last n (λ k. f (suc k)))
+
+-- parts of the same length, one behind the other
+module _ {A : Type 0} (f : ℕ → List A) (w : ℕ) (same : (k : ℕ) → length (f k) ≡ w) where
+  pub length-appendUpTo : (n : ℕ) → length (appendUpTo n f) ≡ w * n
+  unfolding appendUpTo
+  length-appendUpTo zero = sym (mul-zero w)
+  length-appendUpTo (suc n) =
+      omega (arith, length-append (appendUpTo n f) (f (suc n)), length-appendUpTo n, same (suc n), mul-suc w n)
+
+  -- part k, whatever follows
+  abbrev PartAt : ℕ → ℕ → Type 0
+  PartAt n k = (r : List A) → take w (drop (w * (k - 1)) (appendUpTo n f ++ r)) ≡ f k
+
+  one-more : (n k : ℕ) → k ≤ suc n → (k ≤ n → PartAt n k) → (b : Bool) → leb k n ≡ b → PartAt (suc n) k
+  unfolding appendUpTo
+  one-more n k h before true e r = rw (append-assoc (appendUpTo n f) (f (suc n)) r) (before (leb-true k n e) (f (suc n) ++ r))
+  one-more n k h before false e r =
+      let last : k ≡ suc n = omega (arith, leb-false k n e) in
+      let at : suc n - 1 ≡ n = omega arith in
+      rw (last, at, append-assoc (appendUpTo n f) (f (suc n)) r, drop-at (appendUpTo n f) (f (suc n) ++ r) (w * n) (length-appendUpTo n)) (take-at (f (suc n)) r w (same (suc n)))
+
+  pub appendUpTo-part : (n k : ℕ) → 1 ≤ k → k ≤ n → PartAt n k
+  appendUpTo-part zero k l h = absurd (omega arith)
+  appendUpTo-part (suc n) k l h = one-more n k h (appendUpTo-part n k l) (leb k n) refl
+
+pub appendUpTo-replicate : {A : Type 0} (n k : ℕ) (a : A) → appendUpTo n (λ _. replicate k a) ≡ replicate (k * n) a
+unfolding appendUpTo
+appendUpTo-replicate zero k a = rw (mul-zero) refl
+appendUpTo-replicate (suc n) k a =
+    rw (appendUpTo-replicate n k a, replicate-append-replicate (k * n) k a, mul-suc k n) refl
 
 module _ (n : ℕ) (f g : ℕ → ℕ) where
   pub tabulate-same : ((k : ℕ) → k < n → f k ≡ g k) → tabulate n f ≡ tabulate n g

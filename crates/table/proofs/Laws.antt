@@ -27,7 +27,7 @@ use Rattle.item.specs.declared.Item.{Item}
 use Rattle.item.specs.Record as ItemRecord
 use Rattle.item.proofs.Laws as ItemLaws
 use Rattle.item.proofs.WellFormed.{wellFormed-packed}
-use Rattle.table.specs.Layout.{header, sessionPlace, itemsStart, itemPlace, ranksPlace, size, sessionsOf, itemsOf, sized, session, withSession, item, withItem, ranks, senior, wellFormed}
+use Rattle.table.specs.Layout.{header, sessionStride, itemStride, sessionPlace, itemsStart, itemPlace, ranksPlace, size, sessionsOf, itemsOf, sized, session, withSession, item, withItem, ranks, senior, wellFormed, Config, configOf}
 
 -- what `sized` says: S and M are within their bounds, and the length is that of S and M
 pub record Sized (t : List ℕ) : Type 0 where
@@ -93,11 +93,11 @@ module _ (t : List ℕ) (k : ℕ) (l : 1 ≤ k) where
       in-form t ∙ rw (every-false (itemsOf t) (itemOk t) k l h e, and-false (every (sessionsOf t) (sessionOk t))) refl
 
 -- the record that the check looks at, places counted from 0
-pub session-here : (t : List ℕ) (k : ℕ) {S M : ℕ} → S ≡ sessionsOf t → M ≡ itemsOf t → SessionRecord.wellFormed S M (SessionRecord.sessionAt t (header + SessionRecord.size * k)) ≡ sessionOk t (suc k)
+pub session-here : (t : List ℕ) (k : ℕ) {S M : ℕ} → S ≡ sessionsOf t → M ≡ itemsOf t → SessionRecord.wellFormed S M (SessionRecord.sessionAt t (header + sessionStride * k)) ≡ sessionOk t (suc k)
 unfolding sessionOk session
 session-here t k p q = let e : suc k - 1 ≡ k = omega arith in rw (p, q, e) refl
 
-pub item-here : (t : List ℕ) (x : ℕ) {S from : ℕ} → S ≡ sessionsOf t → from ≡ itemsStart S → ItemRecord.wellFormed S (ItemRecord.itemAt t (from + ItemRecord.size * x)) ≡ itemOk t (suc x)
+pub item-here : (t : List ℕ) (x : ℕ) {S from : ℕ} → S ≡ sessionsOf t → from ≡ itemsStart S → ItemRecord.wellFormed S (ItemRecord.itemAt t (from + itemStride * x)) ≡ itemOk t (suc x)
 unfolding itemOk item
 item-here t x p q = let e : suc x - 1 ≡ x = omega arith in rw (q, p, e) refl
 
@@ -158,6 +158,9 @@ module _ (t : List ℕ) (at : ℕ) (l : List ℕ) (h : at + length l ≤ length 
   ranks-splice b =
       rw (sessionsOf-splice, itemsOf-splice) (slice-splice-after t at l h (ranksPlace (sessionsOf t) (itemsOf t)) (sessionsOf t) b)
 
+  configOf-splice : at + length l ≤ ranksPlace (sessionsOf t) (itemsOf t) → configOf (splice t at l) ≡ configOf t
+  configOf-splice b = rw (sessionsOf-splice, itemsOf-splice, ranks-splice b) refl
+
   sized-splice : sized (splice t at l) ≡ sized t
   unfolding sized
   sized-splice = rw (sessionsOf-splice, itemsOf-splice, length-splice t at l h) refl
@@ -182,13 +185,20 @@ module _ (t : List ℕ) (e : sized t ≡ true) where
     session-written : sessionPlace k + length (SessionRecord.sessionBytes s) ≤ length t
     session-written = rw (SessionLaws.length-bytes s j) (session-fits t e k l h)
 
-    pub sessionsOf-withSession : sessionsOf (withSession t k s) ≡ sessionsOf t
+    pub configOf-withSession : configOf (withSession t k s) ≡ configOf t
     unfolding withSession
-    sessionsOf-withSession = sessionsOf-splice t (sessionPlace k) (SessionRecord.sessionBytes s) session-written (omega arith)
+    configOf-withSession =
+        let len = SessionLaws.length-bytes s j in
+        configOf-splice t (sessionPlace k) (SessionRecord.sessionBytes s) session-written (omega arith) (omega arith)
+
+    pub sessionsOf-withSession : sessionsOf (withSession t k s) ≡ sessionsOf t
+    sessionsOf-withSession = ap (λ (c : Config). c .sessions) configOf-withSession
 
     pub itemsOf-withSession : itemsOf (withSession t k s) ≡ itemsOf t
-    unfolding withSession
-    itemsOf-withSession = itemsOf-splice t (sessionPlace k) (SessionRecord.sessionBytes s) session-written (omega arith)
+    itemsOf-withSession = ap (λ (c : Config). c .items) configOf-withSession
+
+    ranks-withSession : ranks (withSession t k s) ≡ ranks t
+    ranks-withSession = ap (λ (c : Config). c .ranks) configOf-withSession
 
     pub length-withSession : length (withSession t k s) ≡ length t
     unfolding withSession
@@ -197,13 +207,6 @@ module _ (t : List ℕ) (e : sized t ≡ true) where
     pub sized-withSession : sized (withSession t k s) ≡ true
     unfolding withSession
     sized-withSession = sized-splice t (sessionPlace k) (SessionRecord.sessionBytes s) session-written (omega arith) ∙ e
-
-    pub ranks-withSession : ranks (withSession t k s) ≡ ranks t
-    unfolding withSession
-    ranks-withSession =
-        let f = sized-facts t e in
-        let len = SessionLaws.length-bytes s j in
-        ranks-splice t (sessionPlace k) (SessionRecord.sessionBytes s) session-written (omega arith) (omega arith)
 
     pub session-withSession : s .held < 2 ^ 64 → session (withSession t k s) k ≡ s
     unfolding withSession session
@@ -246,13 +249,20 @@ module _ (t : List ℕ) (e : sized t ≡ true) where
     item-written : itemPlace (sessionsOf t) x + length (ItemRecord.itemBytes i) ≤ length t
     item-written = rw (ItemLaws.length-bytes i q) (item-fits t e x l h)
 
-    pub sessionsOf-withItem : sessionsOf (withItem t x i) ≡ sessionsOf t
+    pub configOf-withItem : configOf (withItem t x i) ≡ configOf t
     unfolding withItem
-    sessionsOf-withItem = sessionsOf-splice t (itemPlace (sessionsOf t) x) (ItemRecord.itemBytes i) item-written (omega arith)
+    configOf-withItem =
+        let len = ItemLaws.length-bytes i q in
+        configOf-splice t (itemPlace (sessionsOf t) x) (ItemRecord.itemBytes i) item-written (omega arith) (omega arith)
+
+    pub sessionsOf-withItem : sessionsOf (withItem t x i) ≡ sessionsOf t
+    sessionsOf-withItem = ap (λ (c : Config). c .sessions) configOf-withItem
 
     pub itemsOf-withItem : itemsOf (withItem t x i) ≡ itemsOf t
-    unfolding withItem
-    itemsOf-withItem = itemsOf-splice t (itemPlace (sessionsOf t) x) (ItemRecord.itemBytes i) item-written (omega arith)
+    itemsOf-withItem = ap (λ (c : Config). c .items) configOf-withItem
+
+    ranks-withItem : ranks (withItem t x i) ≡ ranks t
+    ranks-withItem = ap (λ (c : Config). c .ranks) configOf-withItem
 
     pub length-withItem : length (withItem t x i) ≡ length t
     unfolding withItem
@@ -261,12 +271,6 @@ module _ (t : List ℕ) (e : sized t ≡ true) where
     pub sized-withItem : sized (withItem t x i) ≡ true
     unfolding withItem
     sized-withItem = sized-splice t (itemPlace (sessionsOf t) x) (ItemRecord.itemBytes i) item-written (omega arith) ∙ e
-
-    pub ranks-withItem : ranks (withItem t x i) ≡ ranks t
-    unfolding withItem
-    ranks-withItem =
-        let len = ItemLaws.length-bytes i q in
-        ranks-splice t (itemPlace (sessionsOf t) x) (ItemRecord.itemBytes i) item-written (omega arith) (omega arith)
 
     -- an item of the new table is read at its place in the old one
     item-at : (y : ℕ) → item (withItem t x i) y ≡ ItemRecord.itemAt (withItem t x i) (itemPlace (sessionsOf t) y)

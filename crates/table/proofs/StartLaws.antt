@@ -1,21 +1,21 @@
 -- Laws of the table of a lock manager that starts.
 use mathlib.Core.Path.{_≡_, refl, sym, ap, _∙_}
 use mathlib.Core.Bool.{true}
-use mathlib.Core.List.{List, _∷_, _++_, append-assoc, append-nil}
-use Prim.Native.Nat.{ℕ, zero, suc, _+_, _-_, _*_, _^_, _≤_, _<_}
-use native.Mathlib.Nat.{add-comm, mul-zero, mul-suc}
+use mathlib.Core.List.{List, [], _∷_, _++_, append-assoc}
+use Prim.Native.Nat.{ℕ, suc, _+_, _-_, _*_, _^_, _≤_, _<_}
 use native.Mathlib.Numerals.{add-one}
 use native.Mathlib.Omega.{arith}
-use borrow.Author.Tests.{lt-ltb, le-leb, eq-eqb}
+use borrow.Author.Tests.{lt-ltb, eq-eqb}
 use lib.Dec.{eqb, leb, leb·zero}
-use lib.ListN.{length, take, drop, set, replicate, length-append, length-replicate, replicate-append-replicate, take-append-drop}
+use lib.ListN.{length, take, drop, set, replicate, length-append, take-append-drop}
 use lib.Pow.{pow-pos}
-use lib.Seq.{set-at, take-append-seam, drop-append-add, drop-drop, drop-at, take-all}
+use lib.Seq.{take-append-seam, take-take, drop-drop, drop-at, take-all}
 use Rattle.buffer.specs.Bytes.{slice, splice, padded}
-use Rattle.buffer.proofs.Laws.{padded-full}
-use Rattle.buffer.proofs.Padded.{splice-end}
-use Rattle.lists.specs.Lists.{member, distinct, allOf}
-use Rattle.lists.proofs.Laws.{all-drop, all-replicate, all-take}
+use Rattle.buffer.proofs.Laws.{put-padded, padded-full}
+use Rattle.buffer.proofs.Padded.{length-padded, padded-zeros, splice-end}
+use Rattle.lists.specs.Lists.{member, distinct, allOf, appendUpTo}
+use Rattle.lists.proofs.Tests.{between-intro}
+use Rattle.lists.proofs.Laws.{all-drop, all-replicate, all-take, length-appendUpTo, appendUpTo-part, appendUpTo-replicate}
 use Rattle.message.specs.Limits.{maxSessions, maxItems}
 use Rattle.session.specs.Record as SessionRecord
 use Rattle.session.specs.Seniority
@@ -23,36 +23,8 @@ use Rattle.session.specs.Stage
 use Rattle.session.proofs.Laws as SessionLaws
 use Rattle.item.specs.Record as ItemRecord
 use Rattle.item.proofs.Laws as ItemLaws
-use Rattle.table.specs.Layout.{header, sessionPlace, itemPlace, ranksPlace, size, sessionsOf, itemsOf, sized, session, item, ranks, wellFormed, repeated, started}
+use Rattle.table.specs.Layout.{header, sessionStride, itemStride, sessionPlace, itemsStart, itemPlace, ranksPlace, size, sessionsOf, itemsOf, sized, session, item, ranks, wellFormed, Config, configOf, Fitting, sessionTailOf, itemTailOf, startedSession, startedItem, started}
 use Rattle.table.proofs.Laws.{well-formed-intro}
-
-module _ (l : List ℕ) where
-  pub length-repeated : (n : ℕ) → length (repeated n l) ≡ length l * n
-  unfolding repeated
-  length-repeated zero = sym (mul-zero (length l))
-  length-repeated (suc n) = omega (arith, length-append l (repeated n l), length-repeated n, mul-suc (length l) n)
-
-  repeated-suc : (n : ℕ) → repeated (suc n) l ≡ repeated n l ++ l
-  unfolding repeated
-  repeated-suc zero = append-nil l
-  repeated-suc (suc n) = ap (λ (r : List ℕ). l ++ r) (repeated-suc n) ∙ sym (append-assoc l (repeated n l) l)
-
-  repeated-more : (n : ℕ) → repeated (n + 1) l ≡ repeated n l ++ l
-  repeated-more n = rw (add-one n) (repeated-suc n)
-
-  -- what stands behind k of n records
-  slice-repeated : (r : List ℕ) (k n : ℕ) → k < n → slice (repeated n l ++ r) (length l * k) (length l) ≡ l
-  unfolding repeated
-  slice-repeated r k zero h = absurd (omega arith)
-  slice-repeated r zero (suc n) h = rw (mul-zero, append-assoc l (repeated n l) r) (take-append-seam l (repeated n l ++ r))
-  slice-repeated r (suc k) (suc n) h =
-      rw (mul-suc, add-comm (length l * k) (length l), append-assoc l (repeated n l) r, drop-append-add l (repeated n l ++ r) (length l * k)) (slice-repeated r k n (omega arith))
-
-repeated-zeros : (k n : ℕ) → repeated n (replicate k 0) ≡ replicate (k * n) 0
-unfolding repeated
-repeated-zeros k zero = rw (mul-zero) refl
-repeated-zeros k (suc n) =
-    rw (repeated-zeros k n, replicate-append-replicate {A = ℕ} k (k * n) 0, mul-suc, add-comm (k * n) k) refl
 
 -- the bytes of a session and of an item of a lock manager that starts
 abbrev fresh : List ℕ
@@ -61,53 +33,86 @@ fresh = SessionRecord.sessionBytes SessionRecord.fresh
 abbrev free : List ℕ
 free = ItemRecord.itemBytes (ItemRecord.packed ItemRecord.free)
 
--- the table with k of its sessions written, all else zero
-abbrev pub begun : ℕ → ℕ → ℕ → List ℕ
-begun S M k = S ∷ M ∷ (repeated k fresh ++ replicate (SessionRecord.size * (S - k) + ItemRecord.size * M + S) 0)
+-- the head of part k of parts that all begin with it
+part-head : (head : List ℕ) (tail : ℕ → List ℕ) (w : ℕ) → ((k : ℕ) → length (head ++ tail k) ≡ w)
+    → (n k : ℕ) → 1 ≤ k → k ≤ n → (r : List ℕ) → slice (appendUpTo n (λ j. head ++ tail j) ++ r) (w * (k - 1)) (length head) ≡ head
+part-head head tail w same n k l h r =
+    sym (take-take (length head) w (drop (w * (k - 1)) (appendUpTo n (λ j. head ++ tail j) ++ r)) (omega (arith, same k, length-append head (tail k))))
+    ∙ ap (take (length head)) (appendUpTo-part (λ j. head ++ tail j) w same n k l h r)
+    ∙ take-append-seam head (tail k)
 
--- what stands before the ranks
-abbrev records : ℕ → ℕ → List ℕ
-records S M = S ∷ M ∷ (repeated S fresh ++ repeated M free)
+-- ---- what is written, part by part
+module _ (c : Config) where
+  abbrev S : ℕ
+  S = c .sessions
 
-module _ (S M : ℕ) where
-  pub begun-none : set (set (replicate (size S M) 0) 0 S) 1 M ≡ begun S M 0
-  unfolding repeated
+  abbrev M : ℕ
+  M = c .items
+
+  -- the first k sessions, and the first k items
+  abbrev sessionsUpTo : ℕ → List ℕ
+  sessionsUpTo k = appendUpTo k (startedSession c)
+
+  abbrev itemsUpTo : ℕ → List ℕ
+  itemsUpTo k = appendUpTo k (startedItem c)
+
+  length-sessions : (k : ℕ) → length (sessionsUpTo k) ≡ sessionStride * k
+  length-sessions = length-appendUpTo (startedSession c) sessionStride (λ k. refl)
+
+  length-items : (k : ℕ) → length (itemsUpTo k) ≡ itemStride * k
+  length-items = length-appendUpTo (startedItem c) itemStride (λ k. refl)
+
+  -- the table with k of its sessions written, all else zero
+  abbrev pub begun : ℕ → List ℕ
+  begun k = padded (size S M) (S ∷ M ∷ sessionsUpTo k)
+
+  -- what stands before the ranks
+  abbrev records : List ℕ
+  records = S ∷ M ∷ (sessionsUpTo S ++ itemsUpTo M)
+
+  pub begun-none : set (set (replicate (size S M) 0) 0 S) 1 M ≡ begun 0
+  unfolding appendUpTo
   begun-none =
-      let e : size S M ≡ suc (suc (SessionRecord.size * (S - 0) + ItemRecord.size * M + S)) = omega arith in rw (e) refl
+      let n : ℕ = sessionStride * S + itemStride * M + S in
+      let e : size S M ≡ suc (suc n) = omega arith in
+      let f : suc (suc n) - header ≡ n = omega arith in
+      rw (e, f) refl
 
-  pub length-begun : (k : ℕ) → k ≤ S → length (begun S M k) ≡ size S M
-  length-begun k h =
-      let R = repeated k fresh in
-      let z = SessionRecord.size * (S - k) + ItemRecord.size * M + S in
-      omega (arith, length-append R (replicate z 0), length-repeated fresh k, length-replicate {A = ℕ} z 0)
+  pub length-begun : (k : ℕ) → k ≤ S → length (begun k) ≡ size S M
+  length-begun k h = length-padded (size S M) (S ∷ M ∷ sessionsUpTo k) (omega (arith, length-sessions k))
 
-  pub begun-more : (k : ℕ) → k < S → set (begun S M k) (header + SessionRecord.size * k) Stage.growing ≡ begun S M (k + 1)
+  pub begun-more : (k : ℕ) → k < S → set (begun k) (header + sessionStride * k) Stage.growing ≡ begun (k + 1)
+  unfolding appendUpTo
   begun-more k h =
-      let R = repeated k fresh in
-      let z = SessionRecord.size * (S - (k + 1)) + ItemRecord.size * M + S in
-      let e : SessionRecord.size * (S - k) + ItemRecord.size * M + S ≡ suc (SessionRecord.size - 1 + z) = omega arith in
-      let len : length (S ∷ M ∷ R) ≡ header + SessionRecord.size * k = omega (arith, length-repeated fresh k) in
-      rw (e, repeated-more fresh k, append-assoc, ← replicate-append-replicate {A = ℕ} (SessionRecord.size - 1) z 0) (set-at (S ∷ M ∷ R) 0 (replicate (SessionRecord.size - 1) 0 ++ replicate z 0) 1 (header + SessionRecord.size * k) len)
+      let p : List ℕ = S ∷ M ∷ sessionsUpTo k in
+      let staged : List ℕ = p ++ (Stage.growing ∷ []) in
+      let len : length p ≡ header + sessionStride * k = omega (arith, length-sessions k) in
+      let more : length staged ≡ length p + 1 = length-append p (Stage.growing ∷ []) in
+      ap (λ (n : ℕ). set (begun k) n Stage.growing) (sym len)
+      ∙ put-padded (size S M) p Stage.growing (omega arith)
+      ∙ sym (padded-zeros (size S M) staged (sessionStride - 1) (omega arith))
+      ∙ ap (padded (size S M)) (append-assoc p (Stage.growing ∷ []) (replicate (sessionStride - 1) 0))
+      ∙ rw (add-one k) refl
 
-  records-length : length (records S M) ≡ ranksPlace S M
-  records-length = omega (arith, length-append (repeated S fresh) (repeated M free), length-repeated fresh S, length-repeated free M)
+  records-length : length records ≡ ranksPlace S M
+  records-length = omega (arith, length-append (sessionsUpTo S) (itemsUpTo M), length-sessions S, length-items M)
 
-  begun-all : begun S M S ≡ padded (size S M) (records S M)
+  begun-all : begun S ≡ padded (size S M) records
   begun-all =
-      let e : SessionRecord.size * (S - S) + ItemRecord.size * M + S ≡ ItemRecord.size * M + S = omega arith in
-      let n : size S M - length (records S M) ≡ S = omega (arith, records-length) in
-      rw (e, n, append-assoc (repeated S fresh) (repeated M free) (replicate S 0), repeated-zeros ItemRecord.size M, replicate-append-replicate {A = ℕ} (ItemRecord.size * M) S 0) refl
+      sym (padded-zeros (size S M) (S ∷ M ∷ sessionsUpTo S) (itemStride * M) (omega (arith, length-sessions S)))
+      ∙ ap (λ (l : List ℕ). padded (size S M) (S ∷ M ∷ (sessionsUpTo S ++ l))) (sym (appendUpTo-replicate M itemStride 0))
 
   -- and then the ranks
-  pub begun-ranks : (given : List ℕ) → length given ≡ S → splice (begun S M S) (ranksPlace S M) given ≡ started S M given
+  pub begun-ranks : Fitting c → splice (begun S) (ranksPlace S M) (c .ranks) ≡ started c
   unfolding started
-  begun-ranks given h =
-      let whole : length (records S M ++ given) ≡ size S M = omega (arith, length-append (records S M) given, records-length) in
+  begun-ranks f =
+      let given = c .ranks in
+      let whole : length (records ++ given) ≡ size S M = omega (arith, length-append records given, records-length, f .ranks-whole) in
       ap (λ (l : List ℕ). splice l (ranksPlace S M) given) begun-all
-      ∙ ap (λ (n : ℕ). splice (padded (size S M) (records S M)) n given) (sym records-length)
-      ∙ splice-end (size S M) (records S M) given (omega (arith, records-length))
-      ∙ padded-full (size S M) (records S M ++ given) whole
-      ∙ ap (λ (l : List ℕ). S ∷ M ∷ l) (append-assoc (repeated S fresh) (repeated M free) given)
+      ∙ ap (λ (n : ℕ). splice (padded (size S M) records) n given) (sym records-length)
+      ∙ splice-end (size S M) records given (omega (arith, records-length, f .ranks-whole))
+      ∙ padded-full (size S M) (records ++ given) whole
+      ∙ ap (λ (l : List ℕ). S ∷ M ∷ l) (append-assoc (sessionsUpTo S) (itemsUpTo M) given)
 
 -- writing what stands there already changes nothing
 splice-same : (t : List ℕ) (at : ℕ) (l : List ℕ) → slice t at (length l) ≡ l → splice t at l ≡ t
@@ -118,81 +123,87 @@ splice-same t at l e =
     ap (λ (r : List ℕ). l ++ r) (sym (drop-drop n at t)) ∙ ap (λ (r : List ℕ). r ++ drop n (drop at t)) (sym e) ∙ take-append-drop n (drop at t) in
     ap (λ (r : List ℕ). take at t ++ r) back ∙ take-append-drop at t
 
-module _ (S M : ℕ) (given : List ℕ) where
-  pub sessionsOf-started : sessionsOf (started S M given) ≡ S
+-- ---- what is read of it
+module _ (c : Config) (f : Fitting c) where
+  sessionsOf-started : sessionsOf (started c) ≡ c .sessions
   unfolding started
   sessionsOf-started = refl
 
-  pub itemsOf-started : itemsOf (started S M given) ≡ M
+  itemsOf-started : itemsOf (started c) ≡ c .items
   unfolding started
   itemsOf-started = refl
 
-  pub length-started : length given ≡ S → length (started S M given) ≡ size S M
+  length-started : length (started c) ≡ size (c .sessions) (c .items)
   unfolding started
-  length-started h =
-      omega (arith, h, length-append (repeated S fresh) (repeated M free ++ given), length-append (repeated M free) given, length-repeated fresh S, length-repeated free M)
+  length-started =
+      let a = sessionsUpTo c (c .sessions) in
+      let b = itemsUpTo c (c .items) in
+      omega (arith, f .ranks-whole, length-append a (b ++ c .ranks), length-append b (c .ranks), length-sessions c (c .sessions), length-items c (c .items))
 
-  pub sized-started : length given ≡ S → 1 ≤ S → S ≤ maxSessions → 1 ≤ M → M ≤ maxItems → sized (started S M given) ≡ true
+  pub sized-started : sized (started c) ≡ true
   unfolding sized
-  sized-started h a b c d =
-      rw (sessionsOf-started, itemsOf-started, le-leb 1 S a, le-leb S maxSessions b, le-leb 1 M c, le-leb M maxItems d, eq-eqb (length (started S M given)) (size S M) (length-started h)) refl
+  sized-started =
+      rw (sessionsOf-started, itemsOf-started, between-intro 1 maxSessions (c .sessions) (f .some-sessions) (f .max-sessions), between-intro 1 maxItems (c .items) (f .some-items) (f .max-items), eq-eqb (length (started c)) (size (c .sessions) (c .items)) length-started) refl
 
-  behind : (n : ℕ) → drop (header + n) (started S M given) ≡ drop n (repeated S fresh ++ (repeated M free ++ given))
+  behind : (n : ℕ) → drop (header + n) (started c) ≡ drop n (sessionsUpTo c (c .sessions) ++ (itemsUpTo c (c .items) ++ c .ranks))
   unfolding started
-  behind n = sym (drop-drop n header (started S M given))
+  behind n = sym (drop-drop n header (started c))
 
-  session-slice : (k : ℕ) → 1 ≤ k → k ≤ S → slice (started S M given) (sessionPlace k) SessionRecord.size ≡ fresh
-  session-slice k l h =
-      ap (take SessionRecord.size) (behind (SessionRecord.size * (k - 1))) ∙ slice-repeated fresh (repeated M free ++ given) (k - 1) S (omega arith)
+  -- behind the sessions
+  behind-sessions : (n : ℕ) → drop (itemsStart (c .sessions) + n) (started c) ≡ drop n (itemsUpTo c (c .items) ++ c .ranks)
+  behind-sessions n =
+      let a = sessionsUpTo c (c .sessions) in
+      sym (drop-drop n (itemsStart (c .sessions)) (started c))
+      ∙ ap (drop n) (behind (sessionStride * c .sessions) ∙ drop-at a (itemsUpTo c (c .items) ++ c .ranks) (sessionStride * c .sessions) (length-sessions c (c .sessions)))
 
-  item-slice : (x : ℕ) → 1 ≤ x → x ≤ M → slice (started S M given) (itemPlace S x) ItemRecord.size ≡ free
-  item-slice x l h =
-      let sessions : drop (header + SessionRecord.size * S) (started S M given) ≡ repeated M free ++ given =
-      behind (SessionRecord.size * S) ∙ drop-at (repeated S fresh) (repeated M free ++ given) (SessionRecord.size * S) (length-repeated fresh S) in
-      ap (take ItemRecord.size) (sym (drop-drop (ItemRecord.size * (x - 1)) (header + SessionRecord.size * S) (started S M given)) ∙ ap (drop (ItemRecord.size * (x - 1))) sessions)
-      ∙ slice-repeated free given (x - 1) M (omega arith)
-
-  pub session-started : length given ≡ S → (k : ℕ) → 1 ≤ k → k ≤ S → session (started S M given) k ≡ SessionRecord.fresh
+  pub session-started : (k : ℕ) → 1 ≤ k → k ≤ c .sessions → session (started c) k ≡ SessionRecord.fresh
   unfolding session
-  session-started w k l h =
-      let t = started S M given in
+  session-started k l h =
+      let t = started c in
       let at = sessionPlace k in
-      ap (λ (r : List ℕ). SessionRecord.sessionAt r at) (sym (splice-same t at fresh (session-slice k l h)))
-      ∙ SessionLaws.load-store t at SessionRecord.fresh (omega (arith, length-started w)) refl (omega arith)
+      let there : slice t at SessionRecord.size ≡ fresh =
+      ap (take SessionRecord.size) (behind (sessionStride * (k - 1)))
+      ∙ part-head fresh (sessionTailOf c) sessionStride (λ k. refl) (c .sessions) k l h (itemsUpTo c (c .items) ++ c .ranks) in
+      ap (λ (r : List ℕ). SessionRecord.sessionAt r at) (sym (splice-same t at fresh there))
+      ∙ SessionLaws.load-store t at SessionRecord.fresh (omega (arith, length-started)) refl (omega arith)
 
-  pub item-started : length given ≡ S → (x : ℕ) → 1 ≤ x → x ≤ M → item (started S M given) x ≡ ItemRecord.packed ItemRecord.free
+  pub item-started : (x : ℕ) → 1 ≤ x → x ≤ c .items → item (started c) x ≡ ItemRecord.packed ItemRecord.free
   unfolding item
-  item-started w x l h =
-      let t = started S M given in
-      let at = itemPlace S x in
+  item-started x l h =
+      let t = started c in
+      let at = itemPlace (c .sessions) x in
+      let there : slice t at ItemRecord.size ≡ free =
+      ap (take ItemRecord.size) (behind-sessions (itemStride * (x - 1)))
+      ∙ part-head free (itemTailOf c) itemStride (λ k. refl) (c .items) x l h (c .ranks) in
       rw (sessionsOf-started) (
-      ap (λ (r : List ℕ). ItemRecord.itemAt r at) (sym (splice-same t at free (item-slice x l h)))
-      ∙ ItemLaws.load-store t at (ItemRecord.packed ItemRecord.free) refl (omega (arith, length-started w)))
+      ap (λ (r : List ℕ). ItemRecord.itemAt r at) (sym (splice-same t at free there))
+      ∙ ItemLaws.load-store t at (ItemRecord.packed ItemRecord.free) refl (omega (arith, length-started)))
 
-  pub ranks-started : length given ≡ S → ranks (started S M given) ≡ given
+  ranks-started : ranks (started c) ≡ c .ranks
   unfolding ranks
-  ranks-started w =
-      let n = SessionRecord.size * S + ItemRecord.size * M in
-      let at : ranksPlace S M ≡ header + n = omega arith in
-      let len : length (repeated S fresh ++ repeated M free) ≡ n = omega (arith, length-append (repeated S fresh) (repeated M free), length-repeated fresh S, length-repeated free M) in
-      rw (sessionsOf-started, itemsOf-started, at, behind n, ← append-assoc (repeated S fresh) (repeated M free) given, drop-at (repeated S fresh ++ repeated M free) given n len) (take-all S given (omega arith))
+  ranks-started =
+      rw (sessionsOf-started, itemsOf-started, behind-sessions (itemStride * c .items), drop-at (itemsUpTo c (c .items)) (c .ranks) (itemStride * c .items) (length-items c (c .items))) (take-all (c .sessions) (c .ranks) (omega (arith, f .ranks-whole)))
 
-  fresh-in-form : SessionRecord.wellFormed S M SessionRecord.fresh ≡ true
+  -- the config that stands in it is the one that it was started with
+  pub configOf-started : configOf (started c) ≡ c
+  configOf-started = rw (sessionsOf-started, itemsOf-started, ranks-started) refl
+
+  fresh-in-form : SessionRecord.wellFormed (c .sessions) (c .items) SessionRecord.fresh ≡ true
   unfolding SessionRecord.wellFormed
   fresh-in-form =
       rw (
-        lt-ltb 0 (2 ^ M) (pow-pos M),
-        all-take (λ j. leb j S) S (replicate maxSessions 0) (all-replicate (λ j. leb j S) maxSessions 0 (leb·zero S)),
-        all-drop (λ j. eqb j 0) S (replicate maxSessions 0) (all-replicate (λ j. eqb j 0) maxSessions 0 refl),
+        lt-ltb 0 (2 ^ c .items) (pow-pos (c .items)),
+        all-take (λ j. leb j (c .sessions)) (c .sessions) (replicate maxSessions 0) (all-replicate (λ j. leb j (c .sessions)) maxSessions 0 (leb·zero (c .sessions))),
+        all-drop (λ j. eqb j 0) (c .sessions) (replicate maxSessions 0) (all-replicate (λ j. eqb j 0) maxSessions 0 refl),
       ) refl
 
-  free-in-form : ItemRecord.wellFormed S (ItemRecord.packed ItemRecord.free) ≡ true
+  free-in-form : ItemRecord.wellFormed (c .sessions) (ItemRecord.packed ItemRecord.free) ≡ true
   unfolding ItemRecord.wellFormed allOf distinct member
-  free-in-form = rw (leb·zero S) (all-replicate (λ b. eqb b 0) maxSessions 0 refl)
+  free-in-form = rw (leb·zero (c .sessions)) (all-replicate (λ b. eqb b 0) maxSessions 0 refl)
 
-  pub wellFormed-started : length given ≡ S → Seniority.wellFormed given ≡ true → wellFormed (started S M given) ≡ true
-  wellFormed-started w r =
-      well-formed-intro (started S M given)
-      (λ k l h. rw (sessionsOf-started, itemsOf-started, session-started w k l (rw (sessionsOf-started) at h)) fresh-in-form)
-      (λ x l h. rw (sessionsOf-started, item-started w x l (rw (itemsOf-started) at h)) free-in-form)
-      (rw (ranks-started w) r)
+  pub wellFormed-started : Seniority.wellFormed (c .ranks) ≡ true → wellFormed (started c) ≡ true
+  wellFormed-started r =
+      well-formed-intro (started c)
+      (λ k l h. rw (sessionsOf-started, itemsOf-started, session-started k l (rw (sessionsOf-started) at h)) fresh-in-form)
+      (λ x l h. rw (sessionsOf-started, item-started x l (rw (itemsOf-started) at h)) free-in-form)
+      (rw (ranks-started) r)

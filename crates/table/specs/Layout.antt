@@ -1,12 +1,12 @@
 -- The bytes of the table: S, M, then the session records, then the item records, then a rank for each session. RULES is docs/RULES.md.
-use Prim.Native.Nat.{ℕ, zero, suc, _+_, _-_, _*_, _≤_}
+use Prim.Native.Nat.{ℕ, _+_, _-_, _*_, _≤_}
 use mathlib.Core.Path.{_≡_}
 use mathlib.Core.Bool.{Bool, true, _&&_}
 use mathlib.Core.List.{List, [], _∷_, _++_}
 use lib.Dec.{eqb}
 use lib.ListN.{length, getD}
 use Rattle.buffer.specs.Bytes.{slice}
-use Rattle.lists.specs.Lists.{between, every}
+use Rattle.lists.specs.Lists.{between, every, appendUpTo}
 use Rattle.message.specs.Limits.{maxSessions, maxItems}
 use Rattle.session.specs.declared.Session.{Session}
 use Rattle.session.specs.Record as Session
@@ -17,20 +17,34 @@ use Rattle.item.specs.Record as Item
 abbrev pub header : ℕ
 header = 2
 
+-- the tail of a record: bytes behind it that the rules do not own
+abbrev pub sessionTail : ℕ
+sessionTail = 0
+
+abbrev pub itemTail : ℕ
+itemTail = 0
+
+-- from one record to the next
+abbrev pub sessionStride : ℕ
+sessionStride = Session.size + sessionTail
+
+abbrev pub itemStride : ℕ
+itemStride = Item.size + itemTail
+
 -- where the record of session t stands, t from 1
 abbrev pub sessionPlace : ℕ → ℕ
-sessionPlace t = header + Session.size * (t - 1)
+sessionPlace t = header + sessionStride * (t - 1)
 
 -- where the item records begin, and that of item x, x from 1
 abbrev pub itemsStart : ℕ → ℕ
-itemsStart S = header + Session.size * S
+itemsStart S = header + sessionStride * S
 
 abbrev pub itemPlace : ℕ → ℕ → ℕ
-itemPlace S x = itemsStart S + Item.size * (x - 1)
+itemPlace S x = itemsStart S + itemStride * (x - 1)
 
 -- what stands behind the items: the ranks, one byte each, and their end
 abbrev pub ranksPlace : ℕ → ℕ → ℕ
-ranksPlace S M = itemsStart S + Item.size * M
+ranksPlace S M = itemsStart S + itemStride * M
 
 abbrev pub ranksEnd : ℕ → ℕ → ℕ
 ranksEnd S M = ranksPlace S M + S
@@ -94,12 +108,42 @@ pub record Formed (t : List ℕ) : Type 0 where
   pub sized : sized t ≡ true
   pub formed : wellFormed t ≡ true
 
--- the bytes of a number of records, one after another
-unfoldable pub repeated : ℕ → List ℕ → List ℕ
-repeated zero l = []
-repeated (suc n) l = l ++ repeated n l
+-- ---- start
+-- what start is given for the table: S, M, and a list with the rank of each session
+pub record Config : Type 0 where
+  pub sessions : ℕ
+  pub items : ℕ
+  pub ranks : List ℕ
 
--- what start writes: RULES 4.3
-unfoldable pub started : ℕ → ℕ → List ℕ → List ℕ
-started S M ranks =
-    S ∷ M ∷ (repeated S (Session.sessionBytes Session.fresh) ++ (repeated M (Item.itemBytes (Item.packed Item.free)) ++ ranks))
+abbrev pub config : ℕ → ℕ → List ℕ → Config
+config S M ranks = record { sessions = S; items = M; ranks = ranks }
+
+-- the config that stands in a table
+abbrev pub configOf : List ℕ → Config
+configOf t = config (sessionsOf t) (itemsOf t) (ranks t)
+
+-- S and M are within their bounds, and the lists have an element for each session
+pub record Fitting (c : Config) : Type 0 where
+  pub some-sessions : 1 ≤ c .sessions
+  pub max-sessions : c .sessions ≤ maxSessions
+  pub some-items : 1 ≤ c .items
+  pub max-items : c .items ≤ maxItems
+  pub ranks-whole : length (c .ranks) ≡ c .sessions
+
+-- what start writes into the tails of session k and of item x
+abbrev pub sessionTailOf : Config → ℕ → List ℕ
+sessionTailOf c k = []
+
+abbrev pub itemTailOf : Config → ℕ → List ℕ
+itemTailOf c x = []
+
+-- what start writes for session k and for item x, and in all: RULES 4.3
+abbrev pub startedSession : Config → ℕ → List ℕ
+startedSession c k = Session.sessionBytes Session.fresh ++ sessionTailOf c k
+
+abbrev pub startedItem : Config → ℕ → List ℕ
+startedItem c x = Item.itemBytes (Item.packed Item.free) ++ itemTailOf c x
+
+unfoldable pub started : Config → List ℕ
+started c =
+    c .sessions ∷ c .items ∷ (appendUpTo (c .sessions) (startedSession c) ++ (appendUpTo (c .items) (startedItem c) ++ c .ranks))

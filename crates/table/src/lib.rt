@@ -7,8 +7,7 @@ ghost use mathlib.Core.Path.{_≡_};
 ghost use mathlib.Core.Bool.{true};
 ghost use Prim.Native.Nat.{_≤_};
 ghost use lib.ListN.{length};
-ghost use Rattle.message.specs.Limits.{maxSessions, maxItems};
-ghost use Rattle.table.specs.Layout.{header, sessionPlace, itemsStart, itemPlace, ranksPlace, ranksEnd, size, sessionsOf, itemsOf, sized, session, withSession, item, withItem, ranks, wellFormed, started, HasSession, HasItem};
+ghost use Rattle.table.specs.Layout.{header, sessionPlace, itemsStart, itemPlace, ranksPlace, ranksEnd, size, sessionsOf, itemsOf, sized, session, withSession, item, withItem, ranks, wellFormed, HasSession, HasItem, config, Fitting, started};
 
 // S and M stand in the header.
 const HEADER: usize = 2;
@@ -17,10 +16,20 @@ const SESSIONS_PLACE: usize = 0;
 
 const ITEMS_PLACE: usize = 1;
 
+// The tail of a record: bytes behind it that the rules do not own.
+const SESSION_TAIL: usize = 0;
+
+const ITEM_TAIL: usize = 0;
+
+// From one record to the next.
+const SESSION_STRIDE: usize = Session::SIZE + SESSION_TAIL;
+
+const ITEM_STRIDE: usize = Item::SIZE + ITEM_TAIL;
+
 // The bytes of the largest table.
 pub const MAX_SIZE: usize = HEADER
-    + Session::SIZE * MAX_SESSIONS
-    + Item::SIZE * MAX_ITEMS
+    + SESSION_STRIDE * MAX_SESSIONS
+    + ITEM_STRIDE * MAX_ITEMS
     + MAX_SESSIONS;
 
 // S and M.
@@ -42,14 +51,14 @@ pub fn items(t: &[u8]) -> u8
 fn items_start(s: u8) -> usize
     ensures { λ r. ⌜ r ≡ itemsStart s ⌝ }
 {
-    HEADER + Session::SIZE * s as usize
+    HEADER + SESSION_STRIDE * s as usize
 }
 
 // Where the ranks begin, behind the records of m items, and where they end.
 fn ranks_place(s: u8, m: u8) -> usize
     ensures { λ r. ⌜ r ≡ ranksPlace s m ⌝ }
 {
-    items_start(s) + Item::SIZE * m as usize
+    items_start(s) + ITEM_STRIDE * m as usize
 }
 
 fn ranks_end(s: u8, m: u8) -> usize
@@ -70,7 +79,7 @@ fn session_place(k: u8) -> usize
     requires { ⌜ 1 ≤ k ⌝ }
     ensures { λ r. ⌜ r ≡ sessionPlace k ⌝ }
 {
-    HEADER + Session::SIZE * (k - 1) as usize
+    HEADER + SESSION_STRIDE * (k - 1) as usize
 }
 
 // Where the record of item x stands, behind s sessions.
@@ -78,7 +87,7 @@ fn item_place(s: u8, x: u8) -> usize
     requires { ⌜ 1 ≤ x ⌝ }
     ensures { λ r. ⌜ r ≡ itemPlace s x ⌝ }
 {
-    items_start(s) + Item::SIZE * (x - 1) as usize
+    items_start(s) + ITEM_STRIDE * (x - 1) as usize
 }
 
 // Whether S and M are within their bounds and the length is that of S and M.
@@ -120,7 +129,7 @@ pub fn well_formed(t: &[u8]) -> bool
     let sessions = s as usize;
     let mut k: usize = 0;
     while k < sessions {
-        if form::session(t, HEADER + Session::SIZE * k, s, m, top, &limits) {
+        if form::session(t, HEADER + SESSION_STRIDE * k, s, m, top, &limits) {
             k += 1;
         } else {
             return false;
@@ -130,7 +139,7 @@ pub fn well_formed(t: &[u8]) -> bool
     let items = m as usize;
     let mut x: usize = 0;
     while x < items {
-        if form::item(t, from + Item::SIZE * x, s, &limits) {
+        if form::item(t, from + ITEM_STRIDE * x, s, &limits) {
             x += 1;
         } else {
             return false;
@@ -190,8 +199,8 @@ pub fn put_item(t: &mut [u8], x: u8, i: Item)
 
 // Writes the table of a lock manager that starts, with so many sessions and items, and these ranks.
 pub fn clear(t: &mut [u8], sessions: u8, items: u8, ranks: &[u8])
-    requires { ⌜ (1 ≤ sessions) × (sessions ≤ maxSessions) × (1 ≤ items) × (items ≤ maxItems) × (length (now t) ≡ size sessions items) × (length (now ranks) ≡ sessions) ⌝ }
-    ensures { λ _. ⌜ now (t .exit) ≡ started sessions items (now (ranks .entry)) ⌝ }
+    requires { ⌜ Fitting (config sessions items (now ranks)) × (length (now t) ≡ size sessions items) ⌝ }
+    ensures { λ _. ⌜ now (t .exit) ≡ started (config sessions items (now (ranks .entry))) ⌝ }
 {
     buffer::clear(t);
     t[SESSIONS_PLACE] = sessions;
@@ -199,7 +208,7 @@ pub fn clear(t: &mut [u8], sessions: u8, items: u8, ranks: &[u8])
     let n = sessions as usize;
     let mut k: usize = 0;
     while k < n {
-        t[HEADER + Session::SIZE * k] = Session::GROWING;
+        t[HEADER + SESSION_STRIDE * k] = Session::GROWING;
         k += 1;
     }
     buffer::put_bytes(t, ranks_place(sessions, items), ranks);

@@ -4,15 +4,20 @@ use Prim.Native.Nat.{_-_, _≤_}
 use native.Mathlib.Omega.{arith}
 use borrow.Author.Needs.{needs}
 use lib.ListN.{length, length-set}
+use Rattle.table.specs.Layout.{Config, config}
 use Rattle.table.proofs.StartLaws.{begun, begun-none, begun-more, begun-ranks, length-begun}
 use Rattle.table.proofs.clear.Statement.{statement}
 use Rattle.table.proofs.clear.Tie as tie
 
 abbrev Inv-loop : tie.InvT-loop
-Inv-loop t₀ sessions items ranks n k₀ t k = (k ≤ sessions) × (t ≡ begun sessions items k)
+Inv-loop t₀ sessions items ranks n k₀ t k = (k ≤ sessions) × (t ≡ begun (config sessions items ranks) k)
 
 abbrev μ-loop : tie.MeasureT-loop
 μ-loop t₀ sessions items ranks n k₀ t k = sessions - k
+
+-- what start was given
+abbrev given : tie.Start Inv-loop μ-loop → Config
+given s = config (s .args .sessions) (s .args .items) (s .args .ranks .now)
 
 clear-requires : tie.Need-clear-requires Inv-loop μ-loop
 clear-requires c κs = search needs
@@ -25,11 +30,8 @@ slice-write-t-2 c = simp length-set (omega (arith, c .before .before .clear .kep
 
 loop-holds : tie.Need-loop-holds Inv-loop μ-loop
 loop-holds c =
-    let a = c .before .before .before .before .before .before .args in
-    let zeroed = c .before .before .clear .ensures in (
-      omega arith,
-      rw (zeroed, c .before .before .before .before .before .before .pre .4) (begun-none (a .sessions) (a .items)),
-    )
+    let start = c .before .before .before .before .before .before in
+    (omega arith, rw (c .before .before .clear .ensures, start .pre .1) (begun-none (given start)))
 
 mul-t : tie.Need-mul-t Inv-loop μ-loop
 mul-t c = search needs
@@ -40,8 +42,8 @@ add-t c = search needs
 slice-write-t-3 : tie.Need-slice-write-t-3 Inv-loop μ-loop
 slice-write-t-3 c =
     let l = c .before .loop in
-    let a = c .before .before .before .before .before .before .before .before .args in
-    omega (arith, ap length (l .inv .1), length-begun (a .sessions) (a .items) (l .k) (omega arith))
+    let start = c .before .before .before .before .before .before .before .before in
+    omega (arith, ap length (l .inv .1), length-begun (given start) (l .k) (omega arith))
 
 add-k : tie.Need-add-k Inv-loop μ-loop
 add-k c = search needs
@@ -52,10 +54,8 @@ loop-less c = search needs
 loop-again : tie.Need-loop-again Inv-loop μ-loop
 loop-again c =
     let l = c .before .loop in
-    let a = c .before .before .before .before .before .before .before .before .args in (
-      omega arith,
-      rw (l .inv .1) (begun-more (a .sessions) (a .items) (l .k) (omega arith)),
-    )
+    let start = c .before .before .before .before .before .before .before .before in
+    (omega arith, rw (l .inv .1) (begun-more (given start) (l .k) (omega arith)))
 
 ranks-place-requires : tie.Need-ranks-place-requires Inv-loop μ-loop
 ranks-place-requires c κs = search needs
@@ -64,23 +64,20 @@ put-bytes-requires : tie.Need-put-bytes-requires Inv-loop μ-loop
 put-bytes-requires c κs =
     let l = c .before .before .before .loop in
     let start = c .before .before .before .before .before .before .before .before .before .before in
-    let a = start .args in
-    omega (arith, c .ranks-place .ensures, ap length (l .inv .1), length-begun (a .sessions) (a .items) (l .k) (omega arith), start .pre .5)
+    omega (arith, c .ranks-place .ensures, ap length (l .inv .1), length-begun (given start) (l .k) (omega arith), start .pre .0 .ranks-whole)
 
 same-length : tie.Need-same-length Inv-loop μ-loop
 same-length c =
     let l = c .before .before .before .before .before .before .loop in
     let start = c .before .before .before .before .before .before .before .before .before .before .before .before .before in
-    let a = start .args in
-    c .before .before .put-bytes .kept .0 ∙ ap length (l .inv .1) ∙ length-begun (a .sessions) (a .items) (l .k) (omega arith) ∙ sym (start .pre .4)
+    c .before .before .put-bytes .kept .0 ∙ ap length (l .inv .1) ∙ length-begun (given start) (l .k) (omega arith) ∙ sym (start .pre .1)
 
 returns : tie.Need-returns Inv-loop μ-loop
 returns c =
     let l = c .before .before .before .before .before .before .loop in
     let start = c .before .before .before .before .before .before .before .before .before .before .before .before .before in
-    let a = start .args in
-    let all : l .k ≡ a .sessions = omega arith in
-    c .before .before .put-bytes .ensures .0 ∙ rw (c .before .before .before .ranks-place .ensures, l .inv .1, all) (begun-ranks (a .sessions) (a .items) (a .ranks .now) (start .pre .5))
+    let all : l .k ≡ start .args .sessions = omega arith in
+    c .before .before .put-bytes .ensures .0 ∙ rw (c .before .before .before .ranks-place .ensures, l .inv .1, all) (begun-ranks (given start) (start .pre .0))
 
 pub clear-spec : {M : Type 1} → statement M
 clear-spec =
