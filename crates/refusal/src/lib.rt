@@ -1,4 +1,7 @@
-// The causes for which a call or a list of days is refused, by number.
+// The causes for which a call or a list of days is refused, by number, and the first of them that holds.
+ghost use mathlib.Core.Path.{_≡_};
+ghost use mathlib.Core.Bool.{cond};
+
 pub const BAD_VERB: u8 = 1;
 
 pub const BAD_SIZE: u8 = 2;
@@ -28,3 +31,10 @@ pub const NOBODY: u8 = 13;
 pub const BAD_RANKS: u8 = 14;
 
 pub const IN_USE: u8 = 15;
+
+// The number of a cause that holds, else that of the causes behind it.
+pub fn cause(holds: bool, number: u8, rest: u8) -> u8
+    ensures { λ r. ⌜ r ≡ cond holds number rest ⌝ }
+{
+    if holds { number } else { rest }
+}

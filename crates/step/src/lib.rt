@@ -96,13 +96,6 @@ fn mask_forbids(verb: u64, x: u8, held: u64) -> bool
     ((verb == REQUEST) & has) | ((verb == RELEASE) & !has)
 }
 
-// The number of a cause that holds, else that of the causes behind it.
-fn cause(holds: bool, number: u8, rest: u8) -> u8
-    ensures { λ r. ⌜ r ≡ cond holds number rest ⌝ }
-{
-    if holds { number } else { rest }
-}
-
 // The first of the causes that lie in the step itself, but for room, or 0; k is the place of the entry that it delivers.
 fn step_refusal(verb: u64, t: u8, x: u8, k: usize, table: &[u8], mail: &[u8]) -> u8
     requires { ⌜ Judged t x (now table) (now mail) × (k ≡ delivered verb t x (entriesOf (now mail))) ⌝ }
@@ -114,9 +107,9 @@ fn step_refusal(verb: u64, t: u8, x: u8, k: usize, table: &[u8], mail: &[u8]) ->
     let none = (verb >= DELIVER_TO_ITEM)
         & (verb <= DELIVER_TO_SESSION)
         & (k == mailbox::count(mail));
-    let route = cause(none, refusal::NO_MESSAGE, 0);
-    let mask = cause(masked, refusal::WRONG_ITEM, route);
-    cause(staged, refusal::WRONG_STAGE, mask)
+    let route = refusal::cause(none, refusal::NO_MESSAGE, 0);
+    let mask = refusal::cause(masked, refusal::WRONG_ITEM, route);
+    refusal::cause(staged, refusal::WRONG_STAGE, mask)
 }
 
 // What item x does on entry k.

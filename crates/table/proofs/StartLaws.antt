@@ -23,7 +23,7 @@ use Rattle.session.specs.Stage
 use Rattle.session.proofs.Laws as SessionLaws
 use Rattle.item.specs.Record as ItemRecord
 use Rattle.item.proofs.Laws as ItemLaws
-use Rattle.table.specs.Layout.{header, sessionStride, itemStride, sessionPlace, itemsStart, itemPlace, ranksPlace, size, sessionsOf, itemsOf, sized, session, item, ranks, wellFormed, Config, configOf, Fitting, sessionTailOf, itemTailOf, startedSession, startedItem, started}
+use Rattle.table.specs.Layout.{header, sessionStride, itemStride, sessionPlace, itemsStart, itemPlace, ranksPlace, size, sessionsOf, itemsOf, sized, session, item, ranks, wellFormed, Config, configOf, Bounded, sessionTailOf, itemTailOf, startedSession, startedItem, started}
 use Rattle.table.proofs.Laws.{well-formed-intro}
 
 -- the bytes of a session and of an item of a lock manager that starts
@@ -103,7 +103,7 @@ module _ (c : Config) where
       ∙ ap (λ (l : List ℕ). padded (size S M) (S ∷ M ∷ (sessionsUpTo S ++ l))) (sym (appendUpTo-replicate M itemStride 0))
 
   -- and then the ranks
-  pub begun-ranks : Fitting c → splice (begun S) (ranksPlace S M) (c .ranks) ≡ started c
+  pub begun-ranks : Bounded c → splice (begun S) (ranksPlace S M) (c .ranks) ≡ started c
   unfolding started
   begun-ranks f =
       let given = c .ranks in
@@ -124,7 +124,7 @@ splice-same t at l e =
     ap (λ (r : List ℕ). take at t ++ r) back ∙ take-append-drop at t
 
 -- ---- what is read of it
-module _ (c : Config) (f : Fitting c) where
+module _ (c : Config) (f : Bounded c) where
   sessionsOf-started : sessionsOf (started c) ≡ c .sessions
   unfolding started
   sessionsOf-started = refl

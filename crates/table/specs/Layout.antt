@@ -122,8 +122,8 @@ config S M ranks = record { sessions = S; items = M; ranks = ranks }
 abbrev pub configOf : List ℕ → Config
 configOf t = config (sessionsOf t) (itemsOf t) (ranks t)
 
--- S and M are within their bounds, and the lists have an element for each session
-pub record Fitting (c : Config) : Type 0 where
+-- S and M are within their bounds, and there is a rank for each session
+pub record Bounded (c : Config) : Type 0 where
   pub some-sessions : 1 ≤ c .sessions
   pub max-sessions : c .sessions ≤ maxSessions
   pub some-items : 1 ≤ c .items

@@ -7,7 +7,7 @@ ghost use mathlib.Core.Path.{_≡_};
 ghost use mathlib.Core.Bool.{true};
 ghost use Prim.Native.Nat.{_≤_};
 ghost use lib.ListN.{length};
-ghost use Rattle.table.specs.Layout.{header, sessionPlace, itemsStart, itemPlace, ranksPlace, ranksEnd, size, sessionsOf, itemsOf, sized, session, withSession, item, withItem, ranks, wellFormed, HasSession, HasItem, config, Fitting, started};
+ghost use Rattle.table.specs.Layout.{header, sessionPlace, itemsStart, itemPlace, ranksPlace, ranksEnd, size, sessionsOf, itemsOf, sized, session, withSession, item, withItem, ranks, wellFormed, HasSession, HasItem, config, Bounded, started};
 
 // S and M stand in the header.
 const HEADER: usize = 2;
@@ -199,7 +199,7 @@ pub fn put_item(t: &mut [u8], x: u8, i: Item)
 
 // Writes the table of a lock manager that starts, with so many sessions and items, and these ranks.
 pub fn clear(t: &mut [u8], sessions: u8, items: u8, ranks: &[u8])
-    requires { ⌜ Fitting (config sessions items (now ranks)) × (length (now t) ≡ size sessions items) ⌝ }
+    requires { ⌜ Bounded (config sessions items (now ranks)) × (length (now t) ≡ size sessions items) ⌝ }
     ensures { λ _. ⌜ now (t .exit) ≡ started (config sessions items (now (ranks .entry))) ⌝ }
 {
     buffer::clear(t);
