@@ -129,79 +129,82 @@ formed-zero table mail f = rw (f .records .sized, f .mail-sized, f .records .for
 
 -- what a start knows whose sizes fit, and one that is not refused
 pub record Sizes (c : Config) (table mail : List ℕ) : Type 0 where
-  pub some-sessions : 1 ≤ c .sessions
-  pub max-sessions : c .sessions ≤ maxSessions
-  pub some-items : 1 ≤ c .items
-  pub max-items : c .items ≤ maxItems
+  pub bounded : Table.Bounded (c .table)
   pub some-room : 1 ≤ c .capacity
   pub max-room : c .capacity ≤ Mail.maxCapacity
-  pub ranks-whole : length (c .ranks) ≡ c .sessions
-  pub table-whole : length table ≡ Table.size (c .sessions) (c .items)
+  pub table-whole : length table ≡ Table.size (c .table .sessions) (c .table .items)
   pub mail-whole : length mail ≡ Mail.size (c .capacity)
 
 pub record Startable (c : Config) (table mail : List ℕ) : Type 0 where
   pub sizes : Sizes c table mail
-  pub ranks : Seniority.wellFormed (c .ranks) ≡ true
+  pub ranks : Seniority.wellFormed (c .table .ranks) ≡ true
+
+-- S, M and C are within their bounds
+abbrev pub inBounds : ℕ → ℕ → ℕ → Bool
+inBounds S M C = between 1 maxSessions S && between 1 maxItems M && between 1 Mail.maxCapacity C
+
+pub record InBounds (S M C : ℕ) : Type 0 where
+  pub sessions : (1 ≤ S) × (S ≤ maxSessions)
+  pub items : (1 ≤ M) × (M ≤ maxItems)
+  pub capacity : (1 ≤ C) × (C ≤ Mail.maxCapacity)
+
+pub bounds-known : (S M C : ℕ) → inBounds S M C ≡ true → InBounds S M C
+bounds-known S M C e =
+    let s = between 1 maxSessions S in
+    let m = between 1 maxItems M in
+    let three = and-both (s && m) (between 1 Mail.maxCapacity C) e in
+    let two = and-both s m (three .0) in
+    record { sessions = within 1 maxSessions S (two .0); items = within 1 maxItems M (two .1); capacity = within 1 Mail.maxCapacity C (three .1) }
 
 module _ (c : Config) (table mail : List ℕ) where
   abbrev S : ℕ
-  S = c .sessions
+  S = c .table .sessions
 
   abbrev M : ℕ
-  M = c .items
+  M = c .table .items
 
   abbrev C : ℕ
   C = c .capacity
 
-  sizes-known : sizesFit c table mail ≡ true → Sizes c table mail
+  pub sizes-known : sizesFit c table mail ≡ true → Sizes c table mail
   sizes-known e =
-      let s = between 1 maxSessions S in
-      let m = between 1 maxItems M in
-      let r = between 1 Mail.maxCapacity C in
-      let k = eqb (length (c .ranks)) S in
+      let n = inBounds S M C in
+      let k = eqb (length (c .table .ranks)) S in
       let t = eqb (length table) (Table.size S M) in
       let q = eqb (length mail) (Mail.size C) in
-      let six = and-both (s && m && r && k && t) q e in
-      let five = and-both (s && m && r && k) t (six .0) in
-      let four = and-both (s && m && r) k (five .0) in
-      let three = and-both (s && m) r (four .0) in
-      let two = and-both s m (three .0) in
-      let a = within 1 maxSessions S (two .0) in
-      let b = within 1 maxItems M (two .1) in
-      let d = within 1 Mail.maxCapacity C (three .1) in
+      let six = and-both (n && k && t) q e in
+      let five = and-both (n && k) t (six .0) in
+      let four = and-both n k (five .0) in
+      let b = bounds-known S M C (four .0) in
       record {
-        some-sessions = a .0;
-        max-sessions = a .1;
-        some-items = b .0;
-        max-items = b .1;
-        some-room = d .0;
-        max-room = d .1;
-        ranks-whole = eqb-true (length (c .ranks)) S (four .1);
+        bounded =
+            record {
+              some-sessions = b .sessions .0;
+              max-sessions = b .sessions .1;
+              some-items = b .items .0;
+              max-items = b .items .1;
+              ranks-whole = eqb-true (length (c .table .ranks)) S (four .1);
+            };
+        some-room = b .capacity .0;
+        max-room = b .capacity .1;
         table-whole = eqb-true (length table) (Table.size S M) (five .1);
         mail-whole = eqb-true (length mail) (Mail.size C) (six .1);
       }
 
   sizes-fit : Sizes c table mail → sizesFit c table mail ≡ true
   sizes-fit f =
-      rw (between-intro 1 maxSessions S (f .some-sessions) (f .max-sessions), between-intro 1 maxItems M (f .some-items) (f .max-items), between-intro 1 Mail.maxCapacity C (f .some-room) (f .max-room), eq-eqb (length (c .ranks)) S (f .ranks-whole), eq-eqb (length table) (Table.size S M) (f .table-whole), eq-eqb (length mail) (Mail.size C) (f .mail-whole)) refl
+      let b = f .bounded in
+      rw (between-intro 1 maxSessions S (b .some-sessions) (b .max-sessions), between-intro 1 maxItems M (b .some-items) (b .max-items), between-intro 1 Mail.maxCapacity C (f .some-room) (f .max-room), eq-eqb (length (c .table .ranks)) S (b .ranks-whole), eq-eqb (length table) (Table.size S M) (f .table-whole), eq-eqb (length mail) (Mail.size C) (f .mail-whole)) refl
 
   pub start-zero : startRefusal c table mail ≡ 0 → Startable c table mail
   unfolding startRefusal
   start-zero e =
       let s = unmet-not (sizesFit c table mail) 1 _ e in
-      record { sizes = sizes-known (s .0); ranks = unmet-not (Seniority.wellFormed (c .ranks)) 13 [] (s .1) .0 }
+      record { sizes = sizes-known (s .0); ranks = unmet-not (Seniority.wellFormed (c .table .ranks)) 13 [] (s .1) .0 }
 
   pub start-none : Startable c table mail → startRefusal c table mail ≡ 0
   unfolding startRefusal first
   start-none f = rw (sizes-fit (f .sizes), f .ranks) refl
-
-  pub start-size : (Sizes c table mail → ⊥) → startRefusal c table mail ≡ Refusal.badSize
-  unfolding startRefusal first
-  start-size h = rw (fails (sizesFit c table mail) (λ e. h (sizes-known e))) refl
-
-  pub start-ranks : Sizes c table mail → Seniority.wellFormed (c .ranks) ≡ false → startRefusal c table mail ≡ Refusal.badRanks
-  unfolding startRefusal first
-  start-ranks f e = rw (sizes-fit f, e) refl
 
 -- the causes of a report
 module _ (t : ℕ) (table : List ℕ) where

@@ -20,15 +20,13 @@ use Rattle.cycletext.specs.OnTable.{Described, textBy, textCausesBy, unlessRefu
 use Rattle.lockmgr.specs.declared.Cycle.{Cycle}
 
 -- ---- start
--- what start is given: S, M, C, and a list with the rank of each session
+-- what start is given: what the table keeps of it, and C
 pub record Config : Type 0 where
-  pub sessions : ℕ
-  pub items : ℕ
+  pub table : Table.Config
   pub capacity : ℕ
-  pub ranks : List ℕ
 
 abbrev pub config : ℕ → ℕ → ℕ → List ℕ → Config
-config S M C ranks = record { sessions = S; items = M; capacity = C; ranks = ranks }
+config S M C ranks = record { table = Table.config S M ranks; capacity = C }
 
 -- what start answers, and both buffers after
 pub record Started : Type 0 where
@@ -42,22 +40,22 @@ startResult refusal table mail = record { refusal = refusal; table = table; mail
 -- S, M and C are within their bounds, and the three lengths are theirs: RULES 8.2
 abbrev pub sizesFit : Config → List ℕ → List ℕ → Bool
 sizesFit c table mail =
-    between 1 maxSessions (c .sessions) && between 1 maxItems (c .items) && between 1 Mail.maxCapacity (c .capacity)
-    && eqb (length (c .ranks)) (c .sessions) && eqb (length table) (Table.size (c .sessions) (c .items)) && eqb (length mail) (Mail.size (c .capacity))
+    between 1 maxSessions (c .table .sessions) && between 1 maxItems (c .table .items) && between 1 Mail.maxCapacity (c .capacity)
+    && eqb (length (c .table .ranks)) (c .table .sessions) && eqb (length table) (Table.size (c .table .sessions) (c .table .items)) && eqb (length mail) (Mail.size (c .capacity))
 
 -- the causes of a start, in their order: RULES 8.0
 unfoldable pub startRefusal : Config → List ℕ → List ℕ → ℕ
 startRefusal c table mail =
     first
     (cause (not (sizesFit c table mail)) Refusal.badSize
-    ∷ cause (not (Seniority.wellFormed (c .ranks))) Refusal.badRanks
+    ∷ cause (not (Seniority.wellFormed (c .table .ranks))) Refusal.badRanks
     ∷ [])
 
 -- what start writes: RULES 4.3
 unfoldable pub start : Config → List ℕ → List ℕ → Started
 start c table mail =
     cond (eqb (startRefusal c table mail) 0)
-    (startResult 0 (Table.started (c .sessions) (c .items) (c .ranks)) (Mail.mailBytes (c .capacity) []))
+    (startResult 0 (Table.started (c .table)) (Mail.mailBytes (c .capacity) []))
     (startResult (startRefusal c table mail) table mail)
 
 -- ---- step

@@ -7,7 +7,7 @@ ghost use Rattle.step.specs.Step.{stepped, Formed};
 ghost use Rattle.drain.specs.Parts.{pending, Spent};
 ghost use Rattle.reopen.specs.Reopening.{reopened};
 ghost use Rattle.cycletext.specs.OnTable.{described};
-ghost use Rattle.lockmgr.specs.Calls.{config, startRefusal, startResult, start, bufferCauses, judged, step, reportRefusal, report, reopen, cycleText};
+ghost use Rattle.lockmgr.specs.Calls.{config, sizesFit, startRefusal, startResult, start, bufferCauses, judged, step, reportRefusal, report, reopen, cycleText};
 ghost use Rattle.lockmgr.specs.Run.{buffers};
 ghost use Rattle.lockmgr.specs.Drain.{drainRefusal, drainAnswer, drainResult, drain};
 ghost use Rattle.lockmgr.specs.Parts.{turned, turnOf};
@@ -21,7 +21,30 @@ pub struct Cycle {
     pub length: u8,
 }
 
-// Whether start is refused: its number, or 0.
+// Whether the numbers that start is given are within their bounds and the lengths are theirs.
+fn sizes_fit(
+    sessions: u64,
+    items: u64,
+    capacity: u64,
+    ranks: &[u8],
+    table: &[u8],
+    mail: &[u8],
+) -> bool
+    ensures { λ r. ⌜ r ≡ sizesFit (config sessions items capacity (now (ranks .entry))) (now (table .entry)) (now (mail .entry)) ⌝ }
+{
+    let bounded = (sessions >= 1)
+        & (sessions <= MAX_SESSIONS as u64)
+        & ((items >= 1) & (items <= MAX_ITEMS as u64))
+        & ((capacity >= 1) & (capacity <= mailbox::MAX_CAPACITY as u64));
+    if !bounded {
+        return false;
+    }
+    (ranks.len() == sessions as usize)
+        & (table.len() == table::size(sessions as u8, items as u8))
+        & (mail.len() == mailbox::size(capacity as usize))
+}
+
+// The first of the causes of a start, or 0.
 fn start_refusal(
     sessions: u64,
     items: u64,
@@ -32,37 +55,11 @@ fn start_refusal(
 ) -> u8
     ensures { λ r. ⌜ r ≡ startRefusal (config sessions items capacity (now (ranks .entry))) (now (table .entry)) (now (mail .entry)) ⌝ }
 {
-    if sessions < 1 {
+    if !sizes_fit(sessions, items, capacity, ranks, table, mail) {
         return refusal::BAD_SIZE;
     }
-    if (MAX_SESSIONS as u64) < sessions {
-        return refusal::BAD_SIZE;
-    }
-    if items < 1 {
-        return refusal::BAD_SIZE;
-    }
-    if (MAX_ITEMS as u64) < items {
-        return refusal::BAD_SIZE;
-    }
-    if capacity < 1 {
-        return refusal::BAD_SIZE;
-    }
-    if (mailbox::MAX_CAPACITY as u64) < capacity {
-        return refusal::BAD_SIZE;
-    }
-    if ranks.len() != sessions as usize {
-        return refusal::BAD_SIZE;
-    }
-    if table.len() != table::size(sessions as u8, items as u8) {
-        return refusal::BAD_SIZE;
-    }
-    if mail.len() != mailbox::size(capacity as usize) {
-        return refusal::BAD_SIZE;
-    }
-    if !form::ranks(ranks) {
-        return refusal::BAD_RANKS;
-    }
-    0
+    let ranked = form::ranks(ranks);
+    refusal::cause(!ranked, refusal::BAD_RANKS, 0)
 }
 
 // Opens a lock manager in two lent buffers; byte k of the list, from 1, is the rank of session k.

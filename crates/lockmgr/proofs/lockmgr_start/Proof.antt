@@ -3,15 +3,18 @@ use mathlib.Core.Path.{_≡_, refl, sym, _∙_}
 use Prim.Native.Nat.{ℕ}
 use native.Mathlib.Omega.{arith}
 use borrow.Author.Tests.{ne-eqb}
-use Rattle.lockmgr.specs.Calls.{config, startRefusal, start}
+use Rattle.lockmgr.specs.Calls.{Config, config, startRefusal, start}
 use Rattle.lockmgr.proofs.Judging.{Startable, start-zero}
 use borrow.Author.Needs.{needs}
 use Rattle.lockmgr.proofs.lockmgr_start.Statement.{statement}
 use Rattle.lockmgr.proofs.lockmgr_start.Tie as tie
 
+abbrev given : tie.Start → Config
+given s = config (s .args .sessions) (s .args .items) (s .args .capacity) (s .args .ranks .now)
+
 -- what start_refusal judged
 abbrev refusal : tie.Start → ℕ
-refusal s = startRefusal (config (s .args .sessions) (s .args .items) (s .args .capacity) (s .args .ranks .now)) (s .args .table .now) (s .args .mail .now)
+refusal s = startRefusal (given s) (s .args .table .now) (s .args .mail .now)
 
 refused : (c : tie.Then1) → refusal (c .before .before .before .before .before .before .before) ≡ 0 → ⊥
 refused c z = c .if1 .taken (c .before .start-refusal .ensures ∙ z)
@@ -20,7 +23,7 @@ admitted : (c : tie.Else1) → refusal (c .before .before .before .before .befor
 admitted c = sym (c .before .start-refusal .ensures) ∙ c .if1 .left
 
 abbrev Known : tie.Start → Type 0
-Known s = Startable (config (s .args .sessions) (s .args .items) (s .args .capacity) (s .args .ranks .now)) (s .args .table .now) (s .args .mail .now)
+Known s = Startable (given s) (s .args .table .now) (s .args .mail .now)
 
 known : (c : tie.Else1) → Known (c .before .before .before .before .before .before .before)
 known c = start-zero _ _ _ (admitted c)
@@ -41,14 +44,14 @@ returns c =
     rw (ne-eqb (refusal s) 0 (refused c), c .before .start-refusal .ensures) refl
 
 cast-clear : tie.Need-cast-clear
-cast-clear c = omega (arith, known (c .before) .sizes)
+cast-clear c = omega (arith, known (c .before) .sizes .bounded)
 
 cast-clear-2 : tie.Need-cast-clear-2
-cast-clear-2 c = omega (arith, known (c .before) .sizes)
+cast-clear-2 c = omega (arith, known (c .before) .sizes .bounded)
 
 clear-requires : tie.Need-clear-requires
 clear-requires c κs =
-    let f = known (c .before) .sizes in (f .some-sessions, f .max-sessions, f .some-items, f .max-items, f .table-whole, f .ranks-whole)
+    let f = known (c .before) .sizes in (f .bounded, f .table-whole)
 
 clear-requires-2 : tie.Need-clear-requires-2
 clear-requires-2 c κs = let f = known (c .before .before .before .before .before) .sizes in (f .some-room, f .max-room, f .mail-whole)
