@@ -19,7 +19,7 @@ use Rattle.lockmgr.specs.Calls.{Config}
 use Rattle.lockmgr.specs.Run.{Step, Buffers, buffers, Done, doneOn, leftBy, done, left}
 use Rattle.lockmgr.specs.History.{Call, step, report, drain, reopen, stepsOf, leaves, steps}
 use Rattle.clause.specs.Statement.{TrueDeclaration, DeclarationsTrue}
-use Rattle.clause.proofs.State.{machineOf, machine-laws, stateOf, Good}
+use Rattle.clause.proofs.State.{machineOf, machine-laws, stateOf, Good, sessions-of, ranks-of}
 use Rattle.clause.proofs.Cycles.{reached-of, on-cycle-of}
 use Rattle.clause.proofs.Moves.{Moved}
 use Rattle.clause.proofs.Step.{by-step}
@@ -35,9 +35,9 @@ true-in-table : (conf : Config) (table : List ℕ) (l : List Entry) → Good con
     → MachineStatement.TrueDeclaration (machineOf conf) (stateOf conf table l) v i → TrueDeclaration table v i
 true-in-table conf table l g v i d =
     let at : (n : ℕ) → Machine.reached (machineOf conf) (stateOf conf table l) n i ≡ Waits.reached (waitsFor table) n i = λ n. reached-of conf table l g n i in
-    let by-rank = g .ranks in
+    let by-rank = ranks-of g in
     record {
-      known = (d .low, rw (g .sessions) (d .high));
+      known = (d .low, rw (sessions-of g) (d .high));
       on-cycle = eqb-false (cycleLength table i) 0 (not-true (eqb (cycleLength table i) 0) (sym (on-cycle-of conf table l g i) ∙ d .on-cycle));
       most-senior = λ n. rw (by-rank) (rw (at n) at (d .most-senior n));
       member = (d .victim-member .0, sym (at (d .victim-member .0)) ∙ d .victim-member .1);

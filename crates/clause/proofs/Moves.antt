@@ -66,7 +66,7 @@ pub never-both : (b : Bool) → not b && b ≡ false
 never-both true = refl
 never-both false = refl
 
-module _ (conf : Config) (table : List ℕ) (l : List Entry) (g : Good conf table l) (t : ℕ) (t-range : between 1 (conf .sessions) t ≡ true) where
+module _ (conf : Config) (table : List ℕ) (l : List Entry) (g : Good conf table l) (t : ℕ) (t-range : between 1 (conf .table .sessions) t ≡ true) where
   abbrev before : Machine.State
   before = stateOf conf table l
 
@@ -76,12 +76,12 @@ module _ (conf : Config) (table : List ℕ) (l : List Entry) (g : Good conf tabl
     sent = rest ++ map (fromSession t) (r .sends)
 
     abbrev Put : (ℕ → Session) → Type 0
-    Put f = Replaced (conf .sessions) (Table.session table) f t (r .session)
+    Put f = Replaced (conf .table .sessions) (Table.session table) f t (r .session)
 
-    module _ (fits : length sent ≤ conf .capacity) (kept : (f : ℕ → Session) → Put f → StateWellFormed (conf .sessions) (conf .items) f (locks table) sent)
-        (moves : (f : ℕ → Session) → Put f → readState (conf .sessions) (conf .items) f (locks table) sent ≡ Machine.move (machineOf conf) before call)
-        (happens : (f : ℕ → Session) → Put f → StateWellFormed (conf .sessions) (conf .items) f (locks table) sent
-        → Machine.eventOf (machineOf conf) before call (readState (conf .sessions) (conf .items) f (locks table) sent)
+    module _ (fits : length sent ≤ conf .capacity) (kept : (f : ℕ → Session) → Put f → StateWellFormed (conf .table .sessions) (conf .table .items) f (locks table) sent)
+        (moves : (f : ℕ → Session) → Put f → readState (conf .table .sessions) (conf .table .items) f (locks table) sent ≡ Machine.move (machineOf conf) before call)
+        (happens : (f : ℕ → Session) → Put f → StateWellFormed (conf .table .sessions) (conf .table .items) f (locks table) sent
+        → Machine.eventOf (machineOf conf) before call (readState (conf .table .sessions) (conf .table .items) f (locks table) sent)
         ≡ record { closed = false; declared = none; rolledBack = not (eqb (Table.session table t .stage) Stage.rolledBack) && eqb (f t .stage) Stage.rolledBack }) where
       abbrev table-after : List ℕ
       table-after = Table.withSession table t (r .session)
@@ -89,7 +89,7 @@ module _ (conf : Config) (table : List ℕ) (l : List Entry) (g : Good conf tabl
       put : Put (Table.session table-after)
       put = State.session-replaced conf table l g t t-range (r .session) sent fits kept
 
-      state : stateOf conf table-after sent ≡ readState (conf .sessions) (conf .items) (Table.session table-after) (locks table) sent
+      state : stateOf conf table-after sent ≡ readState (conf .table .sessions) (conf .table .items) (Table.session table-after) (locks table) sent
       state = State.session-state conf table l g t t-range (r .session) sent fits kept
 
       pub session-moved : Moved conf table l (buffers table-after (Mail.mailBytes (conf .capacity) sent))
@@ -126,16 +126,16 @@ module _ (conf : Config) (table : List ℕ) (l : List Entry) (g : Good conf tabl
       }
 
   -- what item x does on a message of session t
-  module _ (x : ℕ) (x-range : between 1 (conf .items) x ≡ true) (call : Machine.Call) (of-machine : Machine.ofMachine (machineOf conf) call ≡ true)
+  module _ (x : ℕ) (x-range : between 1 (conf .table .items) x ≡ true) (call : Machine.Call) (of-machine : Machine.ofMachine (machineOf conf) call ≡ true)
       (rest : List Entry) (r : Item.After) where
     abbrev answered : List Entry
     answered = rest ++ map (fromItem x) (r .sends)
 
     abbrev PutLock : (ℕ → Lock) → Type 0
-    PutLock f = Replaced (conf .items) (locks table) f x (r .lock)
+    PutLock f = Replaced (conf .table .items) (locks table) f x (r .lock)
 
-    module _ (fits : length answered ≤ conf .capacity) (kept : (f : ℕ → Lock) → PutLock f → StateWellFormed (conf .sessions) (conf .items) (Table.session table) f answered)
-        (moves : (f : ℕ → Lock) → PutLock f → readState (conf .sessions) (conf .items) (Table.session table) f answered ≡ Machine.move (machineOf conf) before call)
+    module _ (fits : length answered ≤ conf .capacity) (kept : (f : ℕ → Lock) → PutLock f → StateWellFormed (conf .table .sessions) (conf .table .items) (Table.session table) f answered)
+        (moves : (f : ℕ → Lock) → PutLock f → readState (conf .table .sessions) (conf .table .items) (Table.session table) f answered ≡ Machine.move (machineOf conf) before call)
         (happens : (after : Machine.State) → Machine.eventOf (machineOf conf) before call after ≡ Machine.itemEvent (r .event) (Machine.onCycle (machineOf conf) after t))
         (delivers : Bound.delivers before call ≡ true) where
       abbrev item-after : List ℕ

@@ -123,7 +123,7 @@ module _ (conf : Config) where
   calls-keep [] b k rule = k
   calls-keep (c ∷ l) b k rule = calls-keep l (leaves b c) (call-keeps c b k (rule .0)) (rule .1)
 
-module _ (conf : Config) (enough : capacityBound (conf .sessions) (conf .items) ≤ conf .capacity) where
+module _ (conf : Config) (enough : capacityBound (conf .table .sessions) (conf .table .items) ≤ conf .capacity) where
   module _ (table : List ℕ) (l : List Entry) (g : Good conf table l) (r : Reached (machineOf conf) (stateOf conf table l)) where
     abbrev mail : List ℕ
     mail = Mail.mailBytes (conf .capacity) l
@@ -131,7 +131,7 @@ module _ (conf : Config) (enough : capacityBound (conf .sessions) (conf .items) 
     count-is : Mail.countOf mail ≡ length l
     count-is = MailLaws.count-mail (conf .capacity) l (g .low) (g .high) (g .room)
 
-    few-messages : Mail.countOf mail ≤ capacityBound (conf .sessions) (conf .items)
+    few-messages : Mail.countOf mail ≤ capacityBound (conf .table .sessions) (conf .table .items)
     few-messages = omega (arith, count-is, length-readEntries l, theorem (machineOf conf) (machine-laws conf table l g) (stateOf conf table l) r)
 
     -- each message that is there can be delivered
@@ -139,14 +139,14 @@ module _ (conf : Config) (enough : capacityBound (conf .sessions) (conf .items) 
       abbrev entry : Entry
       entry = getD l k unused
 
-      facts : EntryFacts (conf .sessions) (conf .items) entry
-      facts = entry-facts (conf .sessions) (conf .items) entry (all-getD (wellFormed (conf .sessions) (conf .items)) l k unused (g .entries) inside)
+      facts : EntryFacts (conf .table .sessions) (conf .table .items) entry
+      facts = entry-facts (conf .table .sessions) (conf .table .items) entry (all-getD (wellFormed (conf .table .sessions) (conf .table .items)) l k unused (g .entries) inside)
 
-      t-range : between 1 (conf .sessions) (entry .session) ≡ true
-      t-range = between-intro 1 (conf .sessions) (entry .session) (facts .session-low) (facts .session-high)
+      t-range : between 1 (conf .table .sessions) (entry .session) ≡ true
+      t-range = between-intro 1 (conf .table .sessions) (entry .session) (facts .session-low) (facts .session-high)
 
-      x-range : between 1 (conf .items) (entry .item) ≡ true
-      x-range = between-intro 1 (conf .items) (entry .item) (facts .item-low) (facts .item-high)
+      x-range : between 1 (conf .table .items) (entry .item) ≡ true
+      x-range = between-intro 1 (conf .table .items) (entry .item) (facts .item-low) (facts .item-high)
 
       found : (d : Bool) → entry .direction ≡ directionOf d → eqb (placeOf (entry .session) (entry .item) l d) (length l) ≡ false
       found d e =
@@ -194,11 +194,11 @@ module _ (conf : Config) (enough : capacityBound (conf .sessions) (conf .items) 
 
   module _ (b : Buffers) (k : Kept conf b) where
     abbrev bound : ℕ
-    bound = deliveryBound (conf .sessions) (conf .items) (Mail.countOf (b .mail))
+    bound = deliveryBound (conf .table .sessions) (conf .table .items) (Mail.countOf (b .mail))
 
     deliveries-bounded : (l : List Run.Step) → AllDelivered b l → length l ≤ bound
     deliveries-bounded l =
-        by-kept conf b k (λ (a : Buffers). AllDelivered a l → length l ≤ deliveryBound (conf .sessions) (conf .items) (Mail.countOf (a .mail)))
+        by-kept conf b k (λ (a : Buffers). AllDelivered a l → length l ≤ deliveryBound (conf .table .sessions) (conf .table .items) (Mail.countOf (a .mail)))
         (λ table entries g r. steps-bounded conf table entries g (orderly (machineOf conf) (machine-laws conf table entries g) r .invariant) l)
 
     module _ (limit : ℕ) where
@@ -219,7 +219,7 @@ module _ (conf : Config) (enough : capacityBound (conf .sessions) (conf .items) 
 
   progress : (b : Buffers) → Kept conf b → Progress conf b
   progress b k = record {
-    few = by-kept conf b k (λ (a : Buffers). Mail.countOf (a .mail) ≤ capacityBound (conf .sessions) (conf .items)) few-messages;
+    few = by-kept conf b k (λ (a : Buffers). Mail.countOf (a .mail) ≤ capacityBound (conf .table .sessions) (conf .table .items)) few-messages;
     accepted = λ l h. kept-accepts (left b l) (deliveries-keep conf l b k h);
     bounded = deliveries-bounded b k;
     emptied = λ l h. ends-empty (left b l) (deliveries-keep conf l b k h);

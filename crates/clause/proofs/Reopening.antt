@@ -27,7 +27,7 @@ use Rattle.agreement.specs.Reading.{readState}
 use Rattle.agreement.proofs.MoveAgrees.{Replaced, StateWellFormed}
 use Rattle.agreement.proofs.ReopenAgrees as Agrees
 use Rattle.clause.proofs.State
-use Rattle.clause.proofs.State.{seniorOf, nextOf, machineOf, stateOf, Good}
+use Rattle.clause.proofs.State.{seniorOf, nextOf, machineOf, stateOf, Good, sessions-of, items-of}
 use Rattle.clause.proofs.Moves.{Moved, session-moved, session-call}
 use Rattle.clause.proofs.Step.{quiet}
 
@@ -58,10 +58,10 @@ module _ (conf : Config) (table : List ℕ) (l : List Entry) (g : Good conf tabl
     pub moved : Moved conf table l (buffers after (Mail.mailBytes (conf .capacity) k))
     pub nothing : moved .event ≡ Machine.nothing
 
-  module _ (r : between 1 (conf .sessions) t ≡ true) (p : Reopenable t table mail) where
-    items : (x : ℕ) → 1 ≤ x → x ≤ conf .items → Agrees.Unnamed t (locks table x)
+  module _ (r : between 1 (conf .table .sessions) t ≡ true) (p : Reopenable t table mail) where
+    items : (x : ℕ) → 1 ≤ x → x ≤ conf .table .items → Agrees.Unnamed t (locks table x)
     unfolding locks itemNames
-    items x low high = p .items x low (rw (g .items) high)
+    items x low high = p .items x low (rw (items-of g) high)
 
     entries : noEntryNames t l ≡ true
     entries = rw (MailLaws.entries-mail (conf .capacity) l (g .low) (g .high) (g .room)) at (p .entries)
@@ -71,19 +71,19 @@ module _ (conf : Config) (table : List ℕ) (l : List Entry) (g : Good conf tabl
     sent = l ++ map (fromSession t) (Agrees.reopened .sends)
 
     abbrev Put : (ℕ → Session) → Type 0
-    Put f = Replaced (conf .sessions) (Table.session table) f t SessionRecord.fresh
+    Put f = Replaced (conf .table .sessions) (Table.session table) f t SessionRecord.fresh
 
     fits : length sent ≤ conf .capacity
     fits = rw (append-nil l) (g .room)
 
-    kept : (f : ℕ → Session) → Put f → StateWellFormed (conf .sessions) (conf .items) f (locks table) sent
-    kept = Agrees.reopen-move-kept (seniorOf conf) (nextOf conf) (conf .sessions) (conf .items) (Table.session table) (locks table) l (State.all-formed conf table l g) t r
+    kept : (f : ℕ → Session) → Put f → StateWellFormed (conf .table .sessions) (conf .table .items) f (locks table) sent
+    kept = Agrees.reopen-move-kept (seniorOf conf) (nextOf conf) (conf .table .sessions) (conf .table .items) (Table.session table) (locks table) l (State.all-formed conf table l g) t r
 
-    moves : (f : ℕ → Session) → Put f → readState (conf .sessions) (conf .items) f (locks table) sent ≡ Machine.move (machineOf conf) (stateOf conf table l) (Machine.reopen t)
-    moves = Agrees.reopen-move (seniorOf conf) (nextOf conf) (conf .sessions) (conf .items) (Table.session table) (locks table) l (State.all-formed conf table l g) t r (p .over) entries items
+    moves : (f : ℕ → Session) → Put f → readState (conf .table .sessions) (conf .table .items) f (locks table) sent ≡ Machine.move (machineOf conf) (stateOf conf table l) (Machine.reopen t)
+    moves = Agrees.reopen-move (seniorOf conf) (nextOf conf) (conf .table .sessions) (conf .table .items) (Table.session table) (locks table) l (State.all-formed conf table l g) t r (p .over) entries items
 
-    happens : (f : ℕ → Session) → Put f → StateWellFormed (conf .sessions) (conf .items) f (locks table) sent
-        → Machine.eventOf (machineOf conf) (stateOf conf table l) (Machine.reopen t) (readState (conf .sessions) (conf .items) f (locks table) sent)
+    happens : (f : ℕ → Session) → Put f → StateWellFormed (conf .table .sessions) (conf .table .items) f (locks table) sent
+        → Machine.eventOf (machineOf conf) (stateOf conf table l) (Machine.reopen t) (readState (conf .table .sessions) (conf .table .items) f (locks table) sent)
         ≡ record { closed = false; declared = none; rolledBack = not (eqb (Table.session table t .stage) Stage.rolledBack) && eqb (f t .stage) Stage.rolledBack }
     unfolding Machine.eventOf
     happens f h _ = rw (h .here) (quiet (not (eqb (Table.session table t .stage) Stage.rolledBack)))
@@ -101,5 +101,5 @@ module _ (conf : Config) (table : List ℕ) (l : List Entry) (g : Good conf tabl
   by-reopen P refused moved =
       by-test P (eqb (reopenRefusal t table mail) 0)
       (λ e. let z = reopen-zero t table mail (eqb-true (reopenRefusal t table mail) 0 e) in
-      moved (subst ReopenMoved (append-nil l) (done (rw (g .sessions) at (z .0)) (reopenable t table mail (z .1)))))
+      moved (subst ReopenMoved (append-nil l) (done (rw (sessions-of g) at (z .0)) (reopenable t table mail (z .1)))))
       (λ _. refused (reopenRefusal t table mail))

@@ -36,79 +36,79 @@ use Rattle.agreement.proofs.RulesLaws.{rules-laws}
 
 -- the seniority of a lock manager, its next holder, and the machine with both
 abbrev pub seniorOf : Config → ℕ → ℕ → Bool
-seniorOf conf = senior (conf .ranks)
+seniorOf conf = senior (conf .table .ranks)
 
 abbrev pub nextOf : Config → List ℕ → ℕ
 nextOf conf = nextHolder (seniorOf conf)
 
 abbrev pub machineOf : Config → Machine.Rules
-machineOf conf = rules (conf .sessions) (conf .items) (seniorOf conf) (nextOf conf)
+machineOf conf = rules (conf .table .sessions) (conf .table .items) (seniorOf conf) (nextOf conf)
 
 -- what a table and the entries of the mail say
 abbrev pub stateOf : Config → List ℕ → List Entry → Machine.State
-stateOf conf table l = readState (conf .sessions) (conf .items) (Table.session table) (locks table) l
+stateOf conf table l = readState (conf .table .sessions) (conf .table .items) (Table.session table) (locks table) l
 
 -- a well-formed table, and well-formed entries that fit the mailbox
 pub record Good (conf : Config) (table : List ℕ) (l : List Entry) : Type 0 where
   pub sized : Table.sized table ≡ true
-  pub sessions : Table.sessionsOf table ≡ conf .sessions
-  pub items : Table.itemsOf table ≡ conf .items
-  pub ranks : Table.ranks table ≡ conf .ranks
+  pub sessions : Table.sessionsOf table ≡ conf .table .sessions
+  pub items : Table.itemsOf table ≡ conf .table .items
+  pub ranks : Table.ranks table ≡ conf .table .ranks
   pub formed : Table.wellFormed table ≡ true
   pub low : 1 ≤ conf .capacity
   pub high : conf .capacity ≤ Mail.maxCapacity
   pub room : length l ≤ conf .capacity
-  pub entries : allOf (Entry.wellFormed (conf .sessions) (conf .items)) l ≡ true
+  pub entries : allOf (Entry.wellFormed (conf .table .sessions) (conf .table .items)) l ≡ true
 
 module _ (conf : Config) (table : List ℕ) (l : List Entry) (g : Good conf table l) where
-  pub few-sessions : conf .sessions ≤ 64
-  few-sessions = omega (arith, TableLaws.sized-facts table (g .sized) .max-sessions, g .sessions)
+  pub few-sessions : conf .table .sessions ≤ 64
+  few-sessions = omega (arith, TableLaws.sized-facts table (g .sized) .max-sessions, sessions-of g)
 
-  pub few-items : conf .items ≤ 64
-  few-items = omega (arith, TableLaws.sized-facts table (g .sized) .max-items, g .items)
+  pub few-items : conf .table .items ≤ 64
+  few-items = omega (arith, TableLaws.sized-facts table (g .sized) .max-items, items-of g)
 
   -- the ranks are well-formed, so that the machine's theorem holds
   pub machine-laws : Machine.Laws (machineOf conf)
   machine-laws =
-      rules-laws (senior-order (conf .ranks) (rw (g .ranks) at (TableLaws.well-formed-ranks table (g .formed)))) (conf .sessions) (conf .items)
+      rules-laws (senior-order (conf .table .ranks) (rw (ranks-of g) at (TableLaws.well-formed-ranks table (g .formed)))) (conf .table .sessions) (conf .table .items)
 
   -- the table and the bytes of the entries are well-formed
   pub buffers-formed : Formed table (Mail.mailBytes (conf .capacity) l)
   buffers-formed = record {
     records = record { sized = g .sized; formed = g .formed };
     mail-sized = MailLaws.sized-mail (conf .capacity) l (g .low) (g .high) (g .room);
-    mail-formed = rw (g .sessions, g .items) (MailLaws.wellFormed-mail (conf .capacity) l (g .low) (g .high) (g .room) (conf .sessions) (conf .items) (g .entries));
+    mail-formed = rw (sessions-of g, items-of g) (MailLaws.wellFormed-mail (conf .capacity) l (g .low) (g .high) (g .room) (conf .table .sessions) (conf .table .items) (g .entries));
   }
 
-  session-known : (t : ℕ) → between 1 (conf .sessions) t ≡ true → (1 ≤ t) × (t ≤ Table.sessionsOf table)
-  session-known t r = (within 1 (conf .sessions) t r .0, omega (arith, within 1 (conf .sessions) t r .1, g .sessions))
+  session-known : (t : ℕ) → between 1 (conf .table .sessions) t ≡ true → (1 ≤ t) × (t ≤ Table.sessionsOf table)
+  session-known t r = (within 1 (conf .table .sessions) t r .0, omega (arith, within 1 (conf .table .sessions) t r .1, sessions-of g))
 
-  item-known : (x : ℕ) → between 1 (conf .items) x ≡ true → (1 ≤ x) × (x ≤ Table.itemsOf table)
-  item-known x r = (within 1 (conf .items) x r .0, omega (arith, within 1 (conf .items) x r .1, g .items))
+  item-known : (x : ℕ) → between 1 (conf .table .items) x ≡ true → (1 ≤ x) × (x ≤ Table.itemsOf table)
+  item-known x r = (within 1 (conf .table .items) x r .0, omega (arith, within 1 (conf .table .items) x r .1, items-of g))
 
   -- every record and every entry is well-formed
-  pub all-formed : StateWellFormed (conf .sessions) (conf .items) (Table.session table) (locks table) l
+  pub all-formed : StateWellFormed (conf .table .sessions) (conf .table .items) (Table.session table) (locks table) l
   unfolding locks
   all-formed = record {
     session = λ t r. let k = session-known t r in
-        rw (g .sessions, g .items) at (TableLaws.well-formed-session table (g .formed) t (k .0) (k .1));
+        rw (sessions-of g, items-of g) at (TableLaws.well-formed-session table (g .formed) t (k .0) (k .1));
     juniors = λ t r. let k = session-known t r in TableLaws.juniors-length table (g .sized) t (k .0) (k .1);
     lock = λ x r. let k = item-known x r in
-        unpacked-lock (conf .sessions) (Table.item table x) (rw (g .sessions) at (TableLaws.well-formed-item table (g .formed) x (k .0) (k .1)));
+        unpacked-lock (conf .table .sessions) (Table.item table x) (rw (sessions-of g) at (TableLaws.well-formed-item table (g .formed) x (k .0) (k .1)));
     entries = g .entries;
   }
 
   -- the record of session t replaced by one that keeps the state well-formed
-  module _ (t : ℕ) (r : between 1 (conf .sessions) t ≡ true) (s : Session) (k : List Entry) (fits : length k ≤ conf .capacity)
-      (kept : (f : ℕ → Session) → Replaced (conf .sessions) (Table.session table) f t s → StateWellFormed (conf .sessions) (conf .items) f (locks table) k) where
+  module _ (t : ℕ) (r : between 1 (conf .table .sessions) t ≡ true) (s : Session) (k : List Entry) (fits : length k ≤ conf .capacity)
+      (kept : (f : ℕ → Session) → Replaced (conf .table .sessions) (Table.session table) f t s → StateWellFormed (conf .table .sessions) (conf .table .items) f (locks table) k) where
     unfoldable put : ℕ → Session
     put j = cond (eqb t j) s (Table.session table j)
 
-    put-replaced : Replaced (conf .sessions) (Table.session table) put t s
+    put-replaced : Replaced (conf .table .sessions) (Table.session table) put t s
     unfolding put
     put-replaced = record { here = rw (eq-eqb t t refl) refl; elsewhere = λ j _ n. rw (ne-eqb t j n) refl }
 
-    new-session : SessionRecord.wellFormed (conf .sessions) (conf .items) s ≡ true
+    new-session : SessionRecord.wellFormed (conf .table .sessions) (conf .table .items) s ≡ true
     new-session = rw (put-replaced .here) at (kept put put-replaced .session t r)
 
     new-juniors : length (s .juniors) ≡ 64
@@ -117,11 +117,11 @@ module _ (conf : Config) (table : List ℕ) (l : List Entry) (g : Good conf tabl
     abbrev with-session : List ℕ
     with-session = Table.withSession table t s
 
-    pub session-replaced : Replaced (conf .sessions) (Table.session table) (Table.session with-session) t s
+    pub session-replaced : Replaced (conf .table .sessions) (Table.session table) (Table.session with-session) t s
     session-replaced =
         let n = session-known t r in record {
-          here = TableLaws.session-withSession table (g .sized) t (n .0) (n .1) s new-juniors (held-fits (conf .sessions) (conf .items) s few-items new-session);
-          elsewhere = λ j q d. TableLaws.other-withSession table (g .sized) t (n .0) (n .1) s new-juniors j (within 1 (conf .sessions) j q .0) (λ e. d (sym e));
+          here = TableLaws.session-withSession table (g .sized) t (n .0) (n .1) s new-juniors (held-fits (conf .table .sessions) (conf .table .items) s few-items new-session);
+          elsewhere = λ j q d. TableLaws.other-withSession table (g .sized) t (n .0) (n .1) s new-juniors j (within 1 (conf .table .sessions) j q .0) (λ e. d (sym e));
         }
 
     locks-same : locks with-session ≡ locks table
@@ -130,17 +130,17 @@ module _ (conf : Config) (table : List ℕ) (l : List Entry) (g : Good conf tabl
         let n = session-known t r in
         fun-ext (λ x. ap unpacked (TableLaws.item-withSession table (g .sized) t (n .0) (n .1) s new-juniors x))
 
-    pub session-state : stateOf conf with-session k ≡ readState (conf .sessions) (conf .items) (Table.session with-session) (locks table) k
-    session-state = ap (λ (f : ℕ → Lock). readState (conf .sessions) (conf .items) (Table.session with-session) f k) locks-same
+    pub session-state : stateOf conf with-session k ≡ readState (conf .table .sessions) (conf .table .items) (Table.session with-session) (locks table) k
+    session-state = ap (λ (f : ℕ → Lock). readState (conf .table .sessions) (conf .table .items) (Table.session with-session) f k) locks-same
 
     pub session-good : Good conf with-session k
     session-good =
         let n = session-known t r in record {
           sized = TableLaws.sized-withSession table (g .sized) t (n .0) (n .1) s new-juniors;
-          sessions = TableLaws.sessionsOf-withSession table (g .sized) t (n .0) (n .1) s new-juniors ∙ g .sessions;
-          items = TableLaws.itemsOf-withSession table (g .sized) t (n .0) (n .1) s new-juniors ∙ g .items;
-          ranks = TableLaws.ranks-withSession table (g .sized) t (n .0) (n .1) s new-juniors ∙ g .ranks;
-          formed = TableLaws.wellFormed-withSession table (g .sized) t (n .0) (n .1) s new-juniors (g .formed) (rw (g .sessions, g .items) new-session);
+          sessions = TableLaws.sessionsOf-withSession table (g .sized) t (n .0) (n .1) s new-juniors ∙ sessions-of g;
+          items = TableLaws.itemsOf-withSession table (g .sized) t (n .0) (n .1) s new-juniors ∙ items-of g;
+          ranks = TableLaws.ranks-withSession table (g .sized) t (n .0) (n .1) s new-juniors ∙ ranks-of g;
+          formed = TableLaws.wellFormed-withSession table (g .sized) t (n .0) (n .1) s new-juniors (g .formed) (rw (sessions-of g, items-of g) new-session);
           low = g .low;
           high = g .high;
           room = fits;
@@ -148,57 +148,57 @@ module _ (conf : Config) (table : List ℕ) (l : List Entry) (g : Good conf tabl
         }
 
   -- the record of item x replaced
-  module _ (x : ℕ) (r : between 1 (conf .items) x ≡ true) (i : Lock) (k : List Entry) (fits : length k ≤ conf .capacity)
-      (kept : (f : ℕ → Lock) → Replaced (conf .items) (locks table) f x i → StateWellFormed (conf .sessions) (conf .items) (Table.session table) f k) where
+  module _ (x : ℕ) (r : between 1 (conf .table .items) x ≡ true) (i : Lock) (k : List Entry) (fits : length k ≤ conf .capacity)
+      (kept : (f : ℕ → Lock) → Replaced (conf .table .items) (locks table) f x i → StateWellFormed (conf .table .sessions) (conf .table .items) (Table.session table) f k) where
     unfoldable put-lock : ℕ → Lock
     put-lock j = cond (eqb x j) i (locks table j)
 
-    lock-put : Replaced (conf .items) (locks table) put-lock x i
+    lock-put : Replaced (conf .table .items) (locks table) put-lock x i
     unfolding put-lock
     lock-put = record { here = rw (eq-eqb x x refl) refl; elsewhere = λ j _ n. rw (ne-eqb x j n) refl }
 
-    new-lock : LockWellFormed (conf .sessions) i
+    new-lock : LockWellFormed (conf .table .sessions) i
     new-lock = rw (lock-put .here) at (kept put-lock lock-put .lock x r)
 
     queue-whole : length (packed i .queue) ≡ 64
-    queue-whole = length-packed i (omega (arith, distinct-length (conf .sessions) (i .queue) (new-lock .once) (new-lock .sessions), few-sessions))
+    queue-whole = length-packed i (omega (arith, distinct-length (conf .table .sessions) (i .queue) (new-lock .once) (new-lock .sessions), few-sessions))
 
     abbrev with-item : List ℕ
     with-item = Table.withItem table x (packed i)
 
-    pub lock-replaced : Replaced (conf .items) (locks table) (locks with-item) x i
+    pub lock-replaced : Replaced (conf .table .items) (locks table) (locks with-item) x i
     unfolding locks
     lock-replaced =
         let n = item-known x r in record {
           here = ap unpacked (TableLaws.item-withItem table (g .sized) x (n .0) (n .1) (packed i) queue-whole) ∙ unpacked-packed i;
-          elsewhere = λ j q d. ap unpacked (TableLaws.other-withItem table (g .sized) x (n .0) (n .1) (packed i) queue-whole j (within 1 (conf .items) j q .0) (λ e. d (sym e)));
+          elsewhere = λ j q d. ap unpacked (TableLaws.other-withItem table (g .sized) x (n .0) (n .1) (packed i) queue-whole j (within 1 (conf .table .items) j q .0) (λ e. d (sym e)));
         }
 
-    pub session-same : (t : ℕ) → between 1 (conf .sessions) t ≡ true → Table.session with-item t ≡ Table.session table t
+    pub session-same : (t : ℕ) → between 1 (conf .table .sessions) t ≡ true → Table.session with-item t ≡ Table.session table t
     session-same t q =
         let n = item-known x r in
         let m = session-known t q in
         TableLaws.session-withItem table (g .sized) x (n .0) (n .1) (packed i) queue-whole t (m .0) (m .1)
 
-    sessions-same : readSessions (conf .sessions) (Table.session with-item) ≡ readSessions (conf .sessions) (Table.session table)
+    sessions-same : readSessions (conf .table .sessions) (Table.session with-item) ≡ readSessions (conf .table .sessions) (Table.session table)
     unfolding readSessions
-    sessions-same = fun-ext (λ t. go t (between 1 (conf .sessions) t) refl)
+    sessions-same = fun-ext (λ t. go t (between 1 (conf .table .sessions) t) refl)
       where
-        go : (t : ℕ) (b : Bool) → between 1 (conf .sessions) t ≡ b → cond b (readSession (Table.session with-item t)) Machine.fresh ≡ cond b (readSession (Table.session table t)) Machine.fresh
+        go : (t : ℕ) (b : Bool) → between 1 (conf .table .sessions) t ≡ b → cond b (readSession (Table.session with-item t)) Machine.fresh ≡ cond b (readSession (Table.session table t)) Machine.fresh
         go t true e = ap readSession (session-same t e)
         go t false e = refl
 
-    pub item-state : stateOf conf with-item k ≡ readState (conf .sessions) (conf .items) (Table.session table) (locks with-item) k
+    pub item-state : stateOf conf with-item k ≡ readState (conf .table .sessions) (conf .table .items) (Table.session table) (locks with-item) k
     item-state = rw (sessions-same) refl
 
     pub item-good : Good conf with-item k
     item-good =
         let n = item-known x r in record {
           sized = TableLaws.sized-withItem table (g .sized) x (n .0) (n .1) (packed i) queue-whole;
-          sessions = TableLaws.sessionsOf-withItem table (g .sized) x (n .0) (n .1) (packed i) queue-whole ∙ g .sessions;
-          items = TableLaws.itemsOf-withItem table (g .sized) x (n .0) (n .1) (packed i) queue-whole ∙ g .items;
-          ranks = TableLaws.ranks-withItem table (g .sized) x (n .0) (n .1) (packed i) queue-whole ∙ g .ranks;
-          formed = TableLaws.wellFormed-withItem table (g .sized) x (n .0) (n .1) (packed i) queue-whole (g .formed) (rw (g .sessions) (packed-lock (conf .sessions) i few-sessions new-lock));
+          sessions = TableLaws.sessionsOf-withItem table (g .sized) x (n .0) (n .1) (packed i) queue-whole ∙ sessions-of g;
+          items = TableLaws.itemsOf-withItem table (g .sized) x (n .0) (n .1) (packed i) queue-whole ∙ items-of g;
+          ranks = TableLaws.ranks-withItem table (g .sized) x (n .0) (n .1) (packed i) queue-whole ∙ ranks-of g;
+          formed = TableLaws.wellFormed-withItem table (g .sized) x (n .0) (n .1) (packed i) queue-whole (g .formed) (rw (sessions-of g) (packed-lock (conf .table .sessions) i few-sessions new-lock));
           low = g .low;
           high = g .high;
           room = fits;

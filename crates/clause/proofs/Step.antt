@@ -39,7 +39,7 @@ use Rattle.agreement.proofs.MailboxAgrees.{length-readEntries}
 use Rattle.agreement.proofs.MoveAgrees as Agrees
 use Rattle.agreement.proofs.EventAgrees as Events
 use Rattle.clause.proofs.State
-use Rattle.clause.proofs.State.{seniorOf, nextOf, machineOf, Good}
+use Rattle.clause.proofs.State.{seniorOf, nextOf, machineOf, Good, sessions-of, items-of, ranks-of}
 use Rattle.clause.proofs.Moves.{StepMoved, session-stepped, item-stepped}
 
 -- nothing happens, for no test and another is passed
@@ -57,7 +57,7 @@ module _ (conf : Config) (table : List ℕ) (l : List Entry) (g : Good conf tabl
   entries-are : Mail.entriesOf mail ≡ l
   entries-are = MailLaws.entries-mail (conf .capacity) l (g .low) (g .high) (g .room)
 
-  module _ (t x : ℕ) (t-range : between 1 (conf .sessions) t ≡ true) (x-range : between 1 (conf .items) x ≡ true) where
+  module _ (t x : ℕ) (t-range : between 1 (conf .table .sessions) t ≡ true) (x-range : between 1 (conf .table .items) x ≡ true) where
     in-range : Machine.inRange (machineOf conf) t x ≡ true
     unfolding Machine.inRange
     in-range = and-intro t-range x-range
@@ -68,18 +68,18 @@ module _ (conf : Config) (table : List ℕ) (l : List Entry) (g : Good conf tabl
     abbrev Done : ℕ → Type 0
     Done verb = Unhindered verb t x table l → length (planned verb .entries) ≤ conf .capacity → StepMoved conf table l verb t (committed t (conf .capacity) (planned verb))
 
-    few-sessions : conf .sessions ≤ 64
+    few-sessions : conf .table .sessions ≤ 64
     few-sessions = State.few-sessions conf table l g
 
-    few-items : conf .items ≤ 64
+    few-items : conf .table .items ≤ 64
     few-items = State.few-items conf table l g
 
-    formed : Agrees.StateWellFormed (conf .sessions) (conf .items) (Table.session table) (locks table) l
+    formed : Agrees.StateWellFormed (conf .table .sessions) (conf .table .items) (Table.session table) (locks table) l
     formed = State.all-formed conf table l g
 
     -- where an entry is found the machine takes it
     taken : (d : Bool) → eqb (Agrees.placeOf t x l d) (length l) ≡ false → Bound.isTaken (Machine.takeFirst d t x (readEntries l)) ≡ true
-    taken d found = ap Bound.isTaken (Agrees.taken-eq (seniorOf conf) (nextOf conf) (conf .sessions) (conf .items) few-sessions few-items (Table.session table) (locks table) l formed t x t-range x-range d found)
+    taken d found = ap Bound.isTaken (Agrees.taken-eq (seniorOf conf) (nextOf conf) (conf .table .sessions) (conf .table .items) few-sessions few-items (Table.session table) (locks table) l formed t x t-range x-range d found)
 
     request-done : Done Step.request
     unfolding Machine.ofMachine Machine.eventOf Session.requested
@@ -91,8 +91,8 @@ module _ (conf : Config) (table : List ℕ) (l : List Entry) (g : Good conf tabl
         rw (request-plan (Table.senior table) t x table l)
         (session-stepped conf table l g t t-range (Machine.requestCall t x) in-range l (Session.requested x s)
         (rw (request-plan (Table.senior table) t x table l) at room)
-        (λ f h. Agrees.request-move-kept (seniorOf conf) (nextOf conf) (conf .sessions) (conf .items) few-sessions few-items (Table.session table) (locks table) l formed t x t-range x-range f h)
-        (λ f h. Agrees.request-move (seniorOf conf) (nextOf conf) (conf .sessions) (conf .items) few-sessions few-items (Table.session table) (locks table) l formed t x t-range x-range allowed f h)
+        (λ f h. Agrees.request-move-kept (seniorOf conf) (nextOf conf) (conf .table .sessions) (conf .table .items) few-sessions few-items (Table.session table) (locks table) l formed t x t-range x-range f h)
+        (λ f h. Agrees.request-move (seniorOf conf) (nextOf conf) (conf .table .sessions) (conf .table .items) few-sessions few-items (Table.session table) (locks table) l formed t x t-range x-range allowed f h)
         (λ f h _. rw (h .here) (quiet (not (eqb (s .stage) Stage.rolledBack))))
         Step.request refl (λ e. absurd (false≢true e)))
 
@@ -105,8 +105,8 @@ module _ (conf : Config) (table : List ℕ) (l : List Entry) (g : Good conf tabl
         rw (release-plan (Table.senior table) t x table l)
         (session-stepped conf table l g t t-range (Machine.releaseCall t x) in-range l (Session.released x s)
         (rw (release-plan (Table.senior table) t x table l) at room)
-        (λ f h. Agrees.release-move-kept (seniorOf conf) (nextOf conf) (conf .sessions) (conf .items) few-sessions few-items (Table.session table) (locks table) l formed t x t-range x-range stage f h)
-        (λ f h. Agrees.release-move (seniorOf conf) (nextOf conf) (conf .sessions) (conf .items) few-sessions few-items (Table.session table) (locks table) l formed t x t-range x-range allowed f h)
+        (λ f h. Agrees.release-move-kept (seniorOf conf) (nextOf conf) (conf .table .sessions) (conf .table .items) few-sessions few-items (Table.session table) (locks table) l formed t x t-range x-range stage f h)
+        (λ f h. Agrees.release-move (seniorOf conf) (nextOf conf) (conf .table .sessions) (conf .table .items) few-sessions few-items (Table.session table) (locks table) l formed t x t-range x-range allowed f h)
         (λ f h _. rw (h .here) (quiet (not (eqb (s .stage) Stage.rolledBack))))
         Step.release refl (λ e. absurd (false≢true e)))
 
@@ -114,12 +114,12 @@ module _ (conf : Config) (table : List ℕ) (l : List Entry) (g : Good conf tabl
     item-plan : planned Step.deliverToItem ≡ itemPlan x table (Agrees.othersOf t x l true) (Agrees.itemStep (seniorOf conf) (nextOf conf) (locks table) t x l)
     unfolding plan delivered
     item-plan =
-        ap (λ (r : List ℕ). itemPlan x table (Agrees.othersOf t x l true) (Agrees.itemStep (senior r) (nextHolder (senior r)) (locks table) t x l)) (g .ranks)
+        ap (λ (r : List ℕ). itemPlan x table (Agrees.othersOf t x l true) (Agrees.itemStep (senior r) (nextHolder (senior r)) (locks table) t x l)) (ranks-of g)
 
     session-plan : planned Step.deliverToSession ≡ sessionPlan t table (Agrees.othersOf t x l false) (Agrees.sessionStep (seniorOf conf) (Table.session table) t x l)
     unfolding plan delivered sessionActs
     session-plan =
-        ap (λ (r : List ℕ). sessionPlan t table (Agrees.othersOf t x l false) (Agrees.sessionStep (senior r) (Table.session table) t x l)) (g .ranks)
+        ap (λ (r : List ℕ). sessionPlan t table (Agrees.othersOf t x l false) (Agrees.sessionStep (senior r) (Table.session table) t x l)) (ranks-of g)
 
     item-done : Done Step.deliverToItem
     unfolding delivered Machine.ofMachine Bound.delivers
@@ -128,9 +128,9 @@ module _ (conf : Config) (table : List ℕ) (l : List Entry) (g : Good conf tabl
         rw (item-plan)
         (item-stepped conf table l g t t-range x x-range (Machine.deliverToItem t x) in-range (Agrees.othersOf t x l true) (Agrees.itemStep (seniorOf conf) (nextOf conf) (locks table) t x l)
         (rw (item-plan) at room)
-        (λ f h. Agrees.item-move-kept (seniorOf conf) (nextOf conf) (conf .sessions) (conf .items) few-sessions few-items (Table.session table) (locks table) l formed t x t-range x-range found (next-inside (senior-weak (conf .ranks))) f h)
-        (λ f h. Agrees.item-move (seniorOf conf) (nextOf conf) (conf .sessions) (conf .items) few-sessions few-items (Table.session table) (locks table) l formed t x t-range x-range found (next-inside (senior-weak (conf .ranks))) f h)
-        (λ after. Events.item-move-event (seniorOf conf) (nextOf conf) (conf .sessions) (conf .items) few-sessions few-items (Table.session table) (locks table) l formed t x t-range x-range found (next-inside (senior-weak (conf .ranks))) after)
+        (λ f h. Agrees.item-move-kept (seniorOf conf) (nextOf conf) (conf .table .sessions) (conf .table .items) few-sessions few-items (Table.session table) (locks table) l formed t x t-range x-range found (next-inside (senior-weak (conf .table .ranks))) f h)
+        (λ f h. Agrees.item-move (seniorOf conf) (nextOf conf) (conf .table .sessions) (conf .table .items) few-sessions few-items (Table.session table) (locks table) l formed t x t-range x-range found (next-inside (senior-weak (conf .table .ranks))) f h)
+        (λ after. Events.item-move-event (seniorOf conf) (nextOf conf) (conf .table .sessions) (conf .table .items) few-sessions few-items (Table.session table) (locks table) l formed t x t-range x-range found (next-inside (senior-weak (conf .table .ranks))) after)
         (taken true found) Step.deliverToItem)
 
     session-done : Done Step.deliverToSession
@@ -140,9 +140,9 @@ module _ (conf : Config) (table : List ℕ) (l : List Entry) (g : Good conf tabl
         rw (session-plan)
         (session-stepped conf table l g t t-range (Machine.deliverToSession t x) in-range (Agrees.othersOf t x l false) (Agrees.sessionStep (seniorOf conf) (Table.session table) t x l)
         (rw (session-plan) at room)
-        (λ f h. Agrees.session-move-kept (seniorOf conf) (nextOf conf) (conf .sessions) (conf .items) few-sessions few-items (Table.session table) (locks table) l formed t x t-range x-range found f h)
-        (λ f h. Agrees.session-move (seniorOf conf) (nextOf conf) (conf .sessions) (conf .items) few-sessions few-items (Table.session table) (locks table) l formed t x t-range x-range found f h)
-        (λ f h v. Events.session-move-event (seniorOf conf) (nextOf conf) (conf .sessions) (conf .items) few-sessions few-items (Table.session table) (locks table) l formed t x t-range x-range f _ v)
+        (λ f h. Agrees.session-move-kept (seniorOf conf) (nextOf conf) (conf .table .sessions) (conf .table .items) few-sessions few-items (Table.session table) (locks table) l formed t x t-range x-range found f h)
+        (λ f h. Agrees.session-move (seniorOf conf) (nextOf conf) (conf .table .sessions) (conf .table .items) few-sessions few-items (Table.session table) (locks table) l formed t x t-range x-range found f h)
+        (λ f h v. Events.session-move-event (seniorOf conf) (nextOf conf) (conf .table .sessions) (conf .table .items) few-sessions few-items (Table.session table) (locks table) l formed t x t-range x-range f _ v)
         Step.deliverToSession refl (λ _. taken false found))
 
     -- ---- a delivery that finds its entry, to the item (true) or to the session (false): how many entries it leaves, and that only room can hinder it
@@ -160,14 +160,14 @@ module _ (conf : Config) (table : List ℕ) (l : List Entry) (g : Good conf tabl
         ap (λ (p : Plan). length (p .entries)) item-plan
         ∙ sym (length-readEntries _)
         ∙ ap (λ (s : Machine.State). length (s .mailbox))
-        (Agrees.item-move (seniorOf conf) (nextOf conf) (conf .sessions) (conf .items) few-sessions few-items (Table.session table) (locks table) l formed t x t-range x-range found (next-inside (senior-weak (conf .ranks)))
+        (Agrees.item-move (seniorOf conf) (nextOf conf) (conf .table .sessions) (conf .table .items) few-sessions few-items (Table.session table) (locks table) l formed t x t-range x-range found (next-inside (senior-weak (conf .table .ranks)))
         (updated (locks table) x (r .lock)) (record { here = updated-same (locks table) x (r .lock); elsewhere = λ j _ n. updated-other (locks table) x (r .lock) j n }))
     same-count false found =
         let r = Agrees.sessionStep (seniorOf conf) (Table.session table) t x l in
         ap (λ (p : Plan). length (p .entries)) session-plan
         ∙ sym (length-readEntries _)
         ∙ ap (λ (s : Machine.State). length (s .mailbox))
-        (Agrees.session-move (seniorOf conf) (nextOf conf) (conf .sessions) (conf .items) few-sessions few-items (Table.session table) (locks table) l formed t x t-range x-range found
+        (Agrees.session-move (seniorOf conf) (nextOf conf) (conf .table .sessions) (conf .table .items) few-sessions few-items (Table.session table) (locks table) l formed t x t-range x-range found
         (updated (Table.session table) t (r .session)) (record { here = updated-same (Table.session table) t (r .session); elsewhere = λ j _ n. updated-other (Table.session table) t (r .session) j n }))
 
     only-room : (d : Bool) → eqb (Agrees.placeOf t x l d) (length l) ≡ false → first (stepCauses (deliveryVerb d) t x table (Mail.entriesOf mail)) ≡ 0
@@ -184,10 +184,10 @@ module _ (conf : Config) (table : List ℕ) (l : List Entry) (g : Good conf tabl
         → length (Machine.move (machineOf conf) (State.stateOf conf table l) (deliveryCall d) .mailbox) ≤ conf .capacity → step (deliveryVerb d) t x table mail .answer .refusal ≡ 0
     fits-accepted d found fits =
         let f = State.buffers-formed conf table l g in
-        let rt = within 1 (conf .sessions) t t-range in
-        let rx = within 1 (conf .items) x x-range in
+        let rt = within 1 (conf .table .sessions) t t-range in
+        let rx = within 1 (conf .table .items) x x-range in
         let v = is-verb d in
-        let j = judged-none (deliveryVerb d) t x table mail (v .0) (v .1) (formed-zero table mail f) (rt .0) (omega (arith, rt .1, g .sessions)) (rx .0) (omega (arith, rx .1, g .items)) in
+        let j = judged-none (deliveryVerb d) t x table mail (v .0) (v .1) (formed-zero table mail f) (rt .0) (omega (arith, rt .1, sessions-of g)) (rx .0) (omega (arith, rx .1, items-of g)) in
         let room : overfull (Mail.capacityOf mail) (plan (Table.senior table) (deliveryVerb d) t x table (Mail.entriesOf mail) .entries) ≡ false =
         rw (capacity-is, entries-are) (le-ltb (conf .capacity) (length (planned (deliveryVerb d) .entries)) (omega (arith, same-count d found, fits))) in
         rw (step-acts (deliveryVerb d) t x table mail j, acted-concluded (Table.senior table) (deliveryVerb d) t x table mail (only-room d found), room) refl
@@ -208,8 +208,8 @@ module _ (conf : Config) (table : List ℕ) (l : List Entry) (g : Good conf tabl
       → ((r : Stepped) → StepMoved conf table l verb t r → P r) → P (step verb t x table mail)
   by-step verb t x P refused moved =
       by-call verb t x table mail P refused (λ low high j u room.
-      let t-range = between-intro 1 (conf .sessions) t (j .session-low) (omega (arith, j .session-high, g .sessions)) in
-      let x-range = between-intro 1 (conf .items) x (j .item-low) (omega (arith, j .item-high, g .items)) in
+      let t-range = between-intro 1 (conf .table .sessions) t (j .session-low) (omega (arith, j .session-high, sessions-of g)) in
+      let x-range = between-intro 1 (conf .table .items) x (j .item-low) (omega (arith, j .item-high, items-of g)) in
       rw (capacity-is, entries-are)
       (moved (committed t (conf .capacity) (planned t x t-range x-range verb))
       (by-verb (Done t x t-range x-range) (request-done t x t-range x-range) (release-done t x t-range x-range) (item-done t x t-range x-range) (session-done t x t-range x-range) verb low high (rw (entries-are) at u) (rw (capacity-is, entries-are) at room))))

@@ -29,7 +29,7 @@ use Rattle.lockmgr.specs.Run.{Buffers, buffers}
 use Rattle.lockmgr.specs.History.{Call, after, steps}
 use Rattle.clause.specs.Statement.{opened, Settled, WellFormed, Holds, Clause}
 use Rattle.clause.proofs.State
-use Rattle.clause.proofs.State.{seniorOf, nextOf, machineOf, stateOf, Good}
+use Rattle.clause.proofs.State.{seniorOf, nextOf, machineOf, stateOf, Good, sessions-of, items-of, ranks-of}
 use Rattle.clause.proofs.Cycles.{on-cycle-of}
 use Rattle.clause.proofs.Follow.{ran, Followed, follow}
 use Rattle.clause.proofs.Declarations.{guaranteed, declarations}
@@ -41,34 +41,34 @@ module _ (c : Config) (table mail : List ℕ) (e : Calls.start c table mail .ref
   start-accepted = by-test (λ (r : Calls.Started). r .refusal ≡ 0 → Calls.startRefusal c table mail ≡ 0) (eqb (Calls.startRefusal c table mail) 0) (λ f _. eqb-true (Calls.startRefusal c table mail) 0 f) (λ _ g. g) e
 
   -- what it leaves
-  pub start-leaves : opened c table mail ≡ buffers (Table.started (c .sessions) (c .items) (c .ranks)) (Mail.mailBytes (c .capacity) [])
+  pub start-leaves : opened c table mail ≡ buffers (Table.started (c .table .sessions) (c .table .items) (c .table .ranks)) (Mail.mailBytes (c .capacity) [])
   unfolding opened Calls.start
   start-leaves = rw (start-accepted) refl
 
 module _ (conf : Config) where
   abbrev pub begun : List ℕ
-  begun = Table.started (conf .sessions) (conf .items) (conf .ranks)
+  begun = Table.started (conf .table .sessions) (conf .table .items) (conf .table .ranks)
 
   pub begun-good : {table mail : List ℕ} → Startable conf table mail → Good conf begun []
   begun-good f =
       let z = f .sizes in record {
-        sized = StartLaws.sized-started (conf .sessions) (conf .items) (conf .ranks) (z .ranks-whole) (z .some-sessions) (z .max-sessions) (z .some-items) (z .max-items);
-        sessions = StartLaws.sessionsOf-started (conf .sessions) (conf .items) (conf .ranks);
-        items = StartLaws.itemsOf-started (conf .sessions) (conf .items) (conf .ranks);
-        ranks = StartLaws.ranks-started (conf .sessions) (conf .items) (conf .ranks) (z .ranks-whole);
-        formed = StartLaws.wellFormed-started (conf .sessions) (conf .items) (conf .ranks) (z .ranks-whole) (f .ranks);
+        sized = StartLaws.sized-started (conf .table .sessions) (conf .table .items) (conf .table .ranks) (z .ranks-whole) (z .some-sessions) (z .max-sessions) (z .some-items) (z .max-items);
+        sessions = StartLaws.sessionsOf-started (conf .table .sessions) (conf .table .items) (conf .table .ranks);
+        items = StartLaws.itemsOf-started (conf .table .sessions) (conf .table .items) (conf .table .ranks);
+        ranks = StartLaws.ranks-started (conf .table .sessions) (conf .table .items) (conf .table .ranks) (z .ranks-whole);
+        formed = StartLaws.wellFormed-started (conf .table .sessions) (conf .table .items) (conf .table .ranks) (z .ranks-whole) (f .ranks);
         low = z .some-room;
         high = z .max-room;
         room = omega arith;
-        entries = all-none (Entry.wellFormed (conf .sessions) (conf .items));
+        entries = all-none (Entry.wellFormed (conf .table .sessions) (conf .table .items));
       }
 
-  pub begun-state : length (conf .ranks) ≡ conf .sessions → stateOf conf begun [] ≡ Machine.start (machineOf conf)
+  pub begun-state : length (conf .table .ranks) ≡ conf .table .sessions → stateOf conf begun [] ≡ Machine.start (machineOf conf)
   unfolding locks
   begun-state w =
-      start-agrees (conf .sessions) (conf .items) (Table.session begun) (locks begun)
-      (λ t r. StartLaws.session-started (conf .sessions) (conf .items) (conf .ranks) w t (within 1 (conf .sessions) t r .0) (within 1 (conf .sessions) t r .1))
-      (λ x r. ap ItemRecord.unpacked (StartLaws.item-started (conf .sessions) (conf .items) (conf .ranks) w x (within 1 (conf .items) x r .0) (within 1 (conf .items) x r .1)))
+      start-agrees (conf .table .sessions) (conf .table .items) (Table.session begun) (locks begun)
+      (λ t r. StartLaws.session-started (conf .table .sessions) (conf .table .items) (conf .table .ranks) w t (within 1 (conf .table .sessions) t r .0) (within 1 (conf .table .sessions) t r .1))
+      (λ x r. ap ItemRecord.unpacked (StartLaws.item-started (conf .table .sessions) (conf .table .items) (conf .table .ranks) w x (within 1 (conf .table .items) x r .0) (within 1 (conf .table .items) x r .1)))
       (seniorOf conf) (nextOf conf)
 
 pub no-entries : (l : List Entry) → length l ≡ 0 → l ≡ []
@@ -88,9 +88,9 @@ module _ (conf : Config) (b : Buffers) (calls : List Call) (h : Followed conf (M
   well-formed =
       let g = h .good in record {
         formed = rw (h .mail) (State.buffers-formed conf table-left (h .entries) g);
-        sessions = g .sessions;
-        items = g .items;
-        ranks = g .ranks;
+        sessions = sessions-of g;
+        items = items-of g;
+        ranks = ranks-of g;
         capacity = rw (h .mail) (MailLaws.capacity-mail (conf .capacity) (h .entries) (g .low) (g .high) (g .room));
       }
 
@@ -101,21 +101,21 @@ module _ (conf : Config) (b : Buffers) (calls : List Call) (h : Followed conf (M
         let n : length (h .entries) ≡ 0 = sym (MailLaws.count-mail (conf .capacity) (h .entries) (g .low) (g .high) (g .room)) ∙ ap Mail.countOf (sym (h .mail)) ∙ empty in
         ap (λ (s : Machine.State). s .mailbox) (h .state) ∙ none-read (h .entries) (no-entries (h .entries) n)
 
-    off-cycle : (t : ℕ) → 1 ≤ t → t ≤ conf .sessions → not (eqb (cycleLength table-left t) 0) ≡ false
+    off-cycle : (t : ℕ) → 1 ≤ t → t ≤ conf .table .sessions → not (eqb (cycleLength table-left t) 0) ≡ false
     off-cycle t lo hi =
         sym (on-cycle-of conf table-left (h .entries) (h .good) t)
         ∙ ap (λ (s : Machine.State). Machine.onCycle (machineOf conf) s t) (sym (h .state))
         ∙ guaranteed conf table-left (h .entries) (h .good) .settled-free (h .run) no-mail t lo hi
 
-    no-cycle : (t : ℕ) → 1 ≤ t → t ≤ conf .sessions → cycleLength table-left t ≡ 0
+    no-cycle : (t : ℕ) → 1 ≤ t → t ≤ conf .table .sessions → cycleLength table-left t ≡ 0
     no-cycle t lo hi = eqb-true (cycleLength table-left t) 0 (not-false (eqb (cycleLength table-left t) 0) (off-cycle t lo hi))
 
-    settled : Settled (conf .sessions) b calls
+    settled : Settled (conf .table .sessions) b calls
     unfolding Calls.report Waits.onCycle
     settled = record {
       counts = omega (arith, h .closes, h .rolls, guaranteed conf table-left (h .entries) (h .good) .counts-agree (h .run) no-mail);
-      none-stands = cycles-none (waitsFor table-left) (Table.sessionsOf table-left) (Table.senior table-left) (λ t lo hi. off-cycle t lo (rw (h .good .sessions) at hi));
-      reports = λ t lo hi. let high : t ≤ Table.sessionsOf table-left = rw (h .good .sessions) hi in
+      none-stands = cycles-none (waitsFor table-left) (Table.sessionsOf table-left) (Table.senior table-left) (λ t lo hi. off-cycle t lo (rw (sessions-of (h .good)) at hi));
+      reports = λ t lo hi. let high : t ≤ Table.sessionsOf table-left = rw (sessions-of (h .good)) hi in
           rw (report-none t table-left (h .good .sized) (h .good .formed) lo high, no-cycle t lo hi) refl;
     }
 

@@ -63,13 +63,13 @@ pub record Settled (S : ℕ) (b : Buffers) (calls : List Call) : Type 0 where
 -- both buffers are well-formed, so that 3 and 4 are never answered, and of the sizes and ranks that start was given
 pub record WellFormed (c : Config) (b : Buffers) : Type 0 where
   pub formed : Formed (b .table) (b .mail)
-  pub sessions : Table.sessionsOf (b .table) ≡ c .sessions
-  pub items : Table.itemsOf (b .table) ≡ c .items
+  pub sessions : Table.sessionsOf (b .table) ≡ c .table .sessions
+  pub items : Table.itemsOf (b .table) ≡ c .table .items
   pub capacity : Mail.capacityOf (b .mail) ≡ c .capacity
-  pub ranks : Table.ranks (b .table) ≡ c .ranks
+  pub ranks : Table.ranks (b .table) ≡ c .table .ranks
 
 pub record Holds (c : Config) (b : Buffers) (calls : List Call) : Type 0 where
-  pub settled : Mail.countOf (after b calls .mail) ≡ 0 → Settled (c .sessions) b calls
+  pub settled : Mail.countOf (after b calls .mail) ≡ 0 → Settled (c .table .sessions) b calls
   pub declarations : DeclarationsTrue (steps b calls)
   pub formed : WellFormed c (after b calls)
 
