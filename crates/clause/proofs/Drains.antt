@@ -156,4 +156,4 @@ drains-end c table mail e calls limit =
 pub bound-small : BoundSmall
 bound-small c table mail e n fits =
     let s = start-zero c table mail (start-accepted c table mail e) .sizes in
-    BoundTheorem.small-bound (c .table .sessions) (c .table .items) n (s .max-sessions) (s .max-items) (omega (arith, fits, s .max-room))
+    BoundTheorem.small-bound (c .table .sessions) (c .table .items) n (s .bounded .max-sessions) (s .bounded .max-items) (omega (arith, fits, s .max-room))

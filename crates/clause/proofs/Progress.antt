@@ -234,4 +234,4 @@ progresses c table mail e room l rule = progress c room (after (opened c table m
     known = start-zero c table mail (start-accepted c table mail e)
 
     begins : Kept c (opened c table mail)
-    begins = rw (start-leaves c table mail e) (here c (begun c) [] (begun-good c known) (rw (begun-state c (known .sizes .ranks-whole)) starts))
+    begins = rw (start-leaves c table mail e) (here c (begun c) [] (begun-good c known) (rw (begun-state c (known .sizes .bounded)) starts))

@@ -51,14 +51,23 @@ stateOf conf table l = readState (conf .table .sessions) (conf .table .items) (T
 -- a well-formed table, and well-formed entries that fit the mailbox
 pub record Good (conf : Config) (table : List ℕ) (l : List Entry) : Type 0 where
   pub sized : Table.sized table ≡ true
-  pub sessions : Table.sessionsOf table ≡ conf .table .sessions
-  pub items : Table.itemsOf table ≡ conf .table .items
-  pub ranks : Table.ranks table ≡ conf .table .ranks
+  pub config : Table.configOf table ≡ conf .table
   pub formed : Table.wellFormed table ≡ true
   pub low : 1 ≤ conf .capacity
   pub high : conf .capacity ≤ Mail.maxCapacity
   pub room : length l ≤ conf .capacity
   pub entries : allOf (Entry.wellFormed (conf .table .sessions) (conf .table .items)) l ≡ true
+
+-- so its sizes and ranks are those that start was given
+module _ {conf : Config} {table : List ℕ} {l : List Entry} (g : Good conf table l) where
+  pub sessions-of : Table.sessionsOf table ≡ conf .table .sessions
+  sessions-of = ap (λ (c : Table.Config). c .sessions) (g .config)
+
+  pub items-of : Table.itemsOf table ≡ conf .table .items
+  items-of = ap (λ (c : Table.Config). c .items) (g .config)
+
+  pub ranks-of : Table.ranks table ≡ conf .table .ranks
+  ranks-of = ap (λ (c : Table.Config). c .ranks) (g .config)
 
 module _ (conf : Config) (table : List ℕ) (l : List Entry) (g : Good conf table l) where
   pub few-sessions : conf .table .sessions ≤ 64
@@ -137,9 +146,7 @@ module _ (conf : Config) (table : List ℕ) (l : List Entry) (g : Good conf tabl
     session-good =
         let n = session-known t r in record {
           sized = TableLaws.sized-withSession table (g .sized) t (n .0) (n .1) s new-juniors;
-          sessions = TableLaws.sessionsOf-withSession table (g .sized) t (n .0) (n .1) s new-juniors ∙ sessions-of g;
-          items = TableLaws.itemsOf-withSession table (g .sized) t (n .0) (n .1) s new-juniors ∙ items-of g;
-          ranks = TableLaws.ranks-withSession table (g .sized) t (n .0) (n .1) s new-juniors ∙ ranks-of g;
+          config = TableLaws.configOf-withSession table (g .sized) t (n .0) (n .1) s new-juniors ∙ g .config;
           formed = TableLaws.wellFormed-withSession table (g .sized) t (n .0) (n .1) s new-juniors (g .formed) (rw (sessions-of g, items-of g) new-session);
           low = g .low;
           high = g .high;
@@ -195,9 +202,7 @@ module _ (conf : Config) (table : List ℕ) (l : List Entry) (g : Good conf tabl
     item-good =
         let n = item-known x r in record {
           sized = TableLaws.sized-withItem table (g .sized) x (n .0) (n .1) (packed i) queue-whole;
-          sessions = TableLaws.sessionsOf-withItem table (g .sized) x (n .0) (n .1) (packed i) queue-whole ∙ sessions-of g;
-          items = TableLaws.itemsOf-withItem table (g .sized) x (n .0) (n .1) (packed i) queue-whole ∙ items-of g;
-          ranks = TableLaws.ranks-withItem table (g .sized) x (n .0) (n .1) (packed i) queue-whole ∙ ranks-of g;
+          config = TableLaws.configOf-withItem table (g .sized) x (n .0) (n .1) (packed i) queue-whole ∙ g .config;
           formed = TableLaws.wellFormed-withItem table (g .sized) x (n .0) (n .1) (packed i) queue-whole (g .formed) (rw (sessions-of g) (packed-lock (conf .table .sessions) i few-sessions new-lock));
           low = g .low;
           high = g .high;

@@ -41,34 +41,32 @@ module _ (c : Config) (table mail : List ℕ) (e : Calls.start c table mail .ref
   start-accepted = by-test (λ (r : Calls.Started). r .refusal ≡ 0 → Calls.startRefusal c table mail ≡ 0) (eqb (Calls.startRefusal c table mail) 0) (λ f _. eqb-true (Calls.startRefusal c table mail) 0 f) (λ _ g. g) e
 
   -- what it leaves
-  pub start-leaves : opened c table mail ≡ buffers (Table.started (c .table .sessions) (c .table .items) (c .table .ranks)) (Mail.mailBytes (c .capacity) [])
+  pub start-leaves : opened c table mail ≡ buffers (Table.started (c .table)) (Mail.mailBytes (c .capacity) [])
   unfolding opened Calls.start
   start-leaves = rw (start-accepted) refl
 
 module _ (conf : Config) where
   abbrev pub begun : List ℕ
-  begun = Table.started (conf .table .sessions) (conf .table .items) (conf .table .ranks)
+  begun = Table.started (conf .table)
 
   pub begun-good : {table mail : List ℕ} → Startable conf table mail → Good conf begun []
   begun-good f =
       let z = f .sizes in record {
-        sized = StartLaws.sized-started (conf .table .sessions) (conf .table .items) (conf .table .ranks) (z .ranks-whole) (z .some-sessions) (z .max-sessions) (z .some-items) (z .max-items);
-        sessions = StartLaws.sessionsOf-started (conf .table .sessions) (conf .table .items) (conf .table .ranks);
-        items = StartLaws.itemsOf-started (conf .table .sessions) (conf .table .items) (conf .table .ranks);
-        ranks = StartLaws.ranks-started (conf .table .sessions) (conf .table .items) (conf .table .ranks) (z .ranks-whole);
-        formed = StartLaws.wellFormed-started (conf .table .sessions) (conf .table .items) (conf .table .ranks) (z .ranks-whole) (f .ranks);
+        sized = StartLaws.sized-started (conf .table) (z .bounded);
+        config = StartLaws.configOf-started (conf .table) (z .bounded);
+        formed = StartLaws.wellFormed-started (conf .table) (z .bounded) (f .ranks);
         low = z .some-room;
         high = z .max-room;
         room = omega arith;
         entries = all-none (Entry.wellFormed (conf .table .sessions) (conf .table .items));
       }
 
-  pub begun-state : length (conf .table .ranks) ≡ conf .table .sessions → stateOf conf begun [] ≡ Machine.start (machineOf conf)
+  pub begun-state : Table.Bounded (conf .table) → stateOf conf begun [] ≡ Machine.start (machineOf conf)
   unfolding locks
-  begun-state w =
+  begun-state f =
       start-agrees (conf .table .sessions) (conf .table .items) (Table.session begun) (locks begun)
-      (λ t r. StartLaws.session-started (conf .table .sessions) (conf .table .items) (conf .table .ranks) w t (within 1 (conf .table .sessions) t r .0) (within 1 (conf .table .sessions) t r .1))
-      (λ x r. ap ItemRecord.unpacked (StartLaws.item-started (conf .table .sessions) (conf .table .items) (conf .table .ranks) w x (within 1 (conf .table .items) x r .0) (within 1 (conf .table .items) x r .1)))
+      (λ t r. StartLaws.session-started (conf .table) f t (within 1 (conf .table .sessions) t r .0) (within 1 (conf .table .sessions) t r .1))
+      (λ x r. ap ItemRecord.unpacked (StartLaws.item-started (conf .table) f x (within 1 (conf .table .items) x r .0) (within 1 (conf .table .items) x r .1)))
       (seniorOf conf) (nextOf conf)
 
 pub no-entries : (l : List Entry) → length l ≡ 0 → l ≡ []
@@ -88,9 +86,7 @@ module _ (conf : Config) (b : Buffers) (calls : List Call) (h : Followed conf (M
   well-formed =
       let g = h .good in record {
         formed = rw (h .mail) (State.buffers-formed conf table-left (h .entries) g);
-        sessions = sessions-of g;
-        items = items-of g;
-        ranks = ranks-of g;
+        config = g .config;
         capacity = rw (h .mail) (MailLaws.capacity-mail (conf .capacity) (h .entries) (g .low) (g .high) (g .room));
       }
 
@@ -131,7 +127,7 @@ module _ (c : Config) (table mail : List ℕ) (e : Calls.start c table mail .ref
   good = begun-good c known
 
   state : stateOf c (begun c) [] ≡ Machine.start (machineOf c)
-  state = begun-state c (known .sizes .ranks-whole)
+  state = begun-state c (known .sizes .bounded)
 
   pub followed : Followed c (Machine.start (machineOf c)) (after b calls) (steps b calls) 0 0
   followed = rw (start-leaves c table mail e, ← state) (follow c calls (begun c) [] good)

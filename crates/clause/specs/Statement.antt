@@ -60,13 +60,11 @@ pub record Settled (S : ℕ) (b : Buffers) (calls : List Call) : Type 0 where
   pub none-stands : cycles (after b calls .table) ≡ 0
   pub reports : (t : ℕ) → 1 ≤ t → t ≤ S → Calls.report t (after b calls .table) ≡ record { refusal = 0; length = 0 }
 
--- both buffers are well-formed, so that 3 and 4 are never answered, and of the sizes and ranks that start was given
+-- both buffers are well-formed, so that 3 and 4 are never answered, and what start was given stands in them
 pub record WellFormed (c : Config) (b : Buffers) : Type 0 where
   pub formed : Formed (b .table) (b .mail)
-  pub sessions : Table.sessionsOf (b .table) ≡ c .table .sessions
-  pub items : Table.itemsOf (b .table) ≡ c .table .items
+  pub config : Table.configOf (b .table) ≡ c .table
   pub capacity : Mail.capacityOf (b .mail) ≡ c .capacity
-  pub ranks : Table.ranks (b .table) ≡ c .table .ranks
 
 pub record Holds (c : Config) (b : Buffers) (calls : List Call) : Type 0 where
   pub settled : Mail.countOf (after b calls .mail) ≡ 0 → Settled (c .table .sessions) b calls
