@@ -19,7 +19,7 @@ use Rattle.mailbox.proofs.Laws.{sized-mail, wellFormed-mail, sized-facts, forme
 use Rattle.table.specs.Layout as Table
 use Rattle.session.specs.Seniority.{plain}
 use Rattle.session.proofs.Seniority.{plain-length, plain-formed}
-use Rattle.table.proofs.StartLaws.{sessionsOf-started, itemsOf-started, sized-started, wellFormed-started}
+use Rattle.table.proofs.StartLaws.{configOf-started, sized-started, wellFormed-started}
 use Rattle.step.specs.declared.Answer.{Answer}
 use Rattle.step.specs.Step.{Stepped, stepped, Formed}
 use Rattle.lockmgr.specs.Calls.{Config, Started, config, start, startResult, step}
@@ -95,27 +95,27 @@ module _ (input : List ℕ) (w : wellFormed input ≡ true) where
   abbrev given : Config
   given = config (sessionsIn input) (itemsIn input) capacity (plain (sessionsIn input))
 
-  startable : (table mail : List ℕ) → length table ≡ Table.size (sessionsIn input) (itemsIn input) → length mail ≡ Mail.size capacity → Startable given table mail
-  startable table mail ht hm =
+  bounded : Table.Bounded (given .table)
+  bounded =
       let k = known input w in
       record {
-        sizes = record {
-          some-sessions = k .some-sessions;
-          max-sessions = k .max-sessions;
-          some-items = k .some-items;
-          max-items = k .max-items;
-          some-room = omega arith;
-          max-room = omega arith;
-          ranks-whole = plain-length (sessionsIn input);
-          table-whole = ht;
-          mail-whole = hm;
-        };
+        some-sessions = k .some-sessions;
+        max-sessions = k .max-sessions;
+        some-items = k .some-items;
+        max-items = k .max-items;
+        ranks-whole = plain-length (sessionsIn input);
+      }
+
+  startable : (table mail : List ℕ) → length table ≡ Table.size (sessionsIn input) (itemsIn input) → length mail ≡ Mail.size capacity → Startable given table mail
+  startable table mail ht hm =
+      record {
+        sizes = record { bounded = bounded; some-room = omega arith; max-room = omega arith; table-whole = ht; mail-whole = hm };
         ranks = plain-formed (sessionsIn input);
       }
 
   -- its lock manager starts, in any buffers of the right sizes
   abbrev begun : List ℕ
-  begun = Table.started (sessionsIn input) (itemsIn input) (plain (sessionsIn input))
+  begun = Table.started (given .table)
 
   starts : (table mail : List ℕ) → length table ≡ Table.size (sessionsIn input) (itemsIn input) → length mail ≡ Mail.size capacity
       → start given table mail ≡ startResult 0 begun (Mail.mailBytes capacity [])
@@ -131,16 +131,14 @@ module _ (input : List ℕ) (w : wellFormed input ≡ true) where
   formed-start : Formed begun (Mail.mailBytes capacity [])
   unfolding allOf
   formed-start =
-      let k = known input w in
       let S = sessionsIn input in
       let M = itemsIn input in
+      let stands = configOf-started (given .table) bounded in
       record {
-        records = record {
-          sized = sized-started S M (plain S) (plain-length S) (k .some-sessions) (k .max-sessions) (k .some-items) (k .max-items);
-          formed = wellFormed-started S M (plain S) (plain-length S) (plain-formed S);
-        };
+        records = record { sized = sized-started (given .table) bounded; formed = wellFormed-started (given .table) bounded (plain-formed S) };
         mail-sized = sized-mail capacity [] (omega arith) (omega arith) zero-le;
-        mail-formed = rw (sessionsOf-started S M (plain S), itemsOf-started S M (plain S)) (wellFormed-mail capacity [] (omega arith) (omega arith) zero-le S M refl);
+        mail-formed =
+            rw (ap (λ (c : Table.Config). c .sessions) stands, ap (λ (c : Table.Config). c .items) stands) (wellFormed-mail capacity [] (omega arith) (omega arith) zero-le S M refl);
       }
 
   pub none-done : (out table mail : List ℕ) {table′ mail′ : List ℕ} {r : ℕ} → length table ≡ Table.size (sessionsIn input) (itemsIn input) → length mail ≡ Mail.size capacity
