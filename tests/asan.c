@@ -291,7 +291,7 @@ static unsigned reopen(uint64_t session, manager m)
         uint8_t *record = expected.table.bytes + LOCKMGR_SESSION_PLACE(session);
         accepted++;
         CHECK(lockmgr_finished(expected.table.bytes, (unsigned)session));
-        memset(record, 0, LOCKMGR_SESSION_SIZE);
+        memset(record, 0, LOCKMGR_SESSION_JUNIORS + LOCKMGR_MAX_SESSIONS);
         record[LOCKMGR_SESSION_STAGE] = LOCKMGR_GROWING;
     }
     CHECK(same(m, expected));

@@ -51,11 +51,12 @@ static void test_version(void)
     CHECK(lockmgr_version() == LOCKMGR_VERSION_NUMBER);
     CHECK(LOCKMGR_LAYOUT_VERSION == 2);
     /* This layout: its figures. A change of them is a new layout version. */
-    CHECK(LOCKMGR_TABLE_SIZE(3, 5) == 2 + 75 * 3 + 66 * 5);
-    CHECK(LOCKMGR_SESSION_PLACE(3) == 2 + 74 * 2);
-    CHECK(LOCKMGR_ITEM_PLACE(3, 5) == 2 + 74 * 3 + 66 * 4);
-    CHECK(LOCKMGR_RANKS_PLACE(3, 5) == 2 + 74 * 3 + 66 * 5);
-    CHECK(LOCKMGR_RANKS_END(3, 5) == 2 + 75 * 3 + 66 * 5);
+    enum { header = 2, session = 74, item = 66, rank = 1 };
+    CHECK(LOCKMGR_SESSION_PLACE(3) == header + session * 2);
+    CHECK(LOCKMGR_ITEM_PLACE(3, 5) == header + session * 3 + item * 4);
+    CHECK(LOCKMGR_RANKS_PLACE(3, 5) == header + session * 3 + item * 5);
+    CHECK(LOCKMGR_RANKS_END(3, 5) == header + session * 3 + item * 5 + rank * 3);
+    CHECK(LOCKMGR_TABLE_SIZE(3, 5) == LOCKMGR_RANKS_END(3, 5));
     CHECK(LOCKMGR_MAIL_SIZE(7) == 4 + 6 * 7);
     CHECK(LOCKMGR_ROUTE_PLACE(2) == 4 + 3 * 2);
     CHECK(LOCKMGR_BODY_PLACE(7, 2) == 4 + 3 * (7 + 2));

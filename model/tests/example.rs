@@ -121,16 +121,18 @@ fn start_writes_all_bytes() {
 fn layout_in_figures() {
     assert_eq!([MAX_SESSIONS, MAX_ITEMS, MAX_CAPACITY], [64, 64, 4096]);
     assert_eq!([TABLE_SESSIONS, TABLE_ITEMS, TABLE_HEADER], [0, 1, 2]);
-    assert_eq!([STAGE, AWAITED, SESSION_SIZE], [0, 1, 74]);
+    let (session, item, rank) = (74, 66, 1);
+    assert_eq!([STAGE, AWAITED, SESSION_SIZE], [0, 1, session]);
     assert_eq!([HELD, JUNIORS], [2..10, 10..74]);
-    assert_eq!([HOLDER, QUEUE_LENGTH, ITEM_SIZE], [0, 1, 66]);
+    assert_eq!([HOLDER, QUEUE_LENGTH, ITEM_SIZE], [0, 1, item]);
     assert_eq!(QUEUE, 2..66);
     assert_eq!([MAIL_CAPACITY, MAIL_COUNT], [0..2, 2..4]);
     assert_eq!([MAIL_HEADER, ROUTE_SIZE, BODY_SIZE], [4, 3, 3]);
-    assert_eq!(table_length(3, 5), 2 + 75 * 3 + 66 * 5);
-    assert_eq!(session_at(3), 2 + 74 * 2..2 + 74 * 3);
-    assert_eq!(item_at(3, 5), 2 + 74 * 3 + 66 * 4..2 + 74 * 3 + 66 * 5);
-    assert_eq!(ranks_at(3, 5), item_at(3, 5).end..table_length(3, 5));
+    let (sessions_end, items_end) = (2 + session * 3, 2 + session * 3 + item * 5);
+    assert_eq!(session_at(3), sessions_end - session..sessions_end);
+    assert_eq!(item_at(3, 5), items_end - item..items_end);
+    assert_eq!(ranks_at(3, 5), items_end..items_end + rank * 3);
+    assert_eq!(table_length(3, 5), items_end + rank * 3);
     assert_eq!(mail_length(7), 4 + 6 * 7);
     assert_eq!(route_at(2), 4 + 3 * 2..4 + 3 * 3);
     assert_eq!(body_at(7, 6), 4 + 3 * 13..mail_length(7));
