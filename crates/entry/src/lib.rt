@@ -247,7 +247,7 @@ pub fn put(m: &mut [u8], at: usize, a: u8, b: u8, c: u8)
 }
 
 // Takes a route or a body out at `from`: the rest of the len bytes move down, and zeros follow.
-pub fn cut(m: &mut [u8], from: usize, len: usize)
+fn cut_one(m: &mut [u8], from: usize, len: usize)
     requires { ⌜ (from + len ≤ length (now m)) × (width ≤ len) ⌝ }
     ensures { λ _. ⌜ now (m .exit) ≡ splice (now (m .entry)) from (padded len (drop width (slice (now (m .entry)) from len))) ⌝ }
 {
@@ -260,11 +260,15 @@ pub fn cut(m: &mut [u8], from: usize, len: usize)
     put(m, from + end, 0, 0, 0);
 }
 
-// Takes `by` bytes out at `from`: the rest of the len bytes move down, in rows of 64, and zeros follow.
-pub fn cut_run(m: &mut [u8], from: usize, by: usize, len: usize)
+// Takes `by` bytes out at `from`: the rest of the len bytes move down, and zeros follow. More than one route or body go in rows of 64.
+pub fn cut(m: &mut [u8], from: usize, by: usize, len: usize)
     requires { ⌜ (from + len ≤ length (now m)) × (by ≤ len) ⌝ }
     ensures { λ _. ⌜ now (m .exit) ≡ splice (now (m .entry)) from (padded len (drop by (slice (now (m .entry)) from len))) ⌝ }
 {
+    if by == WIDTH {
+        cut_one(m, from, len);
+        return;
+    }
     let end = len - by;
     buffer::move_down(m, from, by, end);
     buffer::put_zeros(m, from + end, by);

@@ -7,13 +7,13 @@ use native.Mathlib.Nat.{add-zero, mul-zero, mul-suc}
 use native.Mathlib.Numerals.{add-one}
 use native.Mathlib.Omega.{arith}
 use lib.Dec.{eqb, leb, ltb, leb·zero, leb·suc-suc}
-use lib.ListN.{length, getD, take, drop, set, replicate, length-append, length-drop, length-replicate, length-set, replicate-append-replicate, drop-of-length-le}
-use lib.Seq.{drop-cons, drop-at, set-at, take-at, take-suc, ext-getD, getD-set-same, getD-set-other}
+use lib.ListN.{length, getD, take, drop, set, replicate, length-append, length-drop, length-replicate, length-set, replicate-append-replicate, drop-of-length-le, take-append-drop}
+use lib.Seq.{drop-cons, drop-at, set-at, take-at, take-suc, ext-getD, getD-at, getD-set-same, getD-set-other, length-take-le, take-append-le, drop-append-le}
 use borrow.Author.Tests.{eqb-true, eqb-false, leb-true, leb-false, ne-eqb, not-true}
-use Rattle.lists.specs.Lists.{everyBelow, member, distinct, allOf, filter, findIndex, removeAt, tabulate, appendUpTo}
+use Rattle.lists.specs.Lists.{everyBelow, member, distinct, allOf, filter, findIndex, removeAt, without, tabulate, appendUpTo}
 use Rattle.lists.proofs.Tests.{and-both, and-intro, or-neither, by-test, eqb-sym, eqb-self}
 
--- ---- filter, findIndex, removeAt, tabulate, appendUpTo
+-- ---- filter, findIndex, removeAt, without, tabulate, appendUpTo
 cond-findIndex : (t : Bool) (k n : ℕ) → k ≤ n → cond t 0 (suc k) ≤ suc n
 cond-findIndex true k n h = omega arith
 cond-findIndex false k n h = omega arith
@@ -78,11 +78,11 @@ module _ {A : Type 0} where
       let h = and-both (not (p a)) (allOf (λ a. not (p a)) l) e in rw (not-true (p a) (h .0)) (filter-none p l (h .1))
 
   -- without an element the list is what stands before it and what stands behind it
-  pub removeAt-split : (k : ℕ) (l : List A) → k < length l → removeAt k l ≡ take k l ++ drop (suc k) l
-  unfolding removeAt
-  removeAt-split k [] h = absurd (omega arith)
-  removeAt-split zero (a ∷ l) h = refl
-  removeAt-split (suc k) (a ∷ l) h = ap (λ (r : List A). a ∷ r) (removeAt-split k l (omega arith))
+  pub removeAt-without : (k : ℕ) (l : List A) → k < length l → removeAt k l ≡ without k (k + 1) l
+  unfolding removeAt without
+  removeAt-without k [] h = absurd (omega arith)
+  removeAt-without zero (a ∷ l) h = refl
+  removeAt-without (suc k) (a ∷ l) h = ap (λ (r : List A). a ∷ r) (removeAt-without k l (omega arith)) ∙ rw (add-one k, add-one (suc k)) refl
 
   pub removeAt-length : (k : ℕ) (l : List A) → k < length l → length (removeAt k l) ≡ length l - 1
   unfolding removeAt
@@ -96,11 +96,53 @@ module _ {A : Type 0} where
   removeAt-past zero (a ∷ l) h = absurd (omega arith)
   removeAt-past (suc k) (a ∷ l) h = ap (λ (r : List A). a ∷ r) (removeAt-past k l (omega arith))
 
+  removeAt-at : (p : List A) (a : A) (l : List A) (k : ℕ) → length p ≡ k → removeAt k (p ++ a ∷ l) ≡ p ++ l
+  unfolding removeAt
+  removeAt-at [] a l zero e = refl
+  removeAt-at [] a l (suc k) e = absurd (omega (arith, e))
+  removeAt-at (b ∷ p) a l zero e = absurd (omega (arith, e))
+  removeAt-at (b ∷ p) a l (suc k) e = ap (λ (r : List A). b ∷ r) (removeAt-at p a l k (omega (arith, e)))
+
   pub removeAt-le : (k : ℕ) (l : List A) → length (removeAt k l) ≤ length l
   unfolding removeAt
   removeAt-le k [] = zero-le
   removeAt-le zero (a ∷ l) = omega arith
   removeAt-le (suc k) (a ∷ l) = omega (arith, removeAt-le k l)
+
+  -- where no place goes, nothing does
+  pub without-none : (a : ℕ) (l : List A) → without a a l ≡ l
+  unfolding without
+  without-none a l = take-append-drop a l
+
+  module _ (a b : ℕ) (l : List A) (order : a ≤ b) where
+    module _ (inside : b ≤ length l) where
+      front : length (take a l) ≡ a
+      front = length-take-le a l (omega (arith, order, inside))
+
+      pub length-without : length (without a b l) ≡ length l - (b - a)
+      unfolding without
+      length-without = length-append (take a l) (drop b l) ∙ rw (front, length-drop b l) (omega (arith, order, inside))
+
+      -- what is added goes to the end
+      pub without-append : (r : List A) → without a b (l ++ r) ≡ without a b l ++ r
+      unfolding without
+      without-append r = rw (take-append-le a l r (omega (arith, order, inside)), drop-append-le b l r inside) (sym (append-assoc (take a l) (drop b l) r))
+
+    -- what stands at b stands at a, and if it goes too, the places up to b + 1 are gone
+    module _ (inside : b < length l) (d : A) where
+      here : without a b l ≡ take a l ++ getD l b d ∷ drop (suc b) l
+      unfolding without
+      here = ap (λ (r : List A). take a l ++ r) (drop-cons l b d inside)
+
+      pub getD-without : getD (without a b l) a d ≡ getD l b d
+      getD-without = rw (here) (getD-at (take a l) (getD l b d) (drop (suc b) l) d a (front (omega (arith, inside))))
+
+      pub without-more : removeAt a (without a b l) ≡ without a (b + 1) l
+      unfolding without
+      without-more =
+          ap (removeAt a) here
+          ∙ removeAt-at (take a l) (getD l b d) (drop (suc b) l) a (front (omega (arith, inside)))
+          ∙ rw (add-one) refl
 
   pub length-tabulate : (n : ℕ) (f : ℕ → A) → length (tabulate n f) ≡ n
   unfolding tabulate

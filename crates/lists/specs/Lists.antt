@@ -3,6 +3,7 @@ use Prim.Native.Nat.{ℕ, zero, suc, _+_}
 use mathlib.Core.Bool.{Bool, true, false, cond, not, _&&_, _||_}
 use mathlib.Core.List.{List, [], _∷_, _++_}
 use lib.Dec.{eqb, leb}
+use lib.ListN.{take, drop}
 
 -- low ≤ n ≤ high
 abbrev pub between : ℕ → ℕ → ℕ → Bool
@@ -64,6 +65,10 @@ module _ {A : Type 0} where
   removeAt k [] = []
   removeAt zero (a ∷ l) = l
   removeAt (suc k) (a ∷ l) = a ∷ removeAt k l
+
+  -- the list without the places from a up to b
+  unfoldable pub without : ℕ → ℕ → List A → List A
+  without a b l = take a l ++ drop b l
 
   -- f 0, f 1 and so on, n elements
   unfoldable pub tabulate : ℕ → (ℕ → A) → List A

@@ -4,9 +4,11 @@ use mathlib.Core.List.{List, [], _∷_, _++_, append-assoc, map}
 use Prim.Native.Nat.{ℕ, _+_, _-_, _*_, _≤_, _<_}
 use native.Mathlib.Numerals.{add-one}
 use native.Mathlib.Omega.{arith}
-use lib.ListN.{length, getD, take, drop, replicate, length-append, length-drop, length-map, replicate-append-replicate, List·getD-append}
+use lib.ListN.{length, getD, take, drop, replicate, length-append, length-map, replicate-append-replicate, List·getD-append}
 use lib.Seq.{take-suc, length-take-le}
 use Rattle.buffer.specs.Bytes.{splice, toBytes, padded}
+use Rattle.lists.specs.Lists.{without}
+use Rattle.lists.proofs.Laws.{length-without}
 use Rattle.message.specs.declared.Message.{Message}
 use Rattle.message.specs.Outbox.{room, plain, cells}
 use Rattle.entry.specs.Entry.{Entry, width}
@@ -14,7 +16,7 @@ use Rattle.mailbox.specs.Layout.{header, countPlace, routePlace, bodyPla
 use Rattle.entry.specs.Entry.{sent}
 use Rattle.buffer.proofs.Padded.{length-padded, end-within}
 use Rattle.entry.proofs.Cuts.{closedUp, cut-within}
-use Rattle.mailbox.proofs.Triples.{triples, routes-triples, bodies-triples, triples-append, triples-remove}
+use Rattle.mailbox.proofs.Triples.{triples, routes-triples, bodies-triples, triples-append, triples-without}
 use Rattle.mailbox.proofs.Laws.{framed, head, framed-second, length-routes, length-bodies}
 
 -- the count alone is written
@@ -22,39 +24,37 @@ splice-count : (C n k : ℕ) (r q : List ℕ) → splice (framed C n r q) countP
 unfolding splice
 splice-count C n k r q = refl
 
--- n entries are taken out behind the first k
-routes-remove : (k n : ℕ) (l : List Entry) → take (width * k) (routes l) ++ drop (width * k + width * n) (routes l) ≡ routes (take k l ++ drop (k + n) l)
-routes-remove k n l =
-    rw (routes-triples l, routes-triples (take k l ++ drop (k + n) l)) (sym (triples-remove (λ e. e .direction) (λ e. e .session) (λ e. e .item) k n l))
+-- the entries from a up to b are taken out
+module _ (a b : ℕ) (l : List Entry) (order : a ≤ b) where
+  routes-without : take (width * a) (routes l) ++ drop (width * a + width * (b - a)) (routes l) ≡ routes (without a b l)
+  routes-without =
+      rw (routes-triples l, routes-triples (without a b l)) (sym (triples-without (λ e. e .direction) (λ e. e .session) (λ e. e .item) a b l order))
 
-bodies-remove : (k n : ℕ) (l : List Entry) → take (width * k) (bodies l) ++ drop (width * k + width * n) (bodies l) ≡ bodies (take k l ++ drop (k + n) l)
-bodies-remove k n l =
-    rw (bodies-triples l, bodies-triples (take k l ++ drop (k + n) l)) (sym (triples-remove (λ e. e .kind) (λ e. e .a) (λ e. e .b) k n l))
-
-length-remove : (k n : ℕ) (l : List Entry) → k + n ≤ length l → length (take k l ++ drop (k + n) l) ≡ length l - n
-length-remove k n l h = rw (length-append, length-take-le k l (omega arith), length-drop) (omega arith)
+  bodies-without : take (width * a) (bodies l) ++ drop (width * a + width * (b - a)) (bodies l) ≡ bodies (without a b l)
+  bodies-without =
+      rw (bodies-triples l, bodies-triples (without a b l)) (sym (triples-without (λ e. e .kind) (λ e. e .a) (λ e. e .b) a b l order))
 
 -- what two cuts and a count leave
-pub remove-mail : (C c k n len : ℕ) (l : List Entry) {m m₁ m₂ : List ℕ} → length l ≡ c → c ≤ C → k + n ≤ c → len ≡ width * (c - k) → m ≡ mailBytes C l
-    → m₁ ≡ splice m (routePlace k) (closedUp m (routePlace k) (width * n) len)
-    → m₂ ≡ splice m₁ (bodyPlace C k) (closedUp m₁ (bodyPlace C k) (width * n) len)
-    → splice m₂ countPlace (toBytes 2 (c - n)) ≡ mailBytes C (take k l ++ drop (k + n) l)
+pub cut-mail : (C c a b len : ℕ) (l : List Entry) {m m₁ m₂ : List ℕ} → length l ≡ c → c ≤ C → a ≤ b → b ≤ c → len ≡ width * (c - a) → m ≡ mailBytes C l
+    → m₁ ≡ splice m (routePlace a) (closedUp m (routePlace a) (width * (b - a)) len)
+    → m₂ ≡ splice m₁ (bodyPlace C a) (closedUp m₁ (bodyPlace C a) (width * (b - a)) len)
+    → splice m₂ countPlace (toBytes 2 (c - (b - a))) ≡ mailBytes C (without a b l)
 unfolding mailBytes
-remove-mail C c k n len l {m₁ = m₁} {m₂ = m₂} size h p s e e₁ e₂ =
-    let left : List Entry = take k l ++ drop (k + n) l in
-    let count : length left ≡ c - n = length-remove k n l (omega arith) ∙ ap (λ (j : ℕ). j - n) size in
+cut-mail C c a b len l {m₁ = m₁} {m₂ = m₂} size h order p s e e₁ e₂ =
+    let left : List Entry = without a b l in
+    let count : length left ≡ c - (b - a) = length-without a b l order (omega arith) ∙ ap (λ (j : ℕ). j - (b - a)) size in
     let r : List ℕ = padded (width * C) (routes left) in
     let first : m₁ ≡ framed C (length l) r (padded (width * C) (bodies l)) =
-    e₁ ∙ rw (e) (cut-within (head C (length l)) (padded (width * C) (bodies l)) (width * C) (routes l) (width * k) (width * n) len (omega (arith, length-routes l)) (omega (arith, length-routes l)) (omega (arith, length-routes l)))
-    ∙ ap (λ (q : List ℕ). framed C (length l) (padded (width * C) q) (padded (width * C) (bodies l))) (routes-remove k n l) in
-    let at : bodyPlace C k ≡ length (head C (length l) ++ r) + width * k =
+    e₁ ∙ rw (e) (cut-within (head C (length l)) (padded (width * C) (bodies l)) (width * C) (routes l) (width * a) (width * (b - a)) len (omega (arith, length-routes l)) (omega (arith, length-routes l)) (omega (arith, length-routes l)))
+    ∙ ap (λ (q : List ℕ). framed C (length l) (padded (width * C) q) (padded (width * C) (bodies l))) (routes-without a b l order) in
+    let at : bodyPlace C a ≡ length (head C (length l) ++ r) + width * a =
     omega (arith, length-append (head C (length l)) r, length-padded (width * C) (routes left) (omega (arith, length-routes left))) in
     let second : m₂ ≡ framed C (length l) r (padded (width * C) (bodies left)) =
     e₂
-    ∙ rw (at, first ∙ framed-second C (length l) r (padded (width * C) (bodies l))) (cut-within (head C (length l) ++ r) [] (width * C) (bodies l) (width * k) (width * n) len (omega (arith, length-bodies l)) (omega (arith, length-bodies l)) (omega (arith, length-bodies l)))
-    ∙ ap (λ (q : List ℕ). (head C (length l) ++ r) ++ (padded (width * C) q ++ [])) (bodies-remove k n l)
+    ∙ rw (at, first ∙ framed-second C (length l) r (padded (width * C) (bodies l))) (cut-within (head C (length l) ++ r) [] (width * C) (bodies l) (width * a) (width * (b - a)) len (omega (arith, length-bodies l)) (omega (arith, length-bodies l)) (omega (arith, length-bodies l)))
+    ∙ ap (λ (q : List ℕ). (head C (length l) ++ r) ++ (padded (width * C) q ++ [])) (bodies-without a b l order)
     ∙ sym (framed-second C (length l) r (padded (width * C) (bodies left))) in
-    ap (λ (q : List ℕ). splice q countPlace (toBytes 2 (c - n))) second ∙ splice-count C (length l) (c - n) r (padded (width * C) (bodies left))
+    ap (λ (q : List ℕ). splice q countPlace (toBytes 2 (c - (b - a)))) second ∙ splice-count C (length l) (c - (b - a)) r (padded (width * C) (bodies left))
     ∙ rw (count) refl
 
 routes-add : (l : List Entry) (e : Entry) → routes l ++ (e .direction ∷ e .session ∷ e .item ∷ []) ≡ routes (l ++ (e ∷ []))

@@ -1,13 +1,13 @@
 -- Laws of the routes and the bodies of a list of entries: three numbers of each, in order.
 use mathlib.Core.Path.{_≡_, refl, sym, ap, _∙_}
 use mathlib.Core.List.{List, [], _∷_, _++_}
-use Prim.Native.Nat.{ℕ, zero, suc, _+_, _*_, _≤_, _<_}
+use Prim.Native.Nat.{ℕ, zero, suc, _+_, _-_, _*_, _≤_, _<_}
 use native.Mathlib.Nat.{add-zero}
 use native.Mathlib.Omega.{arith}
 use lib.ListN.{length, getD, take, drop}
 use lib.Seq.{take-nil, drop-nil, drop-cons, getD-drop}
 use Rattle.buffer.specs.Bytes.{slice}
-use Rattle.lists.specs.Lists.{tabulate}
+use Rattle.lists.specs.Lists.{without, tabulate}
 use Rattle.entry.specs.Entry.{Entry, unused}
 use Rattle.mailbox.specs.Layout.{routes, bodies}
 
@@ -49,12 +49,13 @@ module _ (f g h : Entry → ℕ) where
   triples-drop (suc k) [] = sym (drop-nil (3 * suc k))
   triples-drop (suc k) (e ∷ l) = let n : 3 * suc k ≡ suc (suc (suc (3 * k))) = omega arith in rw (n) (triples-drop k l)
 
-  -- n entries are taken out behind the first k
-  pub triples-remove : (k n : ℕ) (l : List Entry)
-      → triples f g h (take k l ++ drop (k + n) l) ≡ take (3 * k) (triples f g h l) ++ drop (3 * k + 3 * n) (triples f g h l)
-  triples-remove k n l =
-      let both : 3 * (k + n) ≡ 3 * k + 3 * n = omega arith in
-      triples-append (take k l) (drop (k + n) l) ∙ rw (triples-take k l, triples-drop (k + n) l, both) refl
+  -- the entries from a up to b are taken out
+  pub triples-without : (a b : ℕ) (l : List Entry) → a ≤ b
+      → triples f g h (without a b l) ≡ take (3 * a) (triples f g h l) ++ drop (3 * a + 3 * (b - a)) (triples f g h l)
+  unfolding without
+  triples-without a b l order =
+      let both : 3 * b ≡ 3 * a + 3 * (b - a) = omega arith in
+      triples-append (take a l) (drop b l) ∙ rw (triples-take a l, triples-drop b l, both) refl
 
   -- the three numbers of entry k, and what follows them
   drop-triples : (k : ℕ) (l : List Entry) → k < length l

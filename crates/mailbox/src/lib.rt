@@ -7,8 +7,8 @@ ghost use mathlib.Core.Bool.{true, cond};
 ghost use mathlib.Core.List.{List, [], _∷_, _++_, map};
 ghost use Prim.Native.Nat.{_≤_, _<_};
 ghost use lib.Dec.{eqb};
-ghost use lib.ListN.{length, drop};
-ghost use Rattle.lists.specs.Lists.{removeAt};
+ghost use lib.ListN.{length};
+ghost use Rattle.lists.specs.Lists.{removeAt, without};
 ghost use Rattle.message.specs.declared.Message.{Message};
 ghost use Rattle.message.specs.Outbox.{message, outboxOf};
 ghost use Rattle.entry.specs.Entry.{Entry, width, toItem, sent, earliest, seenByItem, seenBySession};
@@ -162,31 +162,26 @@ pub fn message_to_session(m: &[u8], k: usize) -> Message
     message(m, k, ITEM_SIDE)
 }
 
+// Takes the entries from a up to b out; the rest close up.
+pub fn cut(m: &mut [u8], a: usize, b: usize)
+    requires { ⌜ Kept (now m) × (a ≤ b) × (b ≤ countOf (now m)) ⌝ }
+    ensures { λ _. ⌜ now (m .exit) ≡ mailBytes (capacityOf (now (m .entry))) (without a b (entriesOf (now (m .entry)))) ⌝ }
+{
+    let c = capacity(m);
+    let n = count(m);
+    let by = WIDTH * (b - a);
+    let len = WIDTH * (n - a);
+    entry::cut(m, route_place(a), by, len);
+    entry::cut(m, body_place(c, a), by, len);
+    buffer::put16(m, COUNT_PLACE, (n - (b - a)) as u64);
+}
+
 // Takes entry k out; the rest close up.
 pub fn remove(m: &mut [u8], k: usize)
     requires { ⌜ Stands (now m) k ⌝ }
     ensures { λ _. ⌜ now (m .exit) ≡ mailBytes (capacityOf (now (m .entry))) (removeAt k (entriesOf (now (m .entry)))) ⌝ }
 {
-    let c = capacity(m);
-    let n = count(m);
-    let len = WIDTH * (n - k);
-    entry::cut(m, route_place(k), len);
-    entry::cut(m, body_place(c, k), len);
-    buffer::put16(m, COUNT_PLACE, (n - 1) as u64);
-}
-
-// Takes the first n entries out; the rest close up.
-pub fn remove_first(m: &mut [u8], n: usize)
-    requires { ⌜ Kept (now m) × (n ≤ countOf (now m)) ⌝ }
-    ensures { λ _. ⌜ now (m .exit) ≡ mailBytes (capacityOf (now (m .entry))) (drop n (entriesOf (now (m .entry)))) ⌝ }
-{
-    let c = capacity(m);
-    let count = count(m);
-    let by = WIDTH * n;
-    let len = WIDTH * count;
-    entry::cut_run(m, route_place(0), by, len);
-    entry::cut_run(m, body_place(c, 0), by, len);
-    buffer::put16(m, COUNT_PLACE, (count - n) as u64);
+    cut(m, k, k + 1);
 }
 
 // Adds an entry to the n that a mailbox of capacity c holds.

@@ -1,76 +1,28 @@
--- `remove` meets its contract, by the law of entries taken out, for one entry.
-use mathlib.Core.Path.{_≡_, refl, sym, _∙_}
-use Prim.Native.Nat.{_-_, _*_}
-use native.Mathlib.Numerals.{add-one}
-use Rattle.lists.proofs.Laws.{removeAt-split}
-use Rattle.entry.specs.Entry.{width}
-use Rattle.mailbox.specs.Layout.{entriesOf, mailBytes}
-use Rattle.mailbox.proofs.Laws.{kept-length, length-entries}
-use Rattle.mailbox.proofs.Moves.{remove-mail}
-use borrow.Author.Needs.{needs}
+-- One entry goes out.
+use mathlib.Core.Path.{sym, ap, _∙_}
 use native.Mathlib.Omega.{arith}
+use Rattle.lists.proofs.Laws.{removeAt-without}
+use Rattle.mailbox.specs.Layout.{capacityOf, entriesOf, mailBytes}
+use Rattle.mailbox.proofs.Laws.{length-entries}
+use borrow.Author.Needs.{needs}
 use Rattle.mailbox.proofs.remove.Statement.{statement}
 use Rattle.mailbox.proofs.remove.Tie as tie
 
-capacity-requires : tie.Need-capacity-requires
-capacity-requires c κs = let s = c .before .before in omega (arith, kept-length (s .args .m .now) (s .pre .kept), s .pre .kept)
-
-count-requires : tie.Need-count-requires
-count-requires c κs = let s = c .before .before .before .before in omega (arith, kept-length (s .args .m .now) (s .pre .kept), s .pre .kept)
-
-sub-len : tie.Need-sub-len
-sub-len c = search needs
-
-mul-len : tie.Need-mul-len
-mul-len c = search needs
-
-route-place-requires : tie.Need-route-place-requires
-route-place-requires c κs = search needs
+add-cut : tie.Need-add-cut
+add-cut c = search needs
 
 cut-requires : tie.Need-cut-requires
-cut-requires c κs = let s = c .before .before .before .before .before .before .before in omega (arith, kept-length (s .args .m .now) (s .pre .kept), s .pre .kept)
-
-body-place-requires : tie.Need-body-place-requires
-body-place-requires c κs = search needs
-
-cut-requires-2 : tie.Need-cut-requires-2
-cut-requires-2 c κs = let s = c .before .before .before .before .before .before .before .before .before .before .before .before in omega (arith, kept-length (s .args .m .now) (s .pre .kept), s .pre .kept, c .before .before .before .before .cut .kept .0)
-
-sub-put16 : tie.Need-sub-put16
-sub-put16 c = search needs
-
-put16-requires : tie.Need-put16-requires
-put16-requires c κs = let s = c .before .before .before .before .before .before .before .before .before .before .before .before .before .before .before .before in omega (arith, kept-length (s .args .m .now) (s .pre .kept), s .pre .kept, c .before .before .before .cut2 .kept .0, c .before .before .before .before .before .before .before .before .cut .kept .0)
+cut-requires c κs = search needs
 
 same-length : tie.Need-same-length
 same-length c = search needs
 
 returns : tie.Need-returns
 returns c =
-    let bodies = c .before .before .before .before .before .before in
-    let routes = bodies .before .before .before .before .before in
-    let n = routes .before .before .before .count in
-    let C = routes .before .before .before .before .before .capacity in
-    let s = routes .before .before .before .before .before .before .before .before in
+    let s = c .before .before .before .before .before in
     let m = s .args .m .now in
-    let same : m ≡ mailBytes (C .result) (entriesOf m) = rw (C .ensures) (s .pre .kept .bytes) in
-    c .before .before .put16 .ensures
-    ∙ remove-mail (C .result) (n .result) (s .args .k) 1 (width * (n .result - s .args .k)) (entriesOf m) (length-entries m ∙ sym (n .ensures)) (omega arith) (omega arith) refl same (rw (routes .before .route-place .ensures) at (routes .cut .ensures)) (rw (bodies .before .body-place .ensures) at (bodies .cut2 .ensures))
-    ∙ rw (C .ensures, removeAt-split (s .args .k) (entriesOf m) (omega (arith, length-entries m)), add-one) refl
+    c .before .before .cut .ensures
+    ∙ ap (mailBytes (capacityOf m)) (sym (removeAt-without (s .args .k) (entriesOf m) (omega (arith, length-entries m, s .pre .inside))))
 
 pub remove-spec : {M : Type 1} → statement M
-remove-spec =
-    tie.close
-    (tie.spec
-    capacity-requires
-    count-requires
-    sub-len
-    mul-len
-    route-place-requires
-    cut-requires
-    body-place-requires
-    cut-requires-2
-    sub-put16
-    put16-requires
-    same-length
-    returns)
+remove-spec = tie.close (tie.spec add-cut cut-requires same-length returns)

@@ -1,15 +1,14 @@
--- `remove_first` meets its contract, by the law of entries taken out, from the first on.
+-- `cut` meets its contract, by the law of entries taken out.
 use mathlib.Core.Path.{_≡_, refl, sym, _∙_}
-use Prim.Native.Nat.{_*_}
-use native.Mathlib.Nat.{zero-add}
+use Prim.Native.Nat.{_-_, _*_}
 use Rattle.entry.specs.Entry.{width}
 use Rattle.mailbox.specs.Layout.{entriesOf, mailBytes}
 use Rattle.mailbox.proofs.Laws.{kept-length, length-entries}
-use Rattle.mailbox.proofs.Moves.{remove-mail}
+use Rattle.mailbox.proofs.Moves.{cut-mail}
 use borrow.Author.Needs.{needs}
 use native.Mathlib.Omega.{arith}
-use Rattle.mailbox.proofs.remove_first.Statement.{statement}
-use Rattle.mailbox.proofs.remove_first.Tie as tie
+use Rattle.mailbox.proofs.cut.Statement.{statement}
+use Rattle.mailbox.proofs.cut.Tie as tie
 
 capacity-requires : tie.Need-capacity-requires
 capacity-requires c κs = let s = c .before .before in omega (arith, kept-length (s .args .m .now) (s .pre .0), s .pre .0)
@@ -17,8 +16,14 @@ capacity-requires c κs = let s = c .before .before in omega (arith, kept-length
 count-requires : tie.Need-count-requires
 count-requires c κs = let s = c .before .before .before .before in omega (arith, kept-length (s .args .m .now) (s .pre .0), s .pre .0)
 
+sub-by : tie.Need-sub-by
+sub-by c = search needs
+
 mul-by : tie.Need-mul-by
 mul-by c = search needs
+
+sub-len : tie.Need-sub-len
+sub-len c = search needs
 
 mul-len : tie.Need-mul-len
 mul-len c = search needs
@@ -26,20 +31,23 @@ mul-len c = search needs
 route-place-requires : tie.Need-route-place-requires
 route-place-requires c κs = search needs
 
-cut-run-requires : tie.Need-cut-run-requires
-cut-run-requires c κs = let s = c .before .before .before .before .before .before .before in omega (arith, kept-length (s .args .m .now) (s .pre .0), s .pre .0)
+cut-requires : tie.Need-cut-requires
+cut-requires c κs = let s = c .before .before .before .before .before .before .before in omega (arith, kept-length (s .args .m .now) (s .pre .0), s .pre .0)
 
 body-place-requires : tie.Need-body-place-requires
 body-place-requires c κs = search needs
 
-cut-run-requires-2 : tie.Need-cut-run-requires-2
-cut-run-requires-2 c κs = let s = c .before .before .before .before .before .before .before .before .before .before .before .before in omega (arith, kept-length (s .args .m .now) (s .pre .0), s .pre .0, c .before .before .before .before .cut-run .kept .0)
+cut-requires-2 : tie.Need-cut-requires-2
+cut-requires-2 c κs = let s = c .before .before .before .before .before .before .before .before .before .before .before .before in omega (arith, kept-length (s .args .m .now) (s .pre .0), s .pre .0, c .before .before .before .before .cut .kept .0)
 
 sub-put16 : tie.Need-sub-put16
 sub-put16 c = search needs
 
+sub-put16-2 : tie.Need-sub-put16-2
+sub-put16-2 c = search needs
+
 put16-requires : tie.Need-put16-requires
-put16-requires c κs = let s = c .before .before .before .before .before .before .before .before .before .before .before .before .before .before .before .before in omega (arith, kept-length (s .args .m .now) (s .pre .0), s .pre .0, c .before .before .before .cut-run2 .kept .0, c .before .before .before .before .before .before .before .before .cut-run .kept .0)
+put16-requires c κs = let s = c .before .before .before .before .before .before .before .before .before .before .before .before .before .before .before .before in omega (arith, kept-length (s .args .m .now) (s .pre .0), s .pre .0, c .before .before .before .cut2 .kept .0, c .before .before .before .before .before .before .before .before .cut .kept .0)
 
 same-length : tie.Need-same-length
 same-length c = search needs
@@ -54,22 +62,25 @@ returns c =
     let m = s .args .m .now in
     let same : m ≡ mailBytes (C .result) (entriesOf m) = rw (C .ensures) (s .pre .0 .bytes) in
     c .before .before .put16 .ensures
-    ∙ remove-mail (C .result) (n .result) 0 (s .args .n) (width * n .result) (entriesOf m) (length-entries m ∙ sym (n .ensures)) (omega arith) (omega arith) (omega arith) same (rw (routes .before .route-place .ensures) at (routes .cut-run .ensures)) (rw (bodies .before .body-place .ensures) at (bodies .cut-run2 .ensures))
-    ∙ rw (C .ensures, zero-add) refl
+    ∙ cut-mail (C .result) (n .result) (s .args .a) (s .args .b) (width * (n .result - s .args .a)) (entriesOf m) (length-entries m ∙ sym (n .ensures)) (omega arith) (s .pre .1) (omega arith) refl same (rw (routes .before .route-place .ensures) at (routes .cut .ensures)) (rw (bodies .before .body-place .ensures) at (bodies .cut2 .ensures))
+    ∙ rw (C .ensures) refl
 
-pub remove-first-spec : {M : Type 1} → statement M
-remove-first-spec =
+pub cut-spec : {M : Type 1} → statement M
+cut-spec =
     tie.close
     (tie.spec
     capacity-requires
     count-requires
+    sub-by
     mul-by
+    sub-len
     mul-len
     route-place-requires
-    cut-run-requires
+    cut-requires
     body-place-requires
-    cut-run-requires-2
+    cut-requires-2
     sub-put16
+    sub-put16-2
     put16-requires
     same-length
     returns)
