@@ -1,55 +1,68 @@
--- Laws of a mailbox whose first entries are spent: what is left of it, and what it is after entries are added.
+-- Laws of a mailbox with a gap of spent entries: what is left of it, and what it is after entries are added.
 use mathlib.Core.Path.{_≡_, refl, sym, ap, _∙_}
-use mathlib.Core.List.{List, _∷_, _++_}
+use mathlib.Core.List.{List, _++_}
 use Prim.Native.Nat.{ℕ, _+_, _-_, _≤_, _<_}
-use native.Mathlib.Numerals.{add-one}
 use native.Mathlib.Omega.{arith}
-use lib.ListN.{length, drop, getD, length-append, length-drop}
-use lib.Seq.{drop-cons, drop-append-le}
+use lib.ListN.{length, getD, length-append}
+use Rattle.lists.specs.Lists.{removeAt}
+use Rattle.lists.proofs.Laws.{without-none, length-without, without-append, getD-without, without-more}
 use Rattle.mailbox.specs.Entry.{Entry, unused}
 use Rattle.mailbox.specs.Layout.{Kept, capacityOf, countOf, entryAt, entriesOf, mailBytes}
 use Rattle.mailbox.proofs.Laws as MailLaws
-use Rattle.drain.specs.Parts.{pending, Spent, Placed}
+use Rattle.drain.specs.declared.Gap.{Gap}
+use Rattle.drain.specs.Parts.{inUse, pending, longer, Spent, Placed}
 
--- a mailbox of its entries without the first k
-pub record Left (k : ℕ) (mail : List ℕ) : Type 0 where
-  pub kept : Kept (pending k mail)
-  pub capacity : capacityOf (pending k mail) ≡ capacityOf mail
-  pub entries : entriesOf (pending k mail) ≡ drop k (entriesOf mail)
-  pub count : countOf (pending k mail) ≡ countOf mail - k
+-- a mailbox of the entries in use
+pub record Left (g : Gap) (mail : List ℕ) : Type 0 where
+  pub kept : Kept (pending g mail)
+  pub capacity : capacityOf (pending g mail) ≡ capacityOf mail
+  pub entries : entriesOf (pending g mail) ≡ inUse g mail
+  pub count : countOf (pending g mail) ≡ countOf mail - (g .to - g .from)
 
-module _ (k : ℕ) (mail : List ℕ) (kept : Kept mail) where
-  pub left : Left k mail
+module _ (g : Gap) (mail : List ℕ) (s : Spent g mail) where
+  within : g .to ≤ length (entriesOf mail)
+  within = omega (arith, MailLaws.length-entries mail, s .inside)
+
+  pub length-left : length (inUse g mail) ≡ countOf mail - (g .to - g .from)
+  length-left = length-without (g .from) (g .to) (entriesOf mail) (s .order) within ∙ ap (λ (n : ℕ). n - (g .to - g .from)) (MailLaws.length-entries mail)
+
+  pub left : Left g mail
   left =
       let C = capacityOf mail in
-      let l = drop k (entriesOf mail) in
-      let n = length-drop k (entriesOf mail) in
-      let fits : length l ≤ C = omega (arith, n, MailLaws.length-entries mail, kept .fits) in
+      let l = inUse g mail in
+      let h = s .kept in
+      let fits : length l ≤ C = omega (arith, length-left, h .fits) in
       record {
-        kept = MailLaws.kept-mail C l (kept .low) (kept .high) fits;
-        capacity = MailLaws.capacity-mail C l (kept .low) (kept .high) fits;
-        entries = MailLaws.entries-mail C l (kept .low) (kept .high) fits;
-        count = MailLaws.count-mail C l (kept .low) (kept .high) fits ∙ n ∙ ap (λ (m : ℕ). m - k) (MailLaws.length-entries mail);
+        kept = MailLaws.kept-mail C l (h .low) (h .high) fits;
+        capacity = MailLaws.capacity-mail C l (h .low) (h .high) fits;
+        entries = MailLaws.entries-mail C l (h .low) (h .high) fits;
+        count = MailLaws.count-mail C l (h .low) (h .high) fits ∙ length-left;
       }
 
-  -- the oldest that is left, and the others
-  module _ (inside : k < countOf mail) where
-    pub entries-left : drop k (entriesOf mail) ≡ entryAt mail k ∷ drop (k + 1) (entriesOf mail)
-    entries-left =
-        drop-cons (entriesOf mail) k unused (omega (arith, MailLaws.length-entries mail))
-        ∙ rw (MailLaws.getD-entries mail k inside, add-one) refl
+  -- the entry behind the gap stands where the gap begins, and without it the gap is longer
+  module _ (some : g .to < countOf mail) where
+    behind : g .to < length (entriesOf mail)
+    behind = omega (arith, MailLaws.length-entries mail, some)
 
-    pub oldest-left : entryAt (pending k mail) 0 ≡ entryAt mail k
-    oldest-left =
-        sym (MailLaws.getD-entries (pending k mail) 0 (omega (arith, left .count)))
-        ∙ ap (λ (l : List Entry). getD l 0 unused) (left .entries ∙ entries-left)
+    pub some-left : g .from < countOf (pending g mail)
+    some-left = omega (arith, left .count, s .order, some)
+
+    pub entry-left : entryAt (pending g mail) (g .from) ≡ entryAt mail (g .to)
+    entry-left =
+        sym (MailLaws.getD-entries (pending g mail) (g .from) some-left)
+        ∙ ap (λ (l : List Entry). getD l (g .from) unused) (left .entries)
+        ∙ getD-without (g .from) (g .to) (entriesOf mail) (s .order) behind unused
+        ∙ MailLaws.getD-entries mail (g .to) some
+
+    pub others-left : removeAt (g .from) (entriesOf (pending g mail)) ≡ inUse (longer g) mail
+    others-left = ap (removeAt (g .from)) (left .entries) ∙ without-more (g .from) (g .to) (entriesOf mail) (s .order) behind unused
 
 -- none is spent
-pub none-spent : (mail : List ℕ) → Kept mail → pending 0 mail ≡ mail
-none-spent mail kept = sym (kept .bytes)
+pub none-spent : (g : Gap) (mail : List ℕ) → g .from ≡ g .to → Kept mail → pending g mail ≡ mail
+none-spent g mail e kept = rw (e, without-none (g .to) (entriesOf mail)) (sym (kept .bytes))
 
 -- entries were added where places had been made
-module _ (j n k : ℕ) (before after : List ℕ) (p : Placed j n k before after) (l : List Entry) (few : length l ≡ n)
+module _ (g : Gap) (n : ℕ) (h : Gap) (before after : List ℕ) (p : Placed g n h before after) (l : List Entry) (few : length l ≡ n)
     {filled : List ℕ} (e : filled ≡ mailBytes (capacityOf after) (entriesOf after ++ l)) where
   abbrev all : List Entry
   all = entriesOf after ++ l
@@ -60,12 +73,17 @@ module _ (j n k : ℕ) (before after : List ℕ) (p : Placed j n k before after)
   fits : length all ≤ capacityOf after
   fits = omega (arith, added, p .free)
 
-  pub filled-spent : Spent k filled
+  pub filled-spent : Spent h filled
   filled-spent =
-      let h = p .spent .kept in
-      rw (e) (record { kept = MailLaws.kept-mail (capacityOf after) all (h .low) (h .high) fits; few = rw (MailLaws.count-mail (capacityOf after) all (h .low) (h .high) fits) (omega (arith, added, p .spent .few)) })
+      let k = p .spent .kept in
+      rw (e)
+      (record {
+        kept = MailLaws.kept-mail (capacityOf after) all (k .low) (k .high) fits;
+        order = p .spent .order;
+        inside = rw (MailLaws.count-mail (capacityOf after) all (k .low) (k .high) fits) (omega (arith, added, p .spent .inside));
+      })
 
-  pub filled-left : pending k filled ≡ mailBytes (capacityOf before) (drop j (entriesOf before) ++ l)
+  pub filled-left : pending h filled ≡ mailBytes (capacityOf before) (inUse g before ++ l)
   filled-left =
-      let h = p .spent .kept in
-      rw (e, MailLaws.capacity-mail (capacityOf after) all (h .low) (h .high) fits, MailLaws.entries-mail (capacityOf after) all (h .low) (h .high) fits, drop-append-le k (entriesOf after) l (omega (arith, MailLaws.length-entries after, p .spent .few)), p .capacity, p .entries) refl
+      let k = p .spent .kept in
+      rw (e, MailLaws.capacity-mail (capacityOf after) all (k .low) (k .high) fits, MailLaws.entries-mail (capacityOf after) all (k .low) (k .high) fits, without-append (h .from) (h .to) (entriesOf after) (p .spent .order) (within h after (p .spent)) l, p .capacity, p .entries) refl

@@ -1,52 +1,67 @@
 -- What the parts of the code ask of each other and leave. No part of the promise.
--- Entries that a drain has delivered, spent ones, stand at the front of the mailbox until they go out all at once.
+-- The entries that a drain has delivered, spent ones, stand in a gap of the mailbox until they go out all at once: before it stand entries that are kept, behind it those that are pending.
 use Prim.Native.Nat.{ℕ, _+_, _≤_, _<_}
 use mathlib.Core.Path.{_≡_}
 use mathlib.Core.Bool.{Bool, true, false, cond, _&&_}
 use mathlib.Core.List.{List}
 use lib.Dec.{leb}
-use lib.ListN.{length, drop}
+use lib.ListN.{length}
+use Rattle.lists.specs.Lists.{without}
+use Rattle.mailbox.specs.Entry.{Entry}
 use Rattle.mailbox.specs.Layout.{capacityOf, countOf, entriesOf, mailBytes, Kept}
 use Rattle.refusal.specs.Refusal.{mailFull}
 use Rattle.step.specs.Step.{Stepped, Formed}
+use Rattle.drain.specs.declared.Gap.{Gap}
 use Rattle.drain.specs.declared.Delivery.{Delivery}
+use Rattle.drain.specs.Oldest.{EarliestAt}
 
--- the mailbox without its first k entries
-abbrev pub pending : ℕ → List ℕ → List ℕ
-pending k mail = mailBytes (capacityOf mail) (drop k (entriesOf mail))
+-- the entries in use, all but the spent ones
+abbrev pub inUse : Gap → List ℕ → List Entry
+inUse g mail = without (g .from) (g .to) (entriesOf mail)
 
--- the first k entries are spent
-pub record Spent (k : ℕ) (mail : List ℕ) : Type 0 where
+-- the mailbox that holds these alone
+abbrev pub pending : Gap → List ℕ → List ℕ
+pending g mail = mailBytes (capacityOf mail) (inUse g mail)
+
+-- the gap lies in the mailbox
+pub record Spent (g : Gap) (mail : List ℕ) : Type 0 where
   pub kept : Kept mail
-  pub few : k ≤ countOf mail
+  pub order : g .from ≤ g .to
+  pub inside : g .to ≤ countOf mail
 
--- and one is left to deliver
-pub record Due (k : ℕ) (table mail : List ℕ) : Type 0 where
-  pub kept : Kept mail
-  pub inside : k < countOf mail
-  pub formed : Formed table (pending k mail)
+-- and the entry behind it is there to deliver
+pub record Due (g : Gap) (table mail : List ℕ) : Type 0 where
+  pub spent : Spent g mail
+  pub some : g .to < countOf mail
+  pub formed : Formed table (pending g mail)
+  pub earliest : EarliestAt (g .from) (pending g mail)
 
--- j entries were spent before and k are after; the others are the same, and n places are free behind them
-pub record Placed (j n k : ℕ) (before after : List ℕ) : Type 0 where
-  pub spent : Spent k after
+-- the gap once that entry is spent too
+abbrev pub longer : Gap → Gap
+longer g = record { from = g .from; to = g .to + 1 }
+
+-- gap g was there before and h is after; the entries in use are the same, and n places are free behind them
+pub record Placed (g : Gap) (n : ℕ) (h : Gap) (before after : List ℕ) : Type 0 where
+  pub spent : Spent h after
+  pub front : h .from ≡ g .from
   pub capacity : capacityOf after ≡ capacityOf before
-  pub entries : drop k (entriesOf after) ≡ drop j (entriesOf before)
+  pub entries : inUse h after ≡ inUse g before
   pub free : countOf after + n ≤ capacityOf after
 
--- n entries more have room without the first k: the test of `overfull`, by numbers
-abbrev pub fits : ℕ → ℕ → List ℕ → Bool
-fits k n mail = leb (length (drop k (entriesOf mail)) + n) (capacityOf mail)
+-- n entries more have room beside those in use: the test of `overfull`, by numbers
+abbrev pub fits : Gap → ℕ → List ℕ → Bool
+fits g n mail = leb (length (inUse g mail) + n) (capacityOf mail)
 
 -- 9 where they have none, else 0
 abbrev pub refusalOf : Bool → ℕ
 refusalOf fit = cond fit 0 mailFull
 
--- the delivery of entry k, which sends n messages, is made if they have room and it is allowed
-pub record Admitted (k n : ℕ) (allowed : Bool) (d : Delivery) (before after : List ℕ) : Type 0 where
-  pub refusal : d .refusal ≡ refusalOf (fits (k + 1) n before)
-  pub made : d .made ≡ fits (k + 1) n before && allowed
-  pub stays : d .made ≡ false → (after ≡ before) × (d .spent ≡ k)
-  pub placed : d .made ≡ true → Placed (k + 1) n (d .spent) before after
+-- the delivery of the entry behind gap g, which sends n messages, is made if they have room and it is allowed
+pub record Admitted (g : Gap) (n : ℕ) (allowed : Bool) (d : Delivery) (before after : List ℕ) : Type 0 where
+  pub refusal : d .refusal ≡ refusalOf (fits (longer g) n before)
+  pub made : d .made ≡ fits (longer g) n before && allowed
+  pub stays : d .made ≡ false → (after ≡ before) × (d .gap ≡ g)
+  pub placed : d .made ≡ true → Placed (longer g) n (d .gap) before after
 
 -- what a delivery is refused with, or 0, and what it leaves, without the spent entries
 pub record Outcome : Type 0 where
@@ -61,7 +76,7 @@ outcome n table mail = record { refusal = n; table = table; mail = mail }
 abbrev pub outcomeOf : Bool → List ℕ → List ℕ → Stepped → Outcome
 outcomeOf allowed table mail r = outcome (r .answer .refusal) (cond allowed (r .table) table) (cond allowed (r .mail) mail)
 
--- a delivery leaves spent entries at the front, and without them what step r leaves or, where it is only judged, what was there
-abbrev pub Delivers : ℕ → Bool → List ℕ → List ℕ → Stepped → Delivery → List ℕ → List ℕ → Type 0
-Delivers k allowed table mail r d table′ mail′ =
-    Spent (d .spent) mail′ × (outcome (d .refusal) table′ (pending (d .spent) mail′) ≡ outcomeOf allowed table (pending k mail) r)
+-- a delivery leaves a gap that begins where it did, and without it what step r leaves or, where it is only judged, what was there
+abbrev pub Delivers : Gap → Bool → List ℕ → List ℕ → Stepped → Delivery → List ℕ → List ℕ → Type 0
+Delivers g allowed table mail r d table′ mail′ =
+    Spent (d .gap) mail′ × (d .gap .from ≡ g .from) × (outcome (d .refusal) table′ (pending (d .gap) mail′) ≡ outcomeOf allowed table (pending g mail) r)

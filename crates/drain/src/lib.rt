@@ -1,77 +1,89 @@
-// One delivery of a drain, on buffers that were judged. Entries that the drain has delivered, spent ones, stand at the front of the mailbox until they go out all at once.
+// One delivery of a drain, on buffers that were judged. The entries that the drain has delivered, spent ones, stand in a gap of the mailbox until they go out all at once.
 ghost use mathlib.Core.Path.{_≡_};
 ghost use mathlib.Core.Bool.{true};
-ghost use Prim.Native.Nat.{_+_, _≤_};
-ghost use lib.ListN.{drop};
+ghost use Prim.Native.Nat.{_≤_};
 ghost use Rattle.message.specs.Outbox.{room};
-ghost use Rattle.mailbox.specs.Layout.{entriesOf, entryAt};
+ghost use Rattle.mailbox.specs.Layout.{entryAt};
 ghost use Rattle.table.specs.Layout.{session, senior};
 ghost use Rattle.waits.specs.OnTable.{locks};
 ghost use Rattle.step.specs.Step.{itemReceives, sessionReceives, sessionPlan, itemPlan};
 ghost use Rattle.step.specs.Parts.{concluded};
-ghost use Rattle.drain.specs.Oldest.{oldestActed};
-ghost use Rattle.drain.specs.Parts.{pending, Spent, Due, Placed, fits, refusalOf, Admitted, Delivers};
+ghost use Rattle.drain.specs.Oldest.{actedAt};
+ghost use Rattle.drain.specs.Parts.{inUse, pending, longer, Spent, Due, Placed, fits, refusalOf, Admitted, Delivers};
 
-// What a delivery is refused with, or 0, whether it is made, and how many entries are spent after it.
+// The places from `from` up to `to`, of spent entries. Those before it are kept, those behind it are pending.
+pub struct Gap {
+    pub from: usize,
+    pub to: usize,
+}
+
+// What a delivery is refused with, or 0, whether it is made, and the gap after it.
 pub struct Delivery {
     pub refusal: u8,
     pub made: bool,
-    pub spent: usize,
+    pub gap: Gap,
 }
 
-// What is answered where n entries more are to have room once the first k are out: 9, or 0.
-fn room_refusal(mail: &[u8], k: usize, n: usize) -> u8
-    requires { ⌜ Spent k (now mail) × (n ≤ room) ⌝ }
-    ensures { λ r. ⌜ r ≡ refusalOf (fits k n (now (mail .entry))) ⌝ }
+// What is answered where n entries more are to have room once the gap is closed: 9, or 0.
+fn room_refusal(mail: &[u8], gap: Gap, n: usize) -> u8
+    requires { ⌜ Spent gap (now mail) × (n ≤ room) ⌝ }
+    ensures { λ r. ⌜ r ≡ refusalOf (fits gap n (now (mail .entry))) ⌝ }
 {
-    if mailbox::count(mail) - k + n <= mailbox::capacity(mail) {
+    if mailbox::count(mail) - (gap.to - gap.from) + n <= mailbox::capacity(mail) {
         return 0;
     }
     refusal::MAIL_FULL
 }
 
-// Makes places for n entries more: the first k, which are spent, go out where the free places are too few. How many are spent after.
-fn make_places(mail: &mut [u8], k: usize, n: usize) -> usize
-    requires { ⌜ Spent k (now mail) × (n ≤ room) × (fits k n (now mail) ≡ true) ⌝ }
-    ensures { λ r. ⌜ Placed k n r (now (mail .entry)) (now (mail .exit)) ⌝ }
+// Makes places for n entries more: the gap is closed where the free places are too few. The gap after.
+fn make_places(mail: &mut [u8], gap: Gap, n: usize) -> Gap
+    requires { ⌜ Spent gap (now mail) × (n ≤ room) × (fits gap n (now mail) ≡ true) ⌝ }
+    ensures { λ r. ⌜ Placed gap n r (now (mail .entry)) (now (mail .exit)) ⌝ }
 {
     if mailbox::count(mail) + n <= mailbox::capacity(mail) {
-        return k;
+        return gap;
     }
-    mailbox::remove_first(mail, k);
-    0
+    mailbox::cut(mail, gap.from, gap.to);
+    Gap {
+        from: gap.from,
+        to: gap.from,
+    }
 }
 
-// Judges whether the n messages that the delivery of entry k sends have room. If they do and it is allowed, makes places for them.
-fn admit(mail: &mut [u8], k: usize, n: usize, allowed: bool) -> Delivery
-    requires { ⌜ Spent (k + 1) (now mail) × (n ≤ room) ⌝ }
-    ensures { λ r. ⌜ Admitted k n allowed r (now (mail .entry)) (now (mail .exit)) ⌝ }
+// Judges whether the n messages that the delivery of the entry behind the gap sends have room. If they do and it is allowed, makes places for them.
+fn admit(mail: &mut [u8], gap: Gap, n: usize, allowed: bool) -> Delivery
+    requires { ⌜ Spent (longer gap) (now mail) × (n ≤ room) ⌝ }
+    ensures { λ r. ⌜ Admitted gap n allowed r (now (mail .entry)) (now (mail .exit)) ⌝ }
 {
-    let refusal = room_refusal(mail, k + 1, n);
+    let after = Gap {
+        from: gap.from,
+        to: gap.to + 1,
+    };
+    let refusal = room_refusal(mail, after, n);
     if (refusal != 0) | !allowed {
         return Delivery {
             refusal,
             made: false,
-            spent: k,
+            gap,
         };
     }
-    let spent = make_places(mail, k + 1, n);
+    let places = make_places(mail, after, n);
     Delivery {
         refusal: 0,
         made: true,
-        spent,
+        gap: places,
     }
 }
 
-// Delivers entry k, the oldest that is not spent, to session t.
-fn deliver_to_session(t: u8, k: usize, allowed: bool, table: &mut [u8], mail: &mut [u8]) -> Delivery
-    requires { ⌜ Due k (now table) (now mail) × (t ≡ entryAt (now mail) k .session) ⌝ }
-    ensures { λ d. ⌜ Delivers k allowed (now (table .entry)) (now (mail .entry))
-        (concluded t (now (table .entry)) (pending k (now (mail .entry))) (sessionPlan t (now (table .entry)) (drop (k + 1) (entriesOf (now (mail .entry)))) (sessionReceives (senior (now (table .entry))) t (session (now (table .entry)) t) (entryAt (now (mail .entry)) k))))
+// Delivers the entry behind the gap to session t.
+fn deliver_to_session(t: u8, gap: Gap, allowed: bool, table: &mut [u8], mail: &mut [u8]) -> Delivery
+    requires { ⌜ Due gap (now table) (now mail) × (t ≡ entryAt (now mail) (gap .to) .session) ⌝ }
+    ensures { λ d. ⌜ Delivers gap allowed (now (table .entry)) (now (mail .entry))
+        (concluded t (now (table .entry)) (pending gap (now (mail .entry))) (sessionPlan t (now (table .entry)) (inUse (longer gap) (now (mail .entry))) (sessionReceives (senior (now (table .entry))) t (session (now (table .entry)) t) (entryAt (now (mail .entry)) (gap .to)))))
         d (now (table .exit)) (now (mail .exit)) ⌝ }
 {
-    let r = step::session_receives(t, k, table, mail);
-    let d = admit(mail, k, r.outbox.n, allowed);
+    let r = step::session_receives(t, gap.to, table, mail);
+    let d = admit(mail, gap, r.outbox.n, allowed);
     if !d.made {
         return d;
     }
@@ -80,15 +92,15 @@ fn deliver_to_session(t: u8, k: usize, allowed: bool, table: &mut [u8], mail: &m
     d
 }
 
-// Delivers entry k, the oldest that is not spent, to item x.
-fn deliver_to_item(x: u8, k: usize, allowed: bool, table: &mut [u8], mail: &mut [u8]) -> Delivery
-    requires { ⌜ Due k (now table) (now mail) × (x ≡ entryAt (now mail) k .item) ⌝ }
-    ensures { λ d. ⌜ Delivers k allowed (now (table .entry)) (now (mail .entry))
-        (concluded (entryAt (now (mail .entry)) k .session) (now (table .entry)) (pending k (now (mail .entry))) (itemPlan x (now (table .entry)) (drop (k + 1) (entriesOf (now (mail .entry)))) (itemReceives (senior (now (table .entry))) (locks (now (table .entry)) x) (entryAt (now (mail .entry)) k))))
+// Delivers the entry behind the gap to item x.
+fn deliver_to_item(x: u8, gap: Gap, allowed: bool, table: &mut [u8], mail: &mut [u8]) -> Delivery
+    requires { ⌜ Due gap (now table) (now mail) × (x ≡ entryAt (now mail) (gap .to) .item) ⌝ }
+    ensures { λ d. ⌜ Delivers gap allowed (now (table .entry)) (now (mail .entry))
+        (concluded (entryAt (now (mail .entry)) (gap .to) .session) (now (table .entry)) (pending gap (now (mail .entry))) (itemPlan x (now (table .entry)) (inUse (longer gap) (now (mail .entry))) (itemReceives (senior (now (table .entry))) (locks (now (table .entry)) x) (entryAt (now (mail .entry)) (gap .to)))))
         d (now (table .exit)) (now (mail .exit)) ⌝ }
 {
-    let r = step::item_receives(x, k, table, mail);
-    let d = admit(mail, k, r.outbox.n, allowed);
+    let r = step::item_receives(x, gap.to, table, mail);
+    let d = admit(mail, gap, r.outbox.n, allowed);
     if !d.made {
         return d;
     }
@@ -97,27 +109,27 @@ fn deliver_to_item(x: u8, k: usize, allowed: bool, table: &mut [u8], mail: &mut 
     d
 }
 
-// Delivers entry k, the oldest that is not spent. Where it is not allowed, only what it would be refused with is judged.
-pub fn deliver(k: usize, allowed: bool, table: &mut [u8], mail: &mut [u8]) -> Delivery
-    requires { ⌜ Due k (now table) (now mail) ⌝ }
-    ensures { λ d. ⌜ Delivers k allowed (now (table .entry)) (now (mail .entry))
-        (oldestActed (now (table .entry)) (pending k (now (mail .entry))))
+// Delivers the entry behind the gap, the earliest of its route. Where it is not allowed, only what it would be refused with is judged.
+pub fn deliver(gap: Gap, allowed: bool, table: &mut [u8], mail: &mut [u8]) -> Delivery
+    requires { ⌜ Due gap (now table) (now mail) ⌝ }
+    ensures { λ d. ⌜ Delivers gap allowed (now (table .entry)) (now (mail .entry))
+        (actedAt (gap .from) (now (table .entry)) (pending gap (now (mail .entry))))
         d (now (table .exit)) (now (mail .exit)) ⌝ }
 {
-    let route = mailbox::route_of(mail, k);
+    let route = mailbox::route_of(mail, gap.to);
     if route.direction == mailbox::TO_ITEM {
-        return deliver_to_item(route.item, k, allowed, table, mail);
+        return deliver_to_item(route.item, gap, allowed, table, mail);
     }
-    deliver_to_session(route.session, k, allowed, table, mail)
+    deliver_to_session(route.session, gap, allowed, table, mail)
 }
 
-// Takes out the spent entries, the first k.
-pub fn clear_spent(mail: &mut [u8], k: usize)
-    requires { ⌜ Spent k (now mail) ⌝ }
-    ensures { λ _. ⌜ now (mail .exit) ≡ pending k (now (mail .entry)) ⌝ }
+// Takes out the spent entries.
+pub fn close_gap(mail: &mut [u8], gap: Gap)
+    requires { ⌜ Spent gap (now mail) ⌝ }
+    ensures { λ _. ⌜ now (mail .exit) ≡ pending gap (now (mail .entry)) ⌝ }
 {
-    if k == 0 {
+    if gap.from == gap.to {
         return;
     }
-    mailbox::remove_first(mail, k);
+    mailbox::cut(mail, gap.from, gap.to);
 }

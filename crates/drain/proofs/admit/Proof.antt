@@ -1,10 +1,8 @@
 -- The two tests, and the places.
 use mathlib.Core.Path.{_≡_, refl}
 use mathlib.Core.Bool.{Bool, true, false, not, _&&_, _||_, true≢false, false≢true}
-use Prim.Native.Nat.{_+_}
-use native.Mathlib.Omega.{arith}
 use lib.Dec.{eqb}
-use Rattle.drain.specs.Parts.{fits, refusalOf}
+use Rattle.drain.specs.Parts.{longer, fits, refusalOf}
 use borrow.Author.Needs.{needs}
 use Rattle.drain.proofs.admit.Statement.{statement}
 use Rattle.drain.proofs.admit.Tie as tie
@@ -20,34 +18,31 @@ goes-on true false h = absurd (true≢false h)
 goes-on false allowed h = absurd (true≢false h)
 
 -- both tests are passed
-passed : (c : tie.Else1) → (fits (c .before .before .before .before .args .k + 1) (c .before .before .before .before .args .n) (c .before .before .before .before .args .mail .now) ≡ true) × (c .before .before .before .before .args .allowed ≡ true)
-passed c = let s = c .before .before .before .before in goes-on (fits (s .args .k + 1) (s .args .n) (s .args .mail .now)) (s .args .allowed) (rw (c .before .room-refusal .ensures) at (c .if1 .left))
+passed : (c : tie.Else1) → (fits (longer (c .before .before .before .before .before .args .gap)) (c .before .before .before .before .before .args .n) (c .before .before .before .before .before .args .mail .now) ≡ true) × (c .before .before .before .before .before .args .allowed ≡ true)
+passed c = let s = c .before .before .before .before .before in goes-on (fits (longer (s .args .gap)) (s .args .n) (s .args .mail .now)) (s .args .allowed) (rw (c .before .room-refusal .ensures) at (c .if1 .left))
 
-add-room-refusal : tie.Need-add-room-refusal
-add-room-refusal c = let s = c .before .before in omega (arith, s .pre .0 .few, s .pre .0 .kept .fits, s .pre .0 .kept .high)
+add-t8 : tie.Need-add-t8
+add-t8 c = search needs
 
 room-refusal-requires : tie.Need-room-refusal-requires
-room-refusal-requires c κs = let s = c .before .before in (s .pre .0, s .pre .1)
+room-refusal-requires c κs = search needs
 
 same-length : tie.Need-same-length
 same-length c = search needs
 
 returns : tie.Need-returns
 returns c =
-    let s = c .before .before .before .before in
+    let s = c .before .before .before .before .before in
     let e = c .before .room-refusal .ensures in
     record {
       refusal = e;
-      made = stops (fits (s .args .k + 1) (s .args .n) (s .args .mail .now)) (s .args .allowed) (rw (e) at (c .if1 .taken));
+      made = stops (fits (longer (s .args .gap)) (s .args .n) (s .args .mail .now)) (s .args .allowed) (rw (e) at (c .if1 .taken));
       stays = λ _. (refl, refl);
       placed = λ q. absurd (false≢true q);
     }
 
-add-make-places : tie.Need-add-make-places
-add-make-places c = let s = c .before .before .before .before .before in omega (arith, s .pre .0 .few, s .pre .0 .kept .fits, s .pre .0 .kept .high)
-
 make-places-requires : tie.Need-make-places-requires
-make-places-requires c κs = let s = c .before .before .before .before .before in (s .pre .0, s .pre .1, passed (c .before) .0)
+make-places-requires c κs = let s = c .before .before .before .before .before .before in (s .pre .0, s .pre .1, passed (c .before) .0)
 
 same-length-2 : tie.Need-same-length-2
 same-length-2 c = search needs
@@ -63,4 +58,4 @@ returns-2 c =
     }
 
 pub admit-spec : {M : Type 1} → statement M
-admit-spec = tie.close (tie.spec add-room-refusal room-refusal-requires same-length returns add-make-places make-places-requires same-length-2 returns-2)
+admit-spec = tie.close (tie.spec add-t8 room-refusal-requires same-length returns make-places-requires same-length-2 returns-2)

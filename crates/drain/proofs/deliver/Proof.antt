@@ -10,7 +10,7 @@ use Rattle.drain.proofs.deliver.Statement.{statement}
 use Rattle.drain.proofs.deliver.Tie as tie
 
 route-of-requires : tie.Need-route-of-requires
-route-of-requires c κs = let s = c .before .before .before in record { kept = s .pre .kept; inside = s .pre .inside }
+route-of-requires c κs = search needs
 
 deliver-to-item-requires : tie.Need-deliver-to-item-requires
 deliver-to-item-requires c κs = (c .before .before .before .before .before .before .before .before .pre, ap (λ (r : Route). r .item) (c .before .before .before .before .route-of .ensures))
@@ -26,7 +26,7 @@ returns c =
     let s = c .before .before .before .before .before .before .before .before .before .before .before .before .before in
     let route = c .before .before .before .before .before .before .before .before .before .route-of .ensures in
     let to = sym (ap (λ (r : Route). r .direction) route) ∙ c .before .before .before .before .before .before .before .if1 .taken in
-    rw (due-acts (s .args .k) (s .args .table .now) (s .args .mail .now) (s .pre), eq-eqb (entryAt (s .args .mail .now) (s .args .k) .direction) toItem to)
+    rw (due-acts (s .args .gap) (s .args .table .now) (s .args .mail .now) (s .pre), eq-eqb (entryAt (s .args .mail .now) (s .args .gap .to) .direction) toItem to)
     (rw (ap (λ (r : Route). r .item) route) at (c .before .before .before .before .deliver-to-item .ensures))
 
 deliver-to-session-requires : tie.Need-deliver-to-session-requires
@@ -42,7 +42,7 @@ returns-2 : tie.Need-returns-2
 returns-2 c =
     let s = c .before .before .before .before .before .before .before .before .before .before .before .before .before in
     let route = c .before .before .before .before .before .before .before .before .before .route-of .ensures in
-    rw (due-acts (s .args .k) (s .args .table .now) (s .args .mail .now) (s .pre), ne-eqb (entryAt (s .args .mail .now) (s .args .k) .direction) toItem (λ q. c .before .before .before .before .before .before .before .if1 .left (ap (λ (r : Route). r .direction) route ∙ q)))
+    rw (due-acts (s .args .gap) (s .args .table .now) (s .args .mail .now) (s .pre), ne-eqb (entryAt (s .args .mail .now) (s .args .gap .to) .direction) toItem (λ q. c .before .before .before .before .before .before .before .if1 .left (ap (λ (r : Route). r .direction) route ∙ q)))
     (rw (ap (λ (r : Route). r .session) route) at (c .before .before .before .before .deliver-to-session .ensures))
 
 pub deliver-spec : {M : Type 1} → statement M

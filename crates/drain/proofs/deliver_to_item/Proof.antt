@@ -10,22 +10,22 @@ use Rattle.mailbox.specs.Layout.{entryAt}
 use Rattle.table.specs.Layout as Table
 use Rattle.waits.specs.OnTable.{locks}
 use Rattle.step.specs.Step.{itemReceives}
-use Rattle.drain.proofs.Oldest.{due-spent, has-item, due-for-item, told-stopped, told-made}
+use Rattle.drain.proofs.Oldest.{has-item, due-for-item, told-stopped, told-made}
 use Rattle.drain.proofs.deliver_to_item.Statement.{statement}
 use Rattle.drain.proofs.deliver_to_item.Tie as tie
 
 -- what the item does
 abbrev Did : tie.Start → Item.After
-Did s = itemReceives (Table.senior (s .args .table .now)) (locks (s .args .table .now) (entryAt (s .args .mail .now) (s .args .k) .item)) (entryAt (s .args .mail .now) (s .args .k))
+Did s = itemReceives (Table.senior (s .args .table .now)) (locks (s .args .table .now) (entryAt (s .args .mail .now) (s .args .gap .to) .item)) (entryAt (s .args .mail .now) (s .args .gap .to))
 
 received : (c : tie.After-item-receives) → c .item-receives .result ≡ Item.stepOf (Did (c .before .before .before .before .before))
 received c = rw (← c .before .before .before .before .before .pre .1) (c .item-receives .ensures .0)
 
 item-receives-requires : tie.Need-item-receives-requires
-item-receives-requires c κs = let s = c .before .before .before .before in rw (s .pre .1) (due-for-item (s .args .k) (s .args .table .now) (s .args .mail .now) (s .pre .0))
+item-receives-requires c κs = let s = c .before .before .before .before in rw (s .pre .1) (due-for-item (s .args .gap) (s .args .table .now) (s .args .mail .now) (s .pre .0))
 
 admit-requires : tie.Need-admit-requires
-admit-requires c κs = let s = c .before .before .before .before .before .before in (due-spent (s .args .k) (s .args .table .now) (s .args .mail .now) (s .pre .0), c .before .item-receives .ensures .1)
+admit-requires c κs = search needs
 
 same-length : tie.Need-same-length
 same-length c = search needs
@@ -37,13 +37,13 @@ returns : tie.Need-returns
 returns c =
     let s = c .before .before .before .before .before .before .before .before .before .before .before in
     let w = Did s in
-    rw (s .pre .1) (told-stopped (s .args .k) (s .args .table .now) (s .args .mail .now) (s .pre .0) (Table.withItem (s .args .table .now) (entryAt (s .args .mail .now) (s .args .k) .item) (packed (w .lock))) (fromItem (entryAt (s .args .mail .now) (s .args .k) .item)) (w .sends) (w .event) _ (ap (λ (r : ItemStep). r .outbox .n) (received (c .before .before .before .before .before .before))) (s .args .allowed) _ _ (c .before .before .before .before .admit .ensures) (not-true _ (c .if1 .taken)))
+    rw (s .pre .1) (told-stopped (s .args .gap) (s .args .table .now) (s .args .mail .now) (s .pre .0) (Table.withItem (s .args .table .now) (entryAt (s .args .mail .now) (s .args .gap .to) .item) (packed (w .lock))) (fromItem (entryAt (s .args .mail .now) (s .args .gap .to) .item)) (w .sends) (w .event) _ (ap (λ (r : ItemStep). r .outbox .n) (received (c .before .before .before .before .before .before))) (s .args .allowed) _ _ (c .before .before .before .before .admit .ensures) (not-true _ (c .if1 .taken)))
 
 post-requires : tie.Need-post-requires
 post-requires c κs = let p = c .before .before .before .before .before .admit .ensures .placed (not-false _ (c .before .if1 .left)) in record { kept = p .spent .kept; few = c .before .before .before .before .before .before .before .item-receives .ensures .1; fits = p .free }
 
 put-item-requires : tie.Need-put-item-requires
-put-item-requires c κs = let s = c .before .before .before .before .before .before .before .before .before .before .before .before .before .before .before .before in rw (s .pre .1) (has-item (s .args .k) (s .args .table .now) (s .args .mail .now) (s .pre .0))
+put-item-requires c κs = let s = c .before .before .before .before .before .before .before .before .before .before .before .before .before .before .before .before in rw (s .pre .1) (has-item (s .args .gap) (s .args .table .now) (s .args .mail .now) (s .pre .0))
 
 same-length-3 : tie.Need-same-length-3
 same-length-3 c = search needs
@@ -57,7 +57,7 @@ returns-2 c =
     let w = Did s in
     let does = received (c .before .before .before .before .before .before .before .before .before .before .before .before .before .before) in
     rw (c .before .before .put-item .ensures, does, s .pre .1)
-    (told-made (s .args .k) (s .args .table .now) (s .args .mail .now) (s .pre .0) (Table.withItem (s .args .table .now) (entryAt (s .args .mail .now) (s .args .k) .item) (packed (w .lock))) (fromItem (entryAt (s .args .mail .now) (s .args .k) .item)) (w .sends) (w .event) _ (ap (λ (r : ItemStep). r .outbox .n) does) (s .args .allowed) _ _ (c .before .before .before .before .before .before .before .before .before .before .before .before .admit .ensures) (not-false _ (c .before .before .before .before .before .before .before .before .if1 .left)) (rw (s .pre .1) at (c .before .before .before .before .before .before .post .ensures (w .sends) (ap (λ (r : ItemStep). r .outbox) does))))
+    (told-made (s .args .gap) (s .args .table .now) (s .args .mail .now) (s .pre .0) (Table.withItem (s .args .table .now) (entryAt (s .args .mail .now) (s .args .gap .to) .item) (packed (w .lock))) (fromItem (entryAt (s .args .mail .now) (s .args .gap .to) .item)) (w .sends) (w .event) _ (ap (λ (r : ItemStep). r .outbox .n) does) (s .args .allowed) _ _ (c .before .before .before .before .before .before .before .before .before .before .before .before .admit .ensures) (not-false _ (c .before .before .before .before .before .before .before .before .if1 .left)) (rw (s .pre .1) at (c .before .before .before .before .before .before .post .ensures (w .sends) (ap (λ (r : ItemStep). r .outbox) does))))
 
 pub deliver-to-item-spec : {M : Type 1} → statement M
 deliver-to-item-spec =

@@ -9,22 +9,22 @@ use Rattle.mailbox.specs.Entry.{fromSession}
 use Rattle.mailbox.specs.Layout.{entryAt}
 use Rattle.table.specs.Layout as Table
 use Rattle.step.specs.Step.{sessionReceives}
-use Rattle.drain.proofs.Oldest.{due-spent, has-session, due-for-session, told-stopped, told-made}
+use Rattle.drain.proofs.Oldest.{has-session, due-for-session, told-stopped, told-made}
 use Rattle.drain.proofs.deliver_to_session.Statement.{statement}
 use Rattle.drain.proofs.deliver_to_session.Tie as tie
 
 -- what the session does
 abbrev Did : tie.Start → Session.After
-Did s = sessionReceives (Table.senior (s .args .table .now)) (entryAt (s .args .mail .now) (s .args .k) .session) (Table.session (s .args .table .now) (entryAt (s .args .mail .now) (s .args .k) .session)) (entryAt (s .args .mail .now) (s .args .k))
+Did s = sessionReceives (Table.senior (s .args .table .now)) (entryAt (s .args .mail .now) (s .args .gap .to) .session) (Table.session (s .args .table .now) (entryAt (s .args .mail .now) (s .args .gap .to) .session)) (entryAt (s .args .mail .now) (s .args .gap .to))
 
 received : (c : tie.After-session-receives) → c .session-receives .result ≡ Session.stepOf (Did (c .before .before .before .before .before))
 received c = rw (← c .before .before .before .before .before .pre .1) (c .session-receives .ensures .0)
 
 session-receives-requires : tie.Need-session-receives-requires
-session-receives-requires c κs = let s = c .before .before .before .before in rw (s .pre .1) (due-for-session (s .args .k) (s .args .table .now) (s .args .mail .now) (s .pre .0))
+session-receives-requires c κs = let s = c .before .before .before .before in rw (s .pre .1) (due-for-session (s .args .gap) (s .args .table .now) (s .args .mail .now) (s .pre .0))
 
 admit-requires : tie.Need-admit-requires
-admit-requires c κs = let s = c .before .before .before .before .before .before in (due-spent (s .args .k) (s .args .table .now) (s .args .mail .now) (s .pre .0), c .before .session-receives .ensures .1)
+admit-requires c κs = search needs
 
 same-length : tie.Need-same-length
 same-length c = search needs
@@ -36,13 +36,13 @@ returns : tie.Need-returns
 returns c =
     let s = c .before .before .before .before .before .before .before .before .before .before .before in
     let w = Did s in
-    rw (s .pre .1) (told-stopped (s .args .k) (s .args .table .now) (s .args .mail .now) (s .pre .0) (Table.withSession (s .args .table .now) (entryAt (s .args .mail .now) (s .args .k) .session) (w .session)) (fromSession (entryAt (s .args .mail .now) (s .args .k) .session)) (w .sends) Nothing _ (ap (λ (r : SessionStep). r .outbox .n) (received (c .before .before .before .before .before .before))) (s .args .allowed) _ _ (c .before .before .before .before .admit .ensures) (not-true _ (c .if1 .taken)))
+    rw (s .pre .1) (told-stopped (s .args .gap) (s .args .table .now) (s .args .mail .now) (s .pre .0) (Table.withSession (s .args .table .now) (entryAt (s .args .mail .now) (s .args .gap .to) .session) (w .session)) (fromSession (entryAt (s .args .mail .now) (s .args .gap .to) .session)) (w .sends) Nothing _ (ap (λ (r : SessionStep). r .outbox .n) (received (c .before .before .before .before .before .before))) (s .args .allowed) _ _ (c .before .before .before .before .admit .ensures) (not-true _ (c .if1 .taken)))
 
 post-requires : tie.Need-post-requires
 post-requires c κs = let p = c .before .before .before .before .before .admit .ensures .placed (not-false _ (c .before .if1 .left)) in record { kept = p .spent .kept; few = c .before .before .before .before .before .before .before .session-receives .ensures .1; fits = p .free }
 
 put-session-requires : tie.Need-put-session-requires
-put-session-requires c κs = let s = c .before .before .before .before .before .before .before .before .before .before .before .before .before .before .before .before in rw (s .pre .1) (has-session (s .args .k) (s .args .table .now) (s .args .mail .now) (s .pre .0))
+put-session-requires c κs = let s = c .before .before .before .before .before .before .before .before .before .before .before .before .before .before .before .before in rw (s .pre .1) (has-session (s .args .gap) (s .args .table .now) (s .args .mail .now) (s .pre .0))
 
 same-length-3 : tie.Need-same-length-3
 same-length-3 c = search needs
@@ -56,7 +56,7 @@ returns-2 c =
     let w = Did s in
     let does = received (c .before .before .before .before .before .before .before .before .before .before .before .before .before .before) in
     rw (c .before .before .put-session .ensures, does, s .pre .1)
-    (told-made (s .args .k) (s .args .table .now) (s .args .mail .now) (s .pre .0) (Table.withSession (s .args .table .now) (entryAt (s .args .mail .now) (s .args .k) .session) (w .session)) (fromSession (entryAt (s .args .mail .now) (s .args .k) .session)) (w .sends) Nothing _ (ap (λ (r : SessionStep). r .outbox .n) does) (s .args .allowed) _ _ (c .before .before .before .before .before .before .before .before .before .before .before .before .admit .ensures) (not-false _ (c .before .before .before .before .before .before .before .before .if1 .left)) (rw (s .pre .1) at (c .before .before .before .before .before .before .post .ensures (w .sends) (ap (λ (r : SessionStep). r .outbox) does))))
+    (told-made (s .args .gap) (s .args .table .now) (s .args .mail .now) (s .pre .0) (Table.withSession (s .args .table .now) (entryAt (s .args .mail .now) (s .args .gap .to) .session) (w .session)) (fromSession (entryAt (s .args .mail .now) (s .args .gap .to) .session)) (w .sends) Nothing _ (ap (λ (r : SessionStep). r .outbox .n) does) (s .args .allowed) _ _ (c .before .before .before .before .before .before .before .before .before .before .before .before .admit .ensures) (not-false _ (c .before .before .before .before .before .before .before .before .if1 .left)) (rw (s .pre .1) at (c .before .before .before .before .before .before .post .ensures (w .sends) (ap (λ (r : SessionStep). r .outbox) does))))
 
 pub deliver-to-session-spec : {M : Type 1} → statement M
 deliver-to-session-spec =

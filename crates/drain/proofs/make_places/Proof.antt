@@ -1,12 +1,14 @@
--- There are places enough, or the spent entries go out.
-use mathlib.Core.Path.{refl}
+-- There are places enough, or the gap is closed.
+use mathlib.Core.Path.{refl, _∙_}
 use native.Mathlib.Omega.{arith}
 use Prim.Native.Nat.{_+_}
-use lib.ListN.{length, drop, length-drop}
+use lib.ListN.{length}
 use borrow.Author.Tests.{leb-true}
-use Rattle.mailbox.specs.Layout.{capacityOf, entriesOf}
-use Rattle.mailbox.proofs.Laws.{kept-length, length-entries}
-use Rattle.drain.proofs.Spent.{left}
+use Rattle.mailbox.specs.Layout.{capacityOf}
+use Rattle.mailbox.proofs.Laws.{kept-length}
+use Rattle.lists.proofs.Laws.{without-none}
+use Rattle.drain.specs.Parts.{inUse}
+use Rattle.drain.proofs.Spent.{left, length-left}
 use borrow.Author.Needs.{needs}
 use Rattle.drain.proofs.make_places.Statement.{statement}
 use Rattle.drain.proofs.make_places.Tie as tie
@@ -32,10 +34,10 @@ same-length c = search needs
 returns : tie.Need-returns
 returns c =
     let s = c .before .before .before .before .before .before in
-    record { spent = s .pre .0; capacity = refl; entries = refl; free = omega (arith, c .if1 .taken, c .before .before .before .count .ensures, c .before .capacity .ensures) }
+    record { spent = s .pre .0; front = refl; capacity = refl; entries = refl; free = omega (arith, c .if1 .taken, c .before .before .before .count .ensures, c .before .capacity .ensures) }
 
-remove-first-requires : tie.Need-remove-first-requires
-remove-first-requires c κs = search needs
+cut-requires : tie.Need-cut-requires
+cut-requires c κs = search needs
 
 same-length-2 : tie.Need-same-length-2
 same-length-2 c = search needs
@@ -44,14 +46,16 @@ returns-2 : tie.Need-returns-2
 returns-2 c =
     let s = c .before .before .before .before .before .before .before .before .before .before in
     let m = s .args .mail .now in
-    let l = left (s .args .k) m (s .pre .0 .kept) in
-    rw (c .before .before .remove-first .ensures)
+    let g = s .args .gap in
+    let l = left g m (s .pre .0) in
+    rw (c .before .before .cut .ensures)
     (record {
-      spent = record { kept = l .kept; few = omega arith };
+      spent = record { kept = l .kept; order = omega arith; inside = omega (arith, l .count, s .pre .0 .order, s .pre .0 .inside) };
+      front = refl;
       capacity = l .capacity;
-      entries = l .entries;
-      free = omega (arith, l .count, l .capacity, leb-true (length (drop (s .args .k) (entriesOf m)) + s .args .n) (capacityOf m) (s .pre .2), length-drop (s .args .k) (entriesOf m), length-entries m);
+      entries = without-none (g .from) _ ∙ l .entries;
+      free = omega (arith, l .count, l .capacity, leb-true (length (inUse g m) + s .args .n) (capacityOf m) (s .pre .2), length-left g m (s .pre .0));
     })
 
 pub make-places-spec : {M : Type 1} → statement M
-make-places-spec = tie.close (tie.spec count-requires add-if1 capacity-requires same-length returns remove-first-requires same-length-2 returns-2)
+make-places-spec = tie.close (tie.spec count-requires add-if1 capacity-requires same-length returns cut-requires same-length-2 returns-2)
