@@ -61,12 +61,12 @@ module _ (e : Entry) (rest : List Entry) (table : List ℕ) where
   directed = cond (eqb (e .direction) toItem) to-item to-session
 
 -- the oldest entry is the earliest of its route
-pub oldest-earliest : (mail : List ℕ) → 0 < countOf mail → EarliestAt 0 mail
-oldest-earliest mail some =
-    let e = entryAt mail 0 in
-    findIndex-first (onRoute (e .direction) (e .session) (e .item)) (entriesOf mail) unused 0 (omega (arith, MailLaws.length-entries mail))
-    (rw (MailLaws.getD-entries mail 0 some, eqb-self (e .direction), eqb-self (e .session), eqb-self (e .item)) refl)
-    (λ j h. absurd (omega (arith, h)))
+pub oldest-earliest : (mail : List ℕ) (k : ℕ) → k ≡ 0 → k < countOf mail → EarliestAt k mail
+oldest-earliest mail k oldest inside =
+    let e = entryAt mail k in
+    findIndex-first (onRoute (e .direction) (e .session) (e .item)) (entriesOf mail) unused k (omega (arith, MailLaws.length-entries mail))
+    (rw (MailLaws.getD-entries mail k inside, eqb-self (e .direction), eqb-self (e .session), eqb-self (e .item)) refl)
+    (λ j h. absurd (omega (arith, h, oldest)))
 
 -- an entry of well-formed buffers
 module _ (table mail : List ℕ) (f : Formed table mail) (k : ℕ) (inside : k < countOf mail) where
@@ -117,9 +117,9 @@ module _ (table mail : List ℕ) (f : Formed table mail) (k : ℕ) (inside : k <
     refused-or-accepted = rw (entry-acts) (by-room (entry .session) table mail (directed entry others table))
 
 -- where no entry is kept before the gap, the one behind it is the oldest in use
-pub oldest-due : (g : Gap) (table mail : List ℕ) → Spent g mail → g .to < countOf mail → Formed table (pending g mail) → g .from ≡ 0 → Due g table mail
-oldest-due g table mail s some f e =
-    record { spent = s; some = some; formed = f; earliest = subst (λ (k : ℕ). EarliestAt k (pending g mail)) (sym e) (oldest-earliest (pending g mail) (omega (arith, some-left g mail s some))) }
+pub oldest-due : (g : Gap) (table mail : List ℕ) → g .from ≡ 0 → Spent g mail → g .to < countOf mail → Formed table (pending g mail) → Due g table mail
+oldest-due g table mail oldest s some f =
+    record { spent = s; some = some; formed = f; earliest = oldest-earliest (pending g mail) (g .from) oldest (some-left g mail s some) }
 
 -- the entry behind the gap
 module _ (g : Gap) (table mail : List ℕ) (due : Due g table mail) where

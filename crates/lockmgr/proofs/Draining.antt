@@ -13,9 +13,9 @@ use Rattle.mailbox.specs.Entry.{Entry, toItem}
 use Rattle.mailbox.specs.Layout.{countOf, entryAt}
 use Rattle.refusal.specs.Refusal
 use Rattle.step.specs.Step.{Stepped, Formed, stepped, refusedAnswer}
-use Rattle.drain.specs.Oldest.{verbOf, oldestActed}
+use Rattle.drain.specs.Oldest.{verbOf, actedAt}
 use Rattle.drain.specs.Parts.{Outcome, outcome, outcomeOf}
-use Rattle.drain.proofs.Oldest.{oldest-judged, refused-or-accepted}
+use Rattle.drain.proofs.Oldest.{oldest-earliest, entry-judged, refused-or-accepted}
 use Rattle.lockmgr.specs.Run.{Buffers, buffers, doneOn, leftBy, left}
 use Rattle.lockmgr.specs.Drain.{oldest, empty, full, limited, ending, deliveries, drainRefusal, drainSteps, drainAnswer, drainResult, drain}
 use Rattle.lockmgr.specs.Parts.{Turned, turned, turnOf, Ahead, Ended}
@@ -36,20 +36,20 @@ module _ (table mail : List ℕ) (f : Formed table mail) where
   abbrev next : Stepped
   next = doneOn here (oldest here) .result
 
-  module _ (some : 0 < countOf mail) where
-    next-acts : next ≡ oldestActed table mail
+  module _ (k : ℕ) (first : k ≡ 0) (some : k < countOf mail) where
+    next-acts : next ≡ actedAt k table mail
     next-acts =
         let e = entryAt mail 0 in
-        let j = oldest-judged table mail f some in
-        step-acts (verbOf e) (e .session) (e .item) table mail
-        (judged-none (verbOf e) (e .session) (e .item) table mail (verb-low e) (verb-high e) (formed-zero table mail f) (j .session-low) (j .session-high) (j .item-low) (j .item-high))
+        let j = entry-judged table mail f 0 (omega (arith, first)) in
+        rw (first) (step-acts (verbOf e) (e .session) (e .item) table mail
+        (judged-none (verbOf e) (e .session) (e .item) table mail (verb-low e) (verb-high e) (formed-zero table mail f) (j .session-low) (j .session-high) (j .item-low) (j .item-high)))
 
     next-refused-or-accepted : (next ≡ stepped (refusedAnswer Refusal.mailFull) table mail) ⊎ (next .answer .refusal ≡ 0)
-    next-refused-or-accepted = rw (next-acts) (refused-or-accepted table mail f some)
+    next-refused-or-accepted = rw (next-acts) (refused-or-accepted table mail f k some (oldest-earliest mail k first some))
 
     -- the ending, by what the delivery is refused with
     not-empty : eqb (countOf mail) 0 ≡ false
-    not-empty = ne-eqb (countOf mail) 0 (omega arith)
+    not-empty = ne-eqb (countOf mail) 0 (λ q. absurd (omega (arith, q, some)))
 
     ends-full : next .answer .refusal ≡ Refusal.mailFull → ending here ≡ full
     unfolding ending
@@ -61,7 +61,7 @@ module _ (table mail : List ℕ) (f : Formed table mail) where
 
     -- what the code does in a turn, by what the delivery comes to
     module _ (limit made n : ℕ) (table′ mail′ : List ℕ) where
-      module _ (allowed : Bool) (o : outcome n table′ mail′ ≡ outcomeOf allowed table mail (oldestActed table mail)) where
+      module _ (allowed : Bool) (o : outcome n table′ mail′ ≡ outcomeOf allowed table mail (actedAt k table mail)) where
         told : outcome n table′ mail′ ≡ outcomeOf allowed table mail next
         told = o ∙ ap (outcomeOf allowed table mail) (sym next-acts)
 
@@ -82,11 +82,11 @@ module _ (table mail : List ℕ) (f : Formed table mail) where
             (λ e. absurd (h (refusal-is ∙ e)))
             next-refused-or-accepted
 
-      pub turn-made : outcome n table′ mail′ ≡ outcomeOf true table mail (oldestActed table mail) → n ≡ 0 → ltb made limit ≡ true → turned 0 (made + 1) table′ mail′ ≡ turnOf limit made here
+      pub turn-made : outcome n table′ mail′ ≡ outcomeOf true table mail (actedAt k table mail) → n ≡ 0 → ltb made limit ≡ true → turned 0 (made + 1) table′ mail′ ≡ turnOf limit made here
       turn-made o z h =
           rw (h, goes-on (sym (refusal-is true o) ∙ z), ap (λ (o : Outcome). o .table) (told true o), ap (λ (o : Outcome). o .mail) (told true o)) refl
 
-      pub turn-judged : outcome n table′ mail′ ≡ outcomeOf false table mail (oldestActed table mail) → n ≡ 0 → ltb made limit ≡ false → turned limited made table′ mail′ ≡ turnOf limit made here
+      pub turn-judged : outcome n table′ mail′ ≡ outcomeOf false table mail (actedAt k table mail) → n ≡ 0 → ltb made limit ≡ false → turned limited made table′ mail′ ≡ turnOf limit made here
       turn-judged o z h =
           rw (h, goes-on (sym (refusal-is false o) ∙ z), ap (λ (o : Outcome). o .table) (told false o), ap (λ (o : Outcome). o .mail) (told false o)) refl
 
@@ -100,7 +100,7 @@ module _ (table mail : List ℕ) (f : Formed table mail) where
       by-test Accepted (eqb (countOf mail) 0) (λ _ q. absurd (omega (arith, q)))
       (λ c. by-test Accepted (eqb (next .answer .refusal) Refusal.mailFull) (λ _ q. absurd (omega (arith, q)))
       (λ r _. ⊎-elim (λ e. absurd (eqb-false (next .answer .refusal) Refusal.mailFull r (ap (λ (r : Stepped). r .answer .refusal) e))) (λ e. e)
-      (next-refused-or-accepted (omega (arith, eqb-false (countOf mail) 0 c)))))
+      (next-refused-or-accepted 0 refl (omega (arith, eqb-false (countOf mail) 0 c)))))
 
 -- no entry is left
 ends-empty : (table mail : List ℕ) → countOf mail ≡ 0 → ending (buffers table mail) ≡ empty

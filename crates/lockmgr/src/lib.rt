@@ -1,4 +1,5 @@
 // The lock manager (01: the desk): start, step, report, reopen, cycle text and drain on lent bytes, exported to C.
+use drain::Gap;
 use message::MAX_ITEMS;
 use message::MAX_SESSIONS;
 ghost use mathlib.Core.Path.{_≡_};
@@ -253,46 +254,46 @@ impl Drained {
     }
 }
 
-// Why a drain ends here, or 0 where a delivery was made, how many were made so far, and how many entries are spent.
+// Why a drain ends here, or 0 where a delivery was made, how many were made so far, and the gap after it.
 struct Turn {
     ending: u8,
     made: u64,
-    spent: usize,
+    gap: Gap,
 }
 
-// Delivers the oldest entry, if one more is allowed; the first k are spent.
-fn take_turn(limit: u64, made: u64, k: usize, table: &mut [u8], mail: &mut [u8]) -> Turn
-    requires { ⌜ Spent k (now mail) × Formed (now table) (pending k (now mail)) ⌝ }
-    ensures { λ r. ⌜ Spent (r .spent) (now (mail .exit)) × (turned (r .ending) (r .made) (now (table .exit)) (pending (r .spent) (now (mail .exit))) ≡ turnOf limit made (buffers (now (table .entry)) (pending k (now (mail .entry))))) ⌝ }
+// Delivers the oldest entry, the one behind the gap, if one more is allowed. None is kept before the gap.
+fn take_turn(limit: u64, made: u64, gap: Gap, table: &mut [u8], mail: &mut [u8]) -> Turn
+    requires { ⌜ (gap .from ≡ 0) × Spent gap (now mail) × Formed (now table) (pending gap (now mail)) ⌝ }
+    ensures { λ r. ⌜ (r .gap .from ≡ 0) × Spent (r .gap) (now (mail .exit)) × (turned (r .ending) (r .made) (now (table .exit)) (pending (r .gap) (now (mail .exit))) ≡ turnOf limit made (buffers (now (table .entry)) (pending gap (now (mail .entry))))) ⌝ }
 {
-    if mailbox::count(mail) <= k {
+    if mailbox::count(mail) <= gap.to {
         return Turn {
             ending: Drained::EMPTY,
             made,
-            spent: k,
+            gap,
         };
     }
     let allowed = made < limit;
-    let d = drain::deliver(k, allowed, table, mail);
-    let spent = d.spent;
+    let d = drain::deliver(gap, allowed, table, mail);
+    let after = d.gap;
     if d.refusal != 0 {
         return Turn {
             ending: Drained::FULL,
             made,
-            spent,
+            gap: after,
         };
     }
     if allowed {
         return Turn {
             ending: 0,
             made: made + 1,
-            spent,
+            gap: after,
         };
     }
     Turn {
         ending: Drained::LIMITED,
         made,
-        spent,
+        gap: after,
     }
 }
 
@@ -303,14 +304,14 @@ fn deliver_all(limit: u64, table: &mut [u8], mail: &mut [u8]) -> Drained
 {
     let mut ending: u8 = 0;
     let mut made: u64 = 0;
-    let mut spent: usize = 0;
+    let mut gap = Gap { from: 0, to: 0 };
     while ending == 0 {
-        let turn = take_turn(limit, made, spent, table, mail);
+        let turn = take_turn(limit, made, gap, table, mail);
         ending = turn.ending;
         made = turn.made;
-        spent = turn.spent;
+        gap = turn.gap;
     }
-    drain::clear_spent(mail, spent);
+    drain::close_gap(mail, gap);
     Drained::accepted(made, ending)
 }
 

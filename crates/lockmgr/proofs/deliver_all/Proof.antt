@@ -18,15 +18,15 @@ use Rattle.lockmgr.proofs.deliver_all.Statement.{statement}
 use Rattle.lockmgr.proofs.deliver_all.Tie as tie
 
 abbrev Inv-loop : tie.InvT-loop
-Inv-loop limit table₀ mail₀ ending₀ made₀ spent₀ table mail ending made spent =
-    (length table ≡ length table₀) × (length mail ≡ length mail₀) × Spent spent mail × Formed table (pending spent mail)
-    × (ending ≡ 0 → Ahead limit made (buffers table₀ mail₀) (buffers table (pending spent mail)))
-    × ((ending ≡ 0 → ⊥) → Ended limit made ending (buffers table₀ mail₀) (buffers table (pending spent mail)))
+Inv-loop limit table₀ mail₀ ending₀ made₀ gap₀ table mail ending made gap =
+    (length table ≡ length table₀) × (length mail ≡ length mail₀) × (gap .from ≡ 0) × Spent gap mail × Formed table (pending gap mail)
+    × (ending ≡ 0 → Ahead limit made (buffers table₀ mail₀) (buffers table (pending gap mail)))
+    × ((ending ≡ 0 → ⊥) → Ended limit made ending (buffers table₀ mail₀) (buffers table (pending gap mail)))
     × (made ≤ limit)
 
 -- one more while the drain goes on
 abbrev μ-loop : tie.MeasureT-loop
-μ-loop limit table₀ mail₀ ending₀ made₀ spent₀ table mail ending made spent = limit - made + (1 - ending)
+μ-loop limit table₀ mail₀ ending₀ made₀ gap₀ table mail ending made gap = limit - made + (1 - ending)
 
 formed : (c : tie.After-slice-known2 Inv-loop μ-loop) → Formed (c .before .before .args .table .now) (c .before .before .args .mail .now)
 formed c = let s = c .before .before in buffers-zero (s .args .table .now) (s .args .mail .now) (s .pre)
@@ -40,30 +40,30 @@ kept c =
 loop-holds : tie.Need-loop-holds Inv-loop μ-loop
 loop-holds c =
     let s = c .before .before in
-    let none = none-spent (s .args .mail .now) (kept c) in
-    (refl, refl, record { kept = kept c; few = omega arith }, rw (none) (formed c), (λ _. rw (none) (ahead-all (s .args .limit) (buffers (s .args .table .now) (s .args .mail .now)))), (λ h. absurd (h refl)), omega arith)
+    let none = none-spent (record { from = 0; to = 0 }) (s .args .mail .now) refl (kept c) in
+    (refl, refl, refl, record { kept = kept c; order = omega arith; inside = omega arith }, rw (none) (formed c), (λ _. rw (none) (ahead-all (s .args .limit) (buffers (s .args .table .now) (s .args .mail .now)))), (λ h. absurd (h refl)), omega arith)
 
 take-turn-requires : tie.Need-take-turn-requires Inv-loop μ-loop
-take-turn-requires c κs = let l = c .before .before .before .loop .inv in (l .2, l .3)
+take-turn-requires c κs = let l = c .before .before .before .loop .inv in (l .2, l .3, l .4)
 
 loop-less : tie.Need-loop-less Inv-loop μ-loop
 loop-less c =
-    let s = c .before .before .before .before .before .before .before .before .before .before .before in
-    let l = c .before .before .before .before .before .before .before .before .loop in
-    let test = c .before .before .before .before .before .before .before .loop-test .taken in
-    omega (arith, test, turn-nearer (s .args .limit) (l .made) (buffers (s .args .table .now) (s .args .mail .now)) (buffers (l .table) (pending (l .spent) (l .mail))) (l .inv .4 test) _ (c .before .before .before .before .take-turn .ensures .1))
+    let s = c .before .before .before .before .before .before .before .before .before .before .before .before in
+    let l = c .before .before .before .before .before .before .before .before .before .loop in
+    let test = c .before .before .before .before .before .before .before .before .loop-test .taken in
+    omega (arith, test, turn-nearer (s .args .limit) (l .made) (buffers (s .args .table .now) (s .args .mail .now)) (buffers (l .table) (pending (l .gap) (l .mail))) (l .inv .5 test) _ (c .before .before .before .before .before .take-turn .ensures .2))
 
 loop-again : tie.Need-loop-again Inv-loop μ-loop
 loop-again c =
-    let s = c .before .before .before .before .before .before .before .before .before .before .before in
-    let l = c .before .before .before .before .before .before .before .before .loop in
-    let b = buffers (l .table) (pending (l .spent) (l .mail)) in
-    let t = c .before .before .before .before .take-turn in
-    let after = turn-taken (s .args .limit) (l .made) (buffers (s .args .table .now) (s .args .mail .now)) b (l .inv .4 (c .before .before .before .before .before .before .before .loop-test .taken)) _ (t .ensures .1) in
-    (t .kept .1 .1 .1 .0 ∙ l .inv .0, t .kept .1 .1 .1 .1 .0 ∙ l .inv .1, t .ensures .0, subst (λ (t : Turned). Formed (t .left .table) (t .left .mail)) (sym (t .ensures .1)) (turn-formed (s .args .limit) (l .made) b (l .inv .3)), after .0, after .1, after .2)
+    let s = c .before .before .before .before .before .before .before .before .before .before .before .before in
+    let l = c .before .before .before .before .before .before .before .before .before .loop in
+    let b = buffers (l .table) (pending (l .gap) (l .mail)) in
+    let t = c .before .before .before .before .before .take-turn in
+    let after = turn-taken (s .args .limit) (l .made) (buffers (s .args .table .now) (s .args .mail .now)) b (l .inv .5 (c .before .before .before .before .before .before .before .before .loop-test .taken)) _ (t .ensures .2) in
+    (t .kept .1 .1 .1 .0 ∙ l .inv .0, t .kept .1 .1 .1 .1 .0 ∙ l .inv .1, t .ensures .0, t .ensures .1, subst (λ (t : Turned). Formed (t .left .table) (t .left .mail)) (sym (t .ensures .2)) (turn-formed (s .args .limit) (l .made) b (l .inv .4)), after .0, after .1, after .2)
 
-clear-spent-requires : tie.Need-clear-spent-requires Inv-loop μ-loop
-clear-spent-requires c κs = c .before .before .loop .inv .2
+close-gap-requires : tie.Need-close-gap-requires Inv-loop μ-loop
+close-gap-requires c κs = c .before .before .loop .inv .3
 
 accepted-requires : tie.Need-accepted-requires Inv-loop μ-loop
 accepted-requires c κs = search needs
@@ -72,13 +72,13 @@ same-length : tie.Need-same-length Inv-loop μ-loop
 same-length c = c .before .before .before .before .before .before .loop .inv .0
 
 same-length-2 : tie.Need-same-length-2 Inv-loop μ-loop
-same-length-2 c = c .before .before .before .clear-spent .kept .0 ∙ c .before .before .before .before .before .before .loop .inv .1
+same-length-2 c = c .before .before .before .close-gap .kept .0 ∙ c .before .before .before .before .before .before .loop .inv .1
 
 returns : tie.Need-returns Inv-loop μ-loop
 returns c =
     let s = c .before .before .before .before .before .before .before .before .before in
     let l = c .before .before .before .before .before .before .loop in
-    rw (c .accepted .ensures, c .before .before .before .clear-spent .ensures) (drained (s .args .limit) (s .args .table .now) (s .args .mail .now) (s .pre) (l .made) (l .ending) (buffers (l .table) (pending (l .spent) (l .mail))) (l .inv .5 (c .before .before .before .before .before .loop-test .left)))
+    rw (c .accepted .ensures, c .before .before .before .close-gap .ensures) (drained (s .args .limit) (s .args .table .now) (s .args .mail .now) (s .pre) (l .made) (l .ending) (buffers (l .table) (pending (l .gap) (l .mail))) (l .inv .6 (c .before .before .before .before .before .loop-test .left)))
 
 pub deliver-all-spec : {M : Type 1} → statement M
 deliver-all-spec =
@@ -90,7 +90,7 @@ deliver-all-spec =
     take-turn-requires
     loop-less
     loop-again
-    clear-spent-requires
+    close-gap-requires
     accepted-requires
     same-length
     same-length-2
