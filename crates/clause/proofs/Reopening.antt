@@ -101,5 +101,5 @@ module _ (conf : Config) (table : List ℕ) (l : List Entry) (g : Good conf tabl
   by-reopen P refused moved =
       by-test P (eqb (reopenRefusal t table mail) 0)
       (λ e. let z = reopen-zero t table mail (eqb-true (reopenRefusal t table mail) 0 e) in
-      moved (subst ReopenMoved (append-nil l) (done (rw (sessions-of g) at (z .0)) (reopenable t table mail (z .1)))))
+      moved (subst ReopenMoved (append-nil l) (done (rw (sessions-of g) at (z .1)) (reopenable t table mail (z .2)))))
       (λ _. refused (reopenRefusal t table mail))

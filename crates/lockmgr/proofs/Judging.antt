@@ -275,8 +275,9 @@ module _ (t : ℕ) (table mail : List ℕ) where
     reopen-judged low high = reopen-later ∙ rw (between-intro 1 (Table.sessionsOf table) t low high) refl
 
   -- what one knows that is not refused
-  pub reopen-zero : reopenRefusal t table mail ≡ 0 → (number ≡ true) × (mayReopen t table mail ≡ true)
+  pub reopen-zero : reopenRefusal t table mail ≡ 0 → Formed table mail × (number ≡ true) × (mayReopen t table mail ≡ true)
   reopen-zero e =
-      let n = unmet-not number 4 _ (buffers-then table mail (sessionCauses t table mail) e .1) in
+      let b = buffers-then table mail (sessionCauses t table mail) e in
+      let n = unmet-not number 4 _ (b .1) in
       let m = unmet-not (mayReopen t table mail) 14 _ (n .1) in
-      (n .0, m .0)
+      (b .0, n .0, m .0)

@@ -1,3 +1,4 @@
 pub mod Judging
 pub mod Form
 pub mod Draining
+pub mod PlainRanks

@@ -3,3 +3,4 @@ pub mod Run
 pub mod Drain
 pub mod Parts
 pub mod History
+pub mod PlainRanks

@@ -1,5 +1,5 @@
 -- Form is kept: a step that was judged leaves well-formed buffers of the same sizes.
-use mathlib.Core.Path.{_≡_, refl}
+use mathlib.Core.Path.{_≡_, refl, ap}
 use mathlib.Core.Bool.{Bool, true, false, _&&_, _||_}
 use mathlib.Core.List.{List, map}
 use Prim.Native.Nat.{ℕ, _≤_, _<_}
@@ -38,8 +38,7 @@ use Rattle.step.proofs.Acting.{by-verb, delivers, item-acts, session-ac
 -- what is planned on a well-formed table and well-formed entries is so again
 pub record Planned (table : List ℕ) (p : Plan) : Type 0 where
   pub sized : Table.sized (p .table) ≡ true
-  pub sessions : Table.sessionsOf (p .table) ≡ Table.sessionsOf table
-  pub items : Table.itemsOf (p .table) ≡ Table.itemsOf table
+  pub config : Table.configOf (p .table) ≡ Table.configOf table
   pub formed : Table.wellFormed (p .table) ≡ true
   pub entries : allOf (Entry.wellFormed (Table.sessionsOf table) (Table.itemsOf table)) (p .entries) ≡ true
 
@@ -57,8 +56,7 @@ module _ (table : List ℕ) where
     session-planned : (t : ℕ) → 1 ≤ t → t ≤ S → (r : Session.After) → SessionKept S M t r → Planned table (sessionPlan t table rest r)
     session-planned t l h r k = record {
       sized = TableLaws.sized-withSession table sized t l h (r .session) (k .juniors);
-      sessions = TableLaws.sessionsOf-withSession table sized t l h (r .session) (k .juniors);
-      items = TableLaws.itemsOf-withSession table sized t l h (r .session) (k .juniors);
+      config = TableLaws.configOf-withSession table sized t l h (r .session) (k .juniors);
       formed = TableLaws.wellFormed-withSession table sized t l h (r .session) (k .juniors) formed (k .session);
       entries = all-join isEntry rest (map (fromSession t) (r .sends)) w (all-map isEntry (fromSession t) (r .sends) (k .sends));
     }
@@ -70,8 +68,7 @@ module _ (table : List ℕ) where
         let whole : length (i .queue) ≡ 64 = length-packed (r .lock) (omega (arith, distinct-length S (r .lock .queue) (k .lock .once) (k .lock .sessions))) in
         record {
           sized = TableLaws.sized-withItem table sized x l h i whole;
-          sessions = TableLaws.sessionsOf-withItem table sized x l h i whole;
-          items = TableLaws.itemsOf-withItem table sized x l h i whole;
+          config = TableLaws.configOf-withItem table sized x l h i whole;
           formed = TableLaws.wellFormed-withItem table sized x l h i whole formed (packed-lock S (r .lock) few (k .lock));
           entries = all-join isEntry rest (map (fromItem x) (r .sends)) w (all-map isEntry (fromItem x) (r .sends) (k .sends));
         }
@@ -164,16 +161,15 @@ module _ (t x : ℕ) (table mail : List ℕ) (j : Judged t x table mail) where
       (λ e u. rw (session-acts senior verb t x table entries e)
       (session-planned table (j .formed .records .sized) (j .formed .records .formed) (removeAt k entries) (others k) t (j .session-low) (j .session-high) _ (session-keeps verb low high e u)))
 
--- well-formed buffers, of the sizes that they had
+-- well-formed buffers, with the config and the capacity that they had
 pub record FormKept (table mail : List ℕ) (r : Stepped) : Type 0 where
   pub formed : Formed (r .table) (r .mail)
-  pub sessions : Table.sessionsOf (r .table) ≡ Table.sessionsOf table
-  pub items : Table.itemsOf (r .table) ≡ Table.itemsOf table
+  pub config : Table.configOf (r .table) ≡ Table.configOf table
   pub capacity : Mail.capacityOf (r .mail) ≡ Mail.capacityOf mail
 
 module _ (table mail : List ℕ) (f : Formed table mail) where
   pub unchanged : (n : ℕ) → FormKept table mail (stepped (refusedAnswer n) table mail)
-  unchanged n = record { formed = f; sessions = refl; items = refl; capacity = refl }
+  unchanged n = record { formed = f; config = refl; capacity = refl }
 
   pub committed-keeps : (t : ℕ) (p : Plan) → Planned table p → length (p .entries) ≤ Mail.capacityOf mail → FormKept table mail (committed t (Mail.capacityOf mail) p)
   committed-keeps t p h fits =
@@ -183,9 +179,8 @@ module _ (table mail : List ℕ) (f : Formed table mail) where
         formed = record {
           records = record { sized = h .sized; formed = h .formed };
           mail-sized = MailLaws.sized-mail C (p .entries) (m .low) (m .high) fits;
-          mail-formed = rw (h .sessions, h .items) (MailLaws.wellFormed-mail C (p .entries) (m .low) (m .high) fits (Table.sessionsOf table) (Table.itemsOf table) (h .entries));
+          mail-formed = rw (ap (λ (c : Table.Config). c .sessions) (h .config), ap (λ (c : Table.Config). c .items) (h .config)) (MailLaws.wellFormed-mail C (p .entries) (m .low) (m .high) fits (Table.sessionsOf table) (Table.itemsOf table) (h .entries));
         };
-        sessions = h .sessions;
-        items = h .items;
+        config = h .config;
         capacity = MailLaws.capacity-mail C (p .entries) (m .low) (m .high) fits;
       }

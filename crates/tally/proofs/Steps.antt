@@ -62,7 +62,7 @@ module _ (verb t x : ℕ) (table mail : List ℕ) where
 
     rolls-by : (b : Bool) → between 1 (sessionsOf table) t ≡ b
         → not (eqb (stageOr0 table t) Stage.rolledBack) && eqb (stageOr0 after t) Stage.rolledBack ≡ rollsBack t table after
-    rolls-by true e = rw (step-keeps-form verb t x table mail f .sessions, e) refl
+    rolls-by true e = rw (ap (λ (c : Table.Config). c .sessions) (step-keeps-form verb t x table mail f .config), e) refl
     rolls-by false e = rw (unnumbered e, e) (sym (never-both (eqb (Table.session table t .stage) Stage.rolledBack)))
 
     -- what is counted from the stages read before and after
