@@ -22,9 +22,10 @@ use Rattle.lockmgr.proofs.Judging.{by-call, judged-zero, step-refused}
 use Rattle.step.proofs.Form.{FormKept}
 use Rattle.lockmgr.proofs.Form.{step-keeps-form}
 use Rattle.tally.specs.declared.Tally.{Tally}
+use Rattle.tally.specs.Tally.{added}
 use Rattle.tally.specs.declared.Step.{Step}
 use Rattle.tally.specs.declared.Counted.{Counted}
-use Rattle.tally.specs.Steps.{stepOf, tallyOf, stageOr0, Counts}
+use Rattle.tally.specs.Steps.{stepOf, tallyOf, stageOr0, Counts, Tallied}
 
 abbrev pub stepTable : Stepped → List ℕ
 stepTable r = r .table
@@ -35,7 +36,7 @@ stepMail r = r .mail
 abbrev pub answerOf : Stepped → Answer
 answerOf r = r .answer
 
-one-low : (b : Bool) → one b ≤ 1
+pub one-low : (b : Bool) → one b ≤ 1
 one-low true = omega arith
 one-low false = omega arith
 
@@ -60,14 +61,16 @@ module _ (verb t x : ℕ) (table mail : List ℕ) where
     abbrev after : List ℕ
     after = step verb t x table mail .table
 
-    rolls-by : (b : Bool) → between 1 (sessionsOf table) t ≡ b
+    -- whether the session is rolled back, from the stages read before and after
+    rolls-back : (b : Bool) → between 1 (sessionsOf table) t ≡ b
         → not (eqb (stageOr0 table t) Stage.rolledBack) && eqb (stageOr0 after t) Stage.rolledBack ≡ rollsBack t table after
-    rolls-by true e = rw (ap (λ (c : Table.Config). c .sessions) (step-keeps-form verb t x table mail f .config), e) refl
-    rolls-by false e = rw (unnumbered e, e) (sym (never-both (eqb (Table.session table t .stage) Stage.rolledBack)))
+    rolls-back true e = rw (ap (λ (c : Table.Config). c .sessions) (step-keeps-form verb t x table mail f .config), e) refl
+    rolls-back false e = rw (unnumbered e, e) (sym (never-both (eqb (Table.session table t .stage) Stage.rolledBack)))
 
-    -- what is counted from the stages read before and after
-    rolls : one (not (eqb (stageOr0 table t) Stage.rolledBack) && eqb (stageOr0 after t) Stage.rolledBack) ≡ one (rollsBack t table after)
-    rolls = ap one (rolls-by (between 1 (sessionsOf table) t) refl)
+-- with a step's answer added the tally is as the step leaves it
+pub adds-step : (c : Step) (table mail : List ℕ) {d : Counted} {table′ mail′ : List ℕ} → Counts (stepOf c) table mail d table′ mail′
+    → (t : Tally) → Tallied (stepOf c) table mail t (d .answer) (added (d .answer) (d .«rolled_back») t) table′ mail′
+adds-step c table mail n t = record { did = n .did; tally = rw (n .rolled, ap answerOf (n .did), ap stepTable (n .did)) refl }
 
 module _ (c : Step) (table mail : List ℕ) (f : Formed table mail) where
   abbrev did : Stepped
@@ -79,19 +82,14 @@ module _ (c : Step) (table mail : List ℕ) (f : Formed table mail) where
   pub formed-after : {a : Answer} {table′ mail′ : List ℕ} → stepped a table′ mail′ ≡ did → Formed table′ mail′
   formed-after e = rw (ap stepTable e, ap stepMail e) (kept .formed)
 
-  -- what the code counts is what a step counts
+  -- the code finds what a step answers and whether it rolls back
   pub counts-step : {d : Counted} {table′ mail′ : List ℕ} {before later : ℕ} → stepped (d .answer) table′ mail′ ≡ did
-      → before ≡ stageOr0 table (c .session) → later ≡ stageOr0 table′ (c .session) → d .closed ≡ d .answer .closed → d .declared ≡ one (declares (d .answer))
-      → d .«rolled_back» ≡ one (not (eqb before Stage.rolledBack) && eqb later Stage.rolledBack) → Counts (stepOf c) table mail d table′ mail′
-  counts-step {d} e b l k n r =
-      let rolled : d .«rolled_back» ≡ one (rollsBack (c .session) table (did .table)) =
-      rw (r, b, l, ap stepTable e) (rolls (c .verb) (c .session) (c .item) table mail f) in
+      → before ≡ stageOr0 table (c .session) → later ≡ stageOr0 table′ (c .session)
+      → d .«rolled_back» ≡ not (eqb before Stage.rolledBack) && eqb later Stage.rolledBack → Counts (stepOf c) table mail d table′ mail′
+  counts-step e b l r =
       record {
         did = e;
-        counts = λ t. rw (k, n, rolled, ap answerOf e) refl;
-        closed-few = rw (k, ap answerOf e) (closes-one (c .verb) (c .session) (c .item) table mail);
-        declared-few = rw (n) (one-low (declares (d .answer)));
-        rolled-few = rw (rolled) (one-low (rollsBack (c .session) table (did .table)));
+        rolled = rw (r, b, l, ap stepTable e) (rolls-back (c .verb) (c .session) (c .item) table mail f (between 1 (sessionsOf table) (c .session)) refl);
       }
 
   -- the tally grows by one at most

@@ -1,5 +1,5 @@
 -- What the code of a step does, as the lock manager's definitions have it.
-use Prim.Native.Nat.{ℕ, _≤_}
+use Prim.Native.Nat.{ℕ}
 use mathlib.Core.Path.{_≡_}
 use mathlib.Core.Bool.{cond}
 use mathlib.Core.List.{List}
@@ -10,7 +10,6 @@ use Rattle.step.specs.Step.{stepped}
 use Rattle.lockmgr.specs.Calls.{step}
 use Rattle.lockmgr.specs.Run as Run
 use Rattle.tally.specs.declared.Tally.{Tally}
-use Rattle.tally.specs.Tally.{added}
 use Rattle.tally.specs.declared.Step.{Step}
 use Rattle.tally.specs.declared.Counted.{Counted}
 
@@ -24,17 +23,10 @@ tallyOf t = record { closed = t .closed; declared = t .declared; rolledBack = t 
 abbrev pub stageOr0 : List ℕ → ℕ → ℕ
 stageOr0 table t = cond (between 1 (Table.sessionsOf table) t) (Table.session table t .stage) 0
 
--- a tally with what a step counts added to it
-abbrev pub counting : Tally → Counted → Tally
-counting t d = added t (d .closed) (d .declared) (d .«rolled_back»)
-
--- what a step answers and counts, and both buffers after
+-- what a step answers, whether it rolled its session back, and both buffers after
 pub record Counts (c : Run.Step) (table mail : List ℕ) (d : Counted) (table′ mail′ : List ℕ) : Type 0 where
   pub did : stepped (d .answer) table′ mail′ ≡ step (c .verb) (c .session) (c .item) table mail
-  pub counts : (t : Tally) → tallyOf (counting t d) ≡ Run.counted (c .session) table (step (c .verb) (c .session) (c .item) table mail) (tallyOf t)
-  pub closed-few : d .closed ≤ 1
-  pub declared-few : d .declared ≤ 1
-  pub rolled-few : d .«rolled_back» ≤ 1
+  pub rolled : d .«rolled_back» ≡ Run.rollsBack (c .session) table table′
 
 -- what a step answers, and the tally and both buffers after
 pub record Tallied (c : Run.Step) (table mail : List ℕ) (t : Tally) (a : Answer) (u : Tally) (table′ mail′ : List ℕ) : Type 0 where

@@ -1,13 +1,21 @@
--- A tally with what one step counts added to it.
-use Prim.Native.Nat.{ℕ, _+_, _<_, _^_}
+-- A tally with a step's answer added to it.
+use Prim.Native.Nat.{_+_, _<_, _^_}
+use mathlib.Core.Bool.{Bool}
+use Rattle.step.specs.declared.Answer.{Answer}
+use Rattle.lockmgr.specs.Run.{one, declares}
 use Rattle.tally.specs.declared.Tally.{Tally}
 
-abbrev pub added : Tally → ℕ → ℕ → ℕ → Tally
-added t closed declared rolledBack =
-    record { closed = t .closed + closed; declared = t .declared + declared; «rolled_back» = t .«rolled_back» + rolledBack }
+-- the answer of a step, which rolled its session back or did not
+abbrev pub added : Answer → Bool → Tally → Tally
+added a rolled t =
+    record {
+      closed = t .closed + a .closed;
+      declared = t .declared + one (declares a);
+      «rolled_back» = t .«rolled_back» + one rolled;
+    }
 
--- each sum fits in its field
-pub record Fits (t : Tally) (closed declared rolledBack : ℕ) : Type 0 where
-  pub closed-fits : t .closed + closed < 2 ^ 64
-  pub declared-fits : t .declared + declared < 2 ^ 64
-  pub rolled-fits : t .«rolled_back» + rolledBack < 2 ^ 64
+-- the sums fit, whatever the answer: its cycles closed are a byte
+pub record Fits (t : Tally) : Type 0 where
+  pub closed-fits : t .closed + 255 < 2 ^ 64
+  pub declared-fits : t .declared + 1 < 2 ^ 64
+  pub rolled-fits : t .«rolled_back» + 1 < 2 ^ 64

@@ -7,7 +7,7 @@ ghost use lib.Dec.{eqb};
 ghost use Rattle.session.specs.Stage as Stage;
 ghost use Rattle.table.specs.Layout as Table;
 ghost use Rattle.step.specs.Step.{Formed};
-ghost use Rattle.lockmgr.specs.Run.{one, declares};
+ghost use Rattle.lockmgr.specs.Run.{declares};
 ghost use Rattle.tally.specs.Tally.{added, Fits};
 ghost use Rattle.tally.specs.Steps.{stepOf, stageOr0, Counts, Tallied};
 
@@ -18,14 +18,24 @@ pub struct Tally {
     pub rolled_back: u64,
 }
 
-// Adds what one step counts.
-pub fn add(t: &mut Tally, closed: u64, declared: u64, rolled_back: u64)
-    requires { ⌜ Fits (now t) closed declared «rolled_back» ⌝ }
-    ensures { λ _. ⌜ now (t .exit) ≡ added (now (t .entry)) closed declared «rolled_back» ⌝ }
+// Whether a step that answers this declares a deadlock.
+fn declares(a: Answer) -> bool
+    ensures { λ r. ⌜ r ≡ declares a ⌝ }
 {
-    t.closed = t.closed + closed;
-    t.declared = t.declared + declared;
-    t.rolled_back = t.rolled_back + rolled_back;
+    if a.victim == 0 {
+        return false;
+    }
+    a.initiator != 0
+}
+
+// Adds a step's answer, and whether the step rolled its session back, which the answer does not say.
+pub fn add(t: &mut Tally, a: Answer, rolled_back: bool)
+    requires { ⌜ Fits (now t) ⌝ }
+    ensures { λ _. ⌜ now (t .exit) ≡ added a «rolled_back» (now (t .entry)) ⌝ }
+{
+    t.closed = t.closed + a.closed as u64;
+    t.declared = t.declared + declares(a) as u64;
+    t.rolled_back = t.rolled_back + rolled_back as u64;
 }
 
 // A step: what a caller asks of the lock manager.
@@ -35,12 +45,10 @@ pub struct Step {
     pub item: u8,
 }
 
-// What a step answers and what it counts.
+// What a step answers, and whether it rolled its session back.
 struct Counted {
     pub answer: Answer,
-    pub closed: u64,
-    pub declared: u64,
-    pub rolled_back: u64,
+    pub rolled_back: bool,
 }
 
 // What a step answered, and the tally after it.
@@ -64,30 +72,14 @@ fn stage(table: &[u8], session: u8) -> u8
     s.stage
 }
 
-// 1 if a step that answers this declares a deadlock, else 0.
-fn declarations(a: Answer) -> u64
-    ensures { λ r. ⌜ r ≡ one (declares a) ⌝ }
-{
-    if a.victim == 0 {
-        return 0;
-    }
-    if a.initiator == 0 {
-        return 0;
-    }
-    1
-}
-
-// 1 if a session at stage `before` and then at stage `after` was rolled back, else 0.
-fn rollbacks(before: u8, after: u8) -> u64
-    ensures { λ r. ⌜ r ≡ one (not (eqb before Stage.rolledBack) && eqb after Stage.rolledBack) ⌝ }
+// Whether a session at stage `before` and then at stage `after` was rolled back.
+fn rolls_back(before: u8, after: u8) -> bool
+    ensures { λ r. ⌜ r ≡ not (eqb before Stage.rolledBack) && eqb after Stage.rolledBack ⌝ }
 {
     if before == Session::ROLLED_BACK {
-        return 0;
+        return false;
     }
-    if after != Session::ROLLED_BACK {
-        return 0;
-    }
-    1
+    after == Session::ROLLED_BACK
 }
 
 // Does a step.
@@ -101,25 +93,23 @@ fn do_step(c: Step, table: &mut [u8], mail: &mut [u8]) -> Counted
     let after = stage(table, session);
     Counted {
         answer,
-        closed: answer.closed as u64,
-        declared: declarations(answer),
-        rolled_back: rollbacks(before, after),
+        rolled_back: rolls_back(before, after),
     }
 }
 
-// Does a step and adds what it counts to the tally.
+// Does a step and adds its answer to the tally.
 pub fn take_step(c: Step, t: &mut Tally, table: &mut [u8], mail: &mut [u8]) -> Answer
-    requires { ⌜ Formed (now table) (now mail) × Fits (now t) 1 1 1 ⌝ }
+    requires { ⌜ Formed (now table) (now mail) × Fits (now t) ⌝ }
     ensures { λ a. ⌜ Tallied (stepOf c) (now (table .entry)) (now (mail .entry)) (now (t .entry)) a (now (t .exit)) (now (table .exit)) (now (mail .exit)) ⌝ }
 {
     let d = do_step(c, table, mail);
-    add(t, d.closed, d.declared, d.rolled_back);
+    add(t, d.answer, d.rolled_back);
     d.answer
 }
 
 // The same with the tally by value, for callers that lend none.
 pub fn tallied_step(c: Step, t: Tally, table: &mut [u8], mail: &mut [u8]) -> Done
-    requires { ⌜ Formed (now table) (now mail) × Fits t 1 1 1 ⌝ }
+    requires { ⌜ Formed (now table) (now mail) × Fits t ⌝ }
     ensures { λ d. ⌜ Tallied (stepOf c) (now (table .entry)) (now (mail .entry)) t (d .answer) (d .tally) (now (table .exit)) (now (mail .exit)) ⌝ }
 {
     let mut tally = t;

@@ -1,5 +1,4 @@
 -- `do_step` meets its contract: the stages read before and after say whether the session was rolled back.
-use mathlib.Core.Path.{refl}
 use Rattle.tally.proofs.Steps.{formed-after, counts-step}
 use borrow.Author.Needs.{needs}
 use Rattle.tally.proofs.do_step.Statement.{statement}
@@ -29,14 +28,8 @@ stage-requires-2 c κs =
     let a = begin d .args in
     formed-after (a .c) (a .table .now) (a .mail .now) (begin d .pre) (d .lockmgr-step .ensures) .records .sized
 
-cast-t10 : tie.Need-cast-t10
-cast-t10 c = search needs
-
-declarations-requires : tie.Need-declarations-requires
-declarations-requires c κs = search needs
-
-rollbacks-requires : tie.Need-rollbacks-requires
-rollbacks-requires c κs = search needs
+rolls-back-requires : tie.Need-rolls-back-requires
+rolls-back-requires c κs = search needs
 
 same-length : tie.Need-same-length
 same-length c = search needs
@@ -46,10 +39,10 @@ same-length-2 c = search needs
 
 returns : tie.Need-returns
 returns c =
-    let d = c .before .before .before .before .before .before .before .before .before in
+    let d = c .before .before .before .before .before .before .before in
     let a = begin d .args in
     counts-step (a .c) (a .table .now) (a .mail .now) (begin d .pre) (d .lockmgr-step .ensures) (d .before .before .before .before .before .stage .ensures)
-    (c .before .before .before .stage2 .ensures) refl (c .before .declarations .ensures) (c .rollbacks .ensures)
+    (c .before .stage2 .ensures) (c .rolls-back .ensures)
 
 pub do-step-spec : {M : Type 1} → statement M
 do-step-spec =
@@ -61,9 +54,7 @@ do-step-spec =
     cast-lockmgr-step-3
     lockmgr-step-requires
     stage-requires-2
-    cast-t10
-    declarations-requires
-    rollbacks-requires
+    rolls-back-requires
     same-length
     same-length-2
     returns)

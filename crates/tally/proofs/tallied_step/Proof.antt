@@ -81,7 +81,7 @@ stayed = (stay-none (λ _. S.the-row) yes, (stay-none (λ _. T.the-row) yes, (ga
 abbrev Take : {M : Type 1} (𝓤 : URA M) (H : Heap 𝓤) (A : Atoms 𝓤) (mem : Memory → SProp 𝓤) (run : Routine → Fun 𝓤) → Contract 𝓤
 Take 𝓤 H A mem run = tripleOf 𝓤 H A take.signature (take.spec 𝓤 H A mem run)
 
-module _ {M : Type 1} (𝓤 : URA M) (H : Heap 𝓤) (A : Atoms 𝓤) (W : Given 𝓤 H A) (mem : Memory → SProp 𝓤) (run : Routine → Fun 𝓤) (κ₁ κ₂ : Lft) (q₁ q₂ : Share) (c : Step) (c-is : Is S.the-row c (vc c ∷ [])) (h : Tally) (h-is : Is T.the-row h (vt h ∷ [])) (table mail : RefT (List ℕ)) (formed : Formed (table .now) (mail .now)) (fit : Fits h 1 1 1) where
+module _ {M : Type 1} (𝓤 : URA M) (H : Heap 𝓤) (A : Atoms 𝓤) (W : Given 𝓤 H A) (mem : Memory → SProp 𝓤) (run : Routine → Fun 𝓤) (κ₁ κ₂ : Lft) (q₁ q₂ : Share) (c : Step) (c-is : Is S.the-row c (vc c ∷ [])) (h : Tally) (h-is : Is T.the-row h (vt h ∷ [])) (table mail : RefT (List ℕ)) (formed : Formed (table .now) (mail .now)) (fit : Fits h) where
   abbrev x : Arg
   x = (c, (h, (table, (mail, tt))))
 
@@ -186,7 +186,7 @@ module _ {M : Type 1} (𝓤 : URA M) (H : Heap 𝓤) (A : Atoms 𝓤) (W : Given
   walks C Λ fm known = walked 𝓤 H A f.ended stayed (f.clauses 𝓤 H A mem run) (WpFn 𝓤 H C Λ code.function)
       (λ κs. (LL.vals S.the-type S′.the-laws, (LL.vals T.the-type T′.the-laws, (slice-vals, (slice-vals, tt)))))
       (λ κs. (LL.tells S.the-type S′.the-laws, (LL.tells T.the-type T′.the-laws, (mut-slice-tells (named 0) (κs .0) u8, (mut-slice-tells (named 1) (κs .1 .0) u8, tt)))))
-      (λ κs qs bounds a g are. needs 𝓤 (Formed (a .1 .1 .0 .now) (a .1 .1 .1 .0 .now) × Fits (a .1 .0) 1 1 1) _ (λ p.
+      (λ κs qs bounds a g are. needs 𝓤 (Formed (a .1 .1 .0 .now) (a .1 .1 .1 .0 .now) × Fits (a .1 .0)) _ (λ p.
       walk 𝓤 H A W mem run (κs .0) (κs .1 .0) (qs .0) (qs .1 .0) (a .0) (are .0) (a .1 .0) (are .1 .0) (a .1 .1 .0) (a .1 .1 .1 .0) (p .0) (p .1) C Λ fm known (are .1 .1 .0 .0 .1) (are .1 .1 .1 .0 .0 .1)))
 
   goes : AllGo 𝓤 H A W 2 (f.signature .params) (f.ended .kept) stayed

@@ -1,0 +1,14 @@
+-- `rolls_back` meets its contract, a test at a time.
+use mathlib.Core.Path.{refl}
+use borrow.Author.Tests.{eq-eqb, ne-eqb}
+use Rattle.tally.proofs.rolls_back.Statement.{statement}
+use Rattle.tally.proofs.rolls_back.Tie as tie
+
+returns : tie.Need-returns
+returns c = rw (eq-eqb _ _ (c .if1 .taken)) refl
+
+returns-2 : tie.Need-returns-2
+returns-2 c = rw (ne-eqb _ _ (c .if1 .left)) refl
+
+pub rolls-back-spec : {M : Type 1} → statement M
+rolls-back-spec = tie.close (tie.spec returns returns-2)
