@@ -70,6 +70,37 @@ module _ {A : Type 0} where
   findIndex-le p (a ∷ l) d zero h e = rw (e) (omega arith)
   findIndex-le p (a ∷ l) d (suc k) h e = cond-findIndex (p a) (findIndex p l) k (findIndex-le p l d k (omega arith) e)
 
+  -- where none passes, none is found
+  pub findIndex-none : (p : A → Bool) → ((a : A) → p a ≡ false) → (l : List A) → findIndex p l ≡ length l
+  unfolding findIndex
+  findIndex-none p none [] = refl
+  findIndex-none p none (a ∷ l) = rw (none a) (ap suc (findIndex-none p none l))
+
+  first-step : (p : A → Bool) (a : A) (l : List A) (k : ℕ) (b : Bool) → p a ≡ b → filter p (removeAt k l) ≡ drop 1 (filter p l)
+      → filter p (removeAt (cond b 0 (suc k)) (a ∷ l)) ≡ drop 1 (cond b (a ∷ filter p l) (filter p l))
+  unfolding removeAt filter
+  first-step p a l k true q e = refl
+  first-step p a l k false q e = rw (q) e
+
+  -- without the first that passes, those that pass are the others
+  pub filter-first : (p : A → Bool) (l : List A) → filter p (removeAt (findIndex p l) l) ≡ drop 1 (filter p l)
+  unfolding findIndex filter removeAt
+  filter-first p [] = refl
+  filter-first p (a ∷ l) = first-step p a l (findIndex p l) (p a) refl (filter-first p l)
+
+  -- and those that pass a test which it fails stay
+  module _ (p q : A → Bool) (apart : (a : A) → p a ≡ true → q a ≡ false) where
+    others-step : (a : A) (l : List A) (k : ℕ) (b : Bool) → p a ≡ b → filter q (removeAt k l) ≡ filter q l
+        → filter q (removeAt (cond b 0 (suc k)) (a ∷ l)) ≡ cond (q a) (a ∷ filter q l) (filter q l)
+    unfolding removeAt filter
+    others-step a l k true e f = rw (apart a e) refl
+    others-step a l k false e f = ap (λ (r : List A). cond (q a) (a ∷ r) r) f
+
+    pub filter-others : (l : List A) → filter q (removeAt (findIndex p l) l) ≡ filter q l
+    unfolding findIndex filter removeAt
+    filter-others [] = refl
+    filter-others (a ∷ l) = others-step a l (findIndex p l) (p a) refl (filter-others l)
+
   -- where every element fails the test none is kept
   pub filter-none : (p : A → Bool) (l : List A) → allOf (λ a. not (p a)) l ≡ true → filter p l ≡ []
   unfolding filter allOf

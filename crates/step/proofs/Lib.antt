@@ -1,2 +1,3 @@
 pub mod Acting
 pub mod Form
+pub mod Frame
