@@ -2,27 +2,28 @@
 use mathlib.Core.Path.{_≡_, refl, sym, ap, _∙_}
 use mathlib.Core.Bool.{true}
 use mathlib.Core.List.{List, [], _∷_, _++_, append-assoc}
-use Prim.Native.Nat.{ℕ, suc, _+_, _-_, _*_, _^_, _≤_, _<_}
+use Prim.Native.Nat.{ℕ, suc, _+_, _-_, _*_, _≤_, _<_}
 use native.Mathlib.Numerals.{add-one}
 use native.Mathlib.Omega.{arith}
-use borrow.Author.Tests.{lt-ltb, eq-eqb}
-use lib.Dec.{eqb, leb, leb·zero}
+use borrow.Author.Tests.{eq-eqb}
+use lib.Dec.{eqb}
 use lib.ListN.{length, take, drop, set, replicate, length-append, take-append-drop}
-use lib.Pow.{pow-pos}
 use lib.Seq.{take-append-seam, take-take, drop-drop, drop-at, take-all}
 use Rattle.buffer.specs.Bytes.{slice, splice, padded}
 use Rattle.buffer.proofs.Laws.{put-padded, padded-full}
 use Rattle.buffer.proofs.Padded.{length-padded, padded-zeros, splice-end}
-use Rattle.lists.specs.Lists.{member, distinct, allOf, appendUpTo}
+use Rattle.lists.specs.Lists.{appendUpTo}
 use Rattle.lists.proofs.Tests.{between-intro}
-use Rattle.lists.proofs.Laws.{all-drop, all-replicate, all-take, length-appendUpTo, appendUpTo-part, appendUpTo-replicate}
+use Rattle.lists.proofs.Laws.{length-appendUpTo, appendUpTo-part, appendUpTo-replicate}
 use Rattle.message.specs.Limits.{maxSessions, maxItems}
 use Rattle.session.specs.Record as SessionRecord
 use Rattle.session.specs.Seniority
 use Rattle.session.specs.Stage
 use Rattle.session.proofs.Laws as SessionLaws
+use Rattle.session.proofs.WellFormed.{fresh-formed}
 use Rattle.item.specs.Record as ItemRecord
 use Rattle.item.proofs.Laws as ItemLaws
+use Rattle.item.proofs.WellFormed.{free-formed}
 use Rattle.table.specs.Layout.{header, sessionStride, itemStride, sessionPlace, itemsStart, itemPlace, ranksPlace, size, sessionsOf, itemsOf, sized, session, item, ranks, wellFormed, Config, configOf, Bounded, sessionTailOf, itemTailOf, startedSession, startedItem, started}
 use Rattle.table.proofs.Laws.{well-formed-intro}
 
@@ -188,22 +189,9 @@ module _ (c : Config) (f : Bounded c) where
   pub configOf-started : configOf (started c) ≡ c
   configOf-started = rw (sessionsOf-started, itemsOf-started, ranks-started) refl
 
-  fresh-in-form : SessionRecord.wellFormed (c .sessions) (c .items) SessionRecord.fresh ≡ true
-  unfolding SessionRecord.wellFormed
-  fresh-in-form =
-      rw (
-        lt-ltb 0 (2 ^ c .items) (pow-pos (c .items)),
-        all-take (λ j. leb j (c .sessions)) (c .sessions) (replicate maxSessions 0) (all-replicate (λ j. leb j (c .sessions)) maxSessions 0 (leb·zero (c .sessions))),
-        all-drop (λ j. eqb j 0) (c .sessions) (replicate maxSessions 0) (all-replicate (λ j. eqb j 0) maxSessions 0 refl),
-      ) refl
-
-  free-in-form : ItemRecord.wellFormed (c .sessions) (ItemRecord.packed ItemRecord.free) ≡ true
-  unfolding ItemRecord.wellFormed allOf distinct member
-  free-in-form = rw (leb·zero (c .sessions)) (all-replicate (λ b. eqb b 0) maxSessions 0 refl)
-
   pub wellFormed-started : Seniority.wellFormed (c .ranks) ≡ true → wellFormed (started c) ≡ true
   wellFormed-started r =
       well-formed-intro (started c)
-      (λ k l h. rw (sessionsOf-started, itemsOf-started, session-started k l (rw (sessionsOf-started) at h)) fresh-in-form)
-      (λ x l h. rw (sessionsOf-started, item-started x l (rw (itemsOf-started) at h)) free-in-form)
+      (λ k l h. rw (sessionsOf-started, itemsOf-started, session-started k l (rw (sessionsOf-started) at h)) (fresh-formed (c .sessions) (c .items)))
+      (λ x l h. rw (sessionsOf-started, item-started x l (rw (itemsOf-started) at h)) (free-formed (c .sessions) (f .max-sessions)))
       (rw (ranks-started) r)
