@@ -6,16 +6,13 @@ use Prim.Native.Nat.{ℕ, zero, suc, _+_, _-_, _≤_, _<_}
 use native.Mathlib.Nat.{add-zero, zero-add, suc-add}
 use native.Mathlib.Numerals.{add-one}
 use native.Mathlib.Omega.{arith}
-use lib.Dec.{eqb, leb, lit<}
-use borrow.Author.Tests.{leb-true, le-leb}
-use lib.ListN.{length, getD, take, drop, set, replicate, length-append, length-drop, length-replicate, length-map, take-append-drop}
+use lib.Dec.{eqb, lit<}
+use lib.ListN.{length, getD, take, drop, set, replicate, length-append, length-replicate, length-map, take-append-drop}
 use lib.Seq.{append-snoc, take-at, take-suc, take-append-seam, take-nil, drop-at, drop-cons, drop-drop, getD-drop, getD-append-add, set-at, length-take-le}
 use Rattle.buffer.specs.Bytes.{slice, splice, padded}
-use Rattle.lists.specs.Lists.{between, member, distinct, allOf, filter, findIndex, removeAt}
-use Rattle.lists.proofs.Laws.{filter-append, filter-length, removeAt-le, removeAt-length, zeros-all}
-use Rattle.lists.proofs.Tests.{and-both}
+use Rattle.lists.specs.Lists.{member, allOf, filter, findIndex, removeAt}
+use Rattle.lists.proofs.Laws.{filter-append, filter-length, removeAt-le, removeAt-length}
 use Rattle.session.proofs.Laws.{either}
-use Rattle.lists.proofs.Searches.{distinct-length}
 use Rattle.buffer.proofs.Laws.{sets-splice, splice-splice, drop-splice, slice-splice-before, slice-splice-after, getD-slice, put-padded}
 use Rattle.message.specs.Kind
 use Rattle.message.specs.declared.Message.{Message}
@@ -26,7 +23,7 @@ use Rattle.item.specs.declared.Item.{Item}
 use Rattle.item.specs.declared.Event.{Event}
 use Rattle.item.specs.declared.Event.the-variants.{Nothing}
 use Rattle.item.specs.declared.ItemStep.{ItemStep}
-use Rattle.item.specs.Record.{size, Lock, lock, free, unpacked, packed, itemAt, itemBytes, putItem, wellFormed, Packed}
+use Rattle.item.specs.Record.{size, Lock, lock, free, unpacked, packed, itemAt, itemBytes, putItem, Packed}
 use Rattle.item.specs.Rules.{After, after, stepOf, dropped, resends, without, probes, granted, queued, onRequest, onRelease, onProbe, onClean, onRebroadcast, onWithdraw, handedOver, vacated, received}
 
 module _ (i : Item) (q : length (i .queue) ≡ 64) where

@@ -6,11 +6,11 @@ use Prim.Native.Nat.{ℕ, _≤_, _<_}
 use native.Mathlib.Omega.{arith}
 use lib.Dec.{eqb}
 use lib.ListN.{length, getD}
-use borrow.Author.Tests.{eqb-true, eqb-false, ltb-false, not-false}
+use borrow.Author.Tests.{eqb-true, eqb-false, not-false}
 use Rattle.lists.specs.Lists.{between, allOf, removeAt}
 use Rattle.lists.proofs.Laws.{all-getD, all-join, all-map, all-removeAt, findIndex-found}
 use Rattle.lists.proofs.Searches.{distinct-length}
-use Rattle.lists.proofs.Tests.{and-both, between-intro, by-test, by-answer}
+use Rattle.lists.proofs.Tests.{and-both, between-intro, by-answer}
 use Rattle.session.specs.Stage
 use Rattle.session.proofs.Seniority.{senior-weak}
 use Rattle.session.specs.Record as SessionRecord
@@ -31,7 +31,7 @@ use Rattle.wellformed.proofs.Sessions.{SessionKept, session-kept, request-kept,
 use Rattle.item.proofs.WellFormed.{unpacked-lock, packed-lock}
 use Rattle.wellformed.proofs.Items.{ItemKept, item-kept}
 use Rattle.step.specs.Step as Step
-use Rattle.step.specs.Step.{Plan, Stepped, Formed, delivered, itemReceives, sessionReceives, sessionActs, sessionPlan, itemPlan, plan, stepCauses, overfull, acted, stepped, refusedAnswer, committed}
+use Rattle.step.specs.Step.{Plan, Stepped, Formed, delivered, itemReceives, sessionActs, sessionPlan, itemPlan, plan, stepped, refusedAnswer, committed}
 use Rattle.step.specs.Parts.{Judged, Unhindered}
 use Rattle.step.proofs.Acting.{by-verb, delivers, item-acts, session-acts}
 

@@ -1,16 +1,15 @@
 -- Laws of the table: where its records stand, what is read after a record is replaced, and when it stays well-formed.
 use mathlib.Core.Path.{_≡_, refl, sym, ap, _∙_}
-use mathlib.Core.Bool.{Bool, true, false, cond, _&&_, and-false}
+use mathlib.Core.Bool.{Bool, true, false, _&&_, and-false}
 use mathlib.Core.List.{List}
 use Prim.Native.Nat.{ℕ, suc, _+_, _-_, _*_, _^_, _≤_, _<_}
 use native.Mathlib.Omega.{arith}
 use borrow.Author.Tests.{eqb-true, eqb-false, ltb-true, ltb-false}
-use lib.Dec.{eqb, leb, ltb}
-use lib.ListN.{length, getD, take, drop}
-use lib.Pow.{pow-mono}
+use lib.Dec.{eqb, ltb}
+use lib.ListN.{length, getD}
 use lib.Seq.{getD-take}
 use Rattle.buffer.specs.Bytes.{splice}
-use Rattle.lists.specs.Lists.{between, every, allOf}
+use Rattle.lists.specs.Lists.{between, every}
 use Rattle.lists.proofs.Tests.{and-both, within}
 use Rattle.lists.proofs.Orders.{StrictTotal}
 use Rattle.lists.proofs.Searches.{every-at, every-false, every-intro}
@@ -19,7 +18,6 @@ use Rattle.message.specs.Limits.{maxSessions, maxItems}
 use Rattle.session.specs.declared.Session.{Session}
 use Rattle.session.specs.Record as SessionRecord
 use Rattle.session.specs.Seniority
-use Rattle.session.specs.Stage
 use Rattle.session.proofs.Laws as SessionLaws
 use Rattle.session.proofs.Seniority.{senior-order}
 use Rattle.session.proofs.WellFormed.{held-fits}

@@ -6,7 +6,6 @@ use Prim.Native.Nat.{ℕ, suc, _+_, _-_, _*_, _≤_, _<_}
 use native.Mathlib.Numerals.{add-one}
 use native.Mathlib.Omega.{arith}
 use borrow.Author.Tests.{eq-eqb}
-use lib.Dec.{eqb}
 use lib.ListN.{length, take, drop, set, replicate, length-append, take-append-drop}
 use lib.Seq.{take-append-seam, take-take, drop-drop, drop-at, take-all}
 use Rattle.buffer.specs.Bytes.{slice, splice, padded}

@@ -2,28 +2,23 @@
 use mathlib.Core.Path.{_≡_, refl, sym, ap, _∙_}
 use mathlib.Core.Bool.{Bool, true, false, not, _||_}
 use mathlib.Core.List.{List, [], _∷_, _++_}
-use Prim.Native.Nat.{ℕ, _-_, _≤_, _<_, zero-le}
+use Prim.Native.Nat.{ℕ, _-_, _<_}
 use native.Mathlib.Omega.{arith}
-use lib.Dec.{eqb, leb}
-use lib.ListN.{length, getD, drop, replicate}
-use lib.Seq.{drop-append-seam}
-use borrow.Author.Tests.{eq-eqb, eqb-true, eqb-false, ne-eqb, leb-true, le-leb, not-true}
+use lib.Dec.{eqb}
+use lib.ListN.{length, getD}
+use borrow.Author.Tests.{eq-eqb, eqb-true, eqb-false, ne-eqb, not-true}
 use Rattle.lists.specs.Lists.{between, member, distinct, allOf, filter, findIndex, removeAt}
-use Rattle.lists.proofs.Laws.{all-cons, all-filter, all-getD, all-join, all-map, all-none, all-one, all-removeAt, all-replicate, all-weaken, distinct-removeAt, removeAt-absent, removed-absent}
-use Rattle.lists.proofs.Tests.{and-both, and-intro, between-intro, by-test, or-neither, within}
-use Rattle.lists.proofs.Searches.{distinct-length}
+use Rattle.lists.proofs.Laws.{all-cons, all-filter, all-getD, all-join, all-map, all-none, all-one, all-removeAt, all-weaken, distinct-removeAt, removeAt-absent, removed-absent}
+use Rattle.lists.proofs.Tests.{and-both, between-intro, by-test, or-neither, within}
 use Rattle.message.specs.Kind
 use Rattle.message.specs.declared.Message.{Message}
 use Rattle.message.specs.Outbox.{message, plain}
 use Rattle.mailbox.specs.Entry as Entry
 use Rattle.mailbox.specs.Entry.{Entry, fromItem, seenByItem}
-use Rattle.item.specs.declared.Item.{Item}
-use Rattle.item.specs.Record as ItemRecord
-use Rattle.item.specs.Record.{Lock, lock, packed, unpacked}
+use Rattle.item.specs.Record.{Lock, lock}
 use Rattle.item.proofs.WellFormed.{LockWellFormed, free-lock}
 use Rattle.wellformed.proofs.Entries.{session-range, item-range, a-range, b-range, plain-entry, pair-entry}
 use Rattle.item.specs.Rules.{After, dropped, received, resends, without, probes, granted, queued, handedOver, vacated, onRequest, onRelease, onProbe, onClean, onRebroadcast, onWithdraw}
-use Rattle.item.proofs.Laws.{unpacked-packed}
 
 -- ---- lists without an element
 -- one more at the end

@@ -1,18 +1,18 @@
 -- A session's step leaves a well-formed record, and sends well-formed entries.
 use mathlib.Core.Path.{_≡_, refl, sym, ap, _∙_}
-use mathlib.Core.Bool.{Bool, true, false, cond, not, _||_}
+use mathlib.Core.Bool.{Bool, true, false, not, _||_}
 use mathlib.Core.List.{List, [], _∷_}
 use Prim.Native.Nat.{ℕ, zero, suc, _+_, _-_, _^_, _≤_, _<_}
 use native.Mathlib.Nat.{add-zero}
 use native.Mathlib.Omega.{arith}
 use lib.Dec.{eqb, leb, ltb}
-use lib.ListN.{length, getD, take, drop, length-set, replicate, length-replicate, length-take}
+use lib.ListN.{length, getD, take, drop, length-set, length-take}
 use lib.Seq.{take-set-lt, drop-set-lt, getD-take, getD-drop}
 use lib.Pow.{pow-pos}
-use borrow.Author.Tests.{eq-eqb, eqb-true, eqb-false, leb-true, le-leb, lt-ltb, ltb-true, ltb-false}
+use borrow.Author.Tests.{eq-eqb, eqb-true, eqb-false, leb-true, le-leb, ltb-true, ltb-false}
 use Rattle.lists.specs.Lists.{between, allOf, filter}
-use Rattle.lists.proofs.Tests.{and-both, and-intro, between-intro, by-answer, by-test, within}
-use Rattle.lists.proofs.Laws.{zeros-getD, all-cons, all-drop, all-filter, all-getD, all-join, all-map, all-none, all-one, all-replicate, all-set, all-take, all-weaken}
+use Rattle.lists.proofs.Tests.{between-intro, by-answer, by-test, within}
+use Rattle.lists.proofs.Laws.{zeros-getD, all-cons, all-filter, all-getD, all-join, all-map, all-none, all-one, all-set, all-weaken}
 use Rattle.bitset.specs.Bitset.{has, members}
 use Rattle.bitset.proofs.MemberLaws.{rising, thoseIn, members-rising, has-above, insert-below, remove-below}
 use Rattle.message.specs.Kind
@@ -22,7 +22,7 @@ use Rattle.mailbox.specs.Entry as Entry
 use Rattle.mailbox.specs.Entry.{Entry, toItem, fromSession, seenBySession}
 use Rattle.session.specs.Stage
 use Rattle.session.specs.declared.Session.{Session}
-use Rattle.session.specs.Record.{wellFormed, none, fresh}
+use Rattle.session.specs.Record.{wellFormed}
 use Rattle.session.proofs.WellFormed.{SessionWellFormed, session-facts, session-formed, none-juniors, none-zeros, none-length}
 use Rattle.wellformed.proofs.Entries.{session-range, item-range, a-range, b-range, plain-entry, pair-entry}
 use Rattle.session.specs.Rules.{After, dropped, probesFrom, storedProbes, stored, toHeld, requested, released, granted, resent, aborted, cleared, cleaned, cleanedWaiting, cleanedVictim, rolledBack, junior, keptProbe, probed, received}
