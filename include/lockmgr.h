@@ -334,8 +334,8 @@ extern "C" {
 
 #define LOCKMGR_VERSION_MAJOR 0
 #define LOCKMGR_VERSION_MINOR 6
-#define LOCKMGR_VERSION_PATCH 2
-#define LOCKMGR_VERSION "0.6.2"
+#define LOCKMGR_VERSION_PATCH 3
+#define LOCKMGR_VERSION "0.6.3"
 
 /* One number that grows with the version. */
 #define LOCKMGR_VERSION_NUMBER \

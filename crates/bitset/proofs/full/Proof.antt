@@ -7,9 +7,6 @@ use Rattle.bitset.proofs.Laws.{shift-one}
 use Rattle.bitset.proofs.full.Statement.{statement}
 use Rattle.bitset.proofs.full.Tie as tie
 
-shl-result : tie.Need-shl-result
-shl-result c = search needs
-
 sub-result : tie.Need-sub-result
 sub-result c = rw (shift-one (c .before .args .m) (omega (arith, c .if1 .left))) (pow-pos (c .before .args .m))
 
@@ -20,4 +17,4 @@ returns-2 : tie.Need-returns-2
 returns-2 c = rw (shift-one (c .before .args .m) (omega (arith, c .if1 .left))) refl
 
 pub full-spec : {M : Type 1} → statement M
-full-spec = tie.close (tie.spec shl-result sub-result returns returns-2)
+full-spec = tie.close (tie.spec (λ c. search needs) sub-result returns returns-2)

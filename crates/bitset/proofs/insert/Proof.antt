@@ -7,18 +7,9 @@ use Rattle.bitset.proofs.Laws.{shift-one, or-bit}
 use Rattle.bitset.proofs.insert.Statement.{statement}
 use Rattle.bitset.proofs.insert.Tie as tie
 
-sub-result : tie.Need-sub-result
-sub-result c = search needs
-
-cast-result : tie.Need-cast-result
-cast-result c = search needs
-
-shl-result : tie.Need-shl-result
-shl-result c = search needs
-
 returns : tie.Need-returns
 unfolding insert has
 returns c = rw (shift-one (c .args .k - 1) (omega arith)) (or-bit (c .args .k - 1) (c .args .mask))
 
 pub insert-spec : {M : Type 1} → statement M
-insert-spec = tie.close (tie.spec sub-result cast-result shl-result returns)
+insert-spec = tie.close (tie.spec (λ c. search needs) (λ c. search needs) (λ c. search needs) returns)

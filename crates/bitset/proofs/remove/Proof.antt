@@ -8,18 +8,6 @@ use Rattle.bitset.proofs.Laws.{shift-one, present-fits}
 use Rattle.bitset.proofs.remove.Statement.{statement}
 use Rattle.bitset.proofs.remove.Tie as tie
 
-contains-requires : tie.Need-contains-requires
-contains-requires c κs = search needs
-
-sub-result : tie.Need-sub-result
-sub-result c = search needs
-
-cast-result : tie.Need-cast-result
-cast-result c = search needs
-
-shl-result : tie.Need-shl-result
-shl-result c = search needs
-
 sub-result-2 : tie.Need-sub-result-2
 sub-result-2 c = omega (arith, present-fits (c .before .before .args .k) (c .before .before .args .mask) (sym (c .before .contains .ensures) ∙ c .if1 .taken))
 
@@ -34,4 +22,4 @@ returns-2 c = rw (← c .before .contains .ensures, c .if1 .left) refl
 pub remove-spec : {M : Type 1} → statement M
 remove-spec =
     tie.close
-    (tie.spec contains-requires sub-result cast-result shl-result sub-result-2 returns returns-2)
+    (tie.spec (λ c κs. search needs) (λ c. search needs) (λ c. search needs) (λ c. search needs) sub-result-2 returns returns-2)

@@ -9,15 +9,6 @@ use Rattle.bitset.proofs.Laws.{shift-one}
 use Rattle.bitset.proofs.single.Statement.{statement}
 use Rattle.bitset.proofs.single.Tie as tie
 
-sub-result : tie.Need-sub-result
-sub-result c = search needs
-
-cast-result : tie.Need-cast-result
-cast-result c = search needs
-
-shl-result : tie.Need-shl-result
-shl-result c = search needs
-
 returns : tie.Need-returns
 unfolding single
 returns c = rw (eq-eqb (c .before .args .k) 0 (c .if1 .taken)) refl
@@ -28,4 +19,4 @@ returns-2 c =
     let k = c .before .args .k in rw (shift-one (k - 1) (omega (arith, c .if1 .left)), ne-eqb k 0 (c .if1 .left)) refl
 
 pub single-spec : {M : Type 1} → statement M
-single-spec = tie.close (tie.spec sub-result cast-result shl-result returns returns-2)
+single-spec = tie.close (tie.spec (λ c. search needs) (λ c. search needs) (λ c. search needs) returns returns-2)

@@ -12,15 +12,6 @@ use Rattle.buffer.proofs.get64.Tie as tie
 low : (c : tie.After-shared-slice-known) (at : ℕ) → at + 2 ≤ length (c .before .args .t .now) → fromBytes (slice (c .before .args .t .now) at 2) < 65536
 low c at h = fromBytes-slice-bound (c .before .args .t .now) at 2 h (λ i f. omega (arith, c .shared-slice-known .given i))
 
-get16-requires : tie.Need-get16-requires
-get16-requires c κs = search needs
-
-add-get16 : tie.Need-add-get16
-add-get16 c = search needs
-
-get16-requires-2 : tie.Need-get16-requires-2
-get16-requires-2 c κs = search needs
-
 mul-result : tie.Need-mul-result
 mul-result c = omega (arith, low (c .before .before) (c .before .before .before .args .at + 2) (omega arith))
 
@@ -30,12 +21,6 @@ add-result c =
     let at = k .before .args .at in
     omega (arith, low k at (omega arith), low k (at + 2) (omega arith))
 
-add-get16-2 : tie.Need-add-get16-2
-add-get16-2 c = search needs
-
-get16-requires-3 : tie.Need-get16-requires-3
-get16-requires-3 c κs = search needs
-
 mul-result-2 : tie.Need-mul-result-2
 mul-result-2 c = omega (arith, low (c .before .before .before) (c .before .before .before .before .args .at + 4) (omega arith))
 
@@ -44,12 +29,6 @@ add-result-2 c =
     let k = c .before .before .before in
     let at = k .before .args .at in
     omega (arith, low k at (omega arith), low k (at + 2) (omega arith), low k (at + 4) (omega arith))
-
-add-get16-3 : tie.Need-add-get16-3
-add-get16-3 c = search needs
-
-get16-requires-4 : tie.Need-get16-requires-4
-get16-requires-4 c κs = search needs
 
 mul-result-3 : tie.Need-mul-result-3
 mul-result-3 c = omega (arith, low (c .before .before .before .before) (c .before .before .before .before .before .args .at + 6) (omega arith))
@@ -70,17 +49,17 @@ pub get64-spec : {M : Type 1} → statement M
 get64-spec =
     tie.close
     (tie.spec
-    get16-requires
-    add-get16
-    get16-requires-2
+    (λ c κs. search needs)
+    (λ c. search needs)
+    (λ c κs. search needs)
     mul-result
     add-result
-    add-get16-2
-    get16-requires-3
+    (λ c. search needs)
+    (λ c κs. search needs)
     mul-result-2
     add-result-2
-    add-get16-3
-    get16-requires-4
+    (λ c. search needs)
+    (λ c κs. search needs)
     mul-result-3
     add-result-3
     returns)

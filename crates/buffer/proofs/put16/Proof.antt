@@ -8,27 +8,12 @@ use Rattle.buffer.proofs.Laws.{sets-splice}
 use Rattle.buffer.proofs.put16.Statement.{statement}
 use Rattle.buffer.proofs.put16.Tie as tie
 
-cast-t : tie.Need-cast-t
-cast-t c = search needs
-
-slice-write-t : tie.Need-slice-write-t
-slice-write-t c = search needs
-
-cast-t-2 : tie.Need-cast-t-2
-cast-t-2 c = search needs
-
-add-t : tie.Need-add-t
-add-t c = search needs
-
 slice-write-t-2 : tie.Need-slice-write-t-2
 slice-write-t-2 c = simp length-set (omega arith)
-
-same-length : tie.Need-same-length
-same-length c = search needs
 
 returns : tie.Need-returns
 returns c = rw (add-one) (sets-splice (c .args .t .now) (c .args .at) (toBytes 2 (c .args .v)) (omega arith))
 
 pub put16-spec : {M : Type 1} → statement M
 put16-spec =
-    tie.close (tie.spec cast-t slice-write-t cast-t-2 add-t slice-write-t-2 same-length returns)
+    tie.close (tie.spec (λ c. search needs) (λ c. search needs) (λ c. search needs) (λ c. search needs) slice-write-t-2 (λ c. search needs) returns)

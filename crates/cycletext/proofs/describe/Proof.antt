@@ -53,29 +53,14 @@ room c =
     (λ w. omega (arith, never-longer (c .before), w .left))
     (c .if2 .came)
 
-places-requires : tie.Need-places-requires
-places-requires c κs = search needs
-
-cycle-length-at-requires : tie.Need-cycle-length-at-requires
-cycle-length-at-requires c κs = search needs
-
-refused-requires : tie.Need-refused-requires
-refused-requires c κs = search needs
-
 returns : tie.Need-returns
 returns c =
     let a = c .before .before .before .before .before .before .before .args in
     let e = refused-no-cycle (a .me) (a .t .now) (a .out .now) (sym (c .before .before .cycle-length-at .ensures) ∙ c .before .if1 .taken) in
     rw (e, c .refused .ensures) refl
 
-leader-requires : tie.Need-leader-requires
-leader-requires c κs = search needs
-
 lines-length-requires : tie.Need-lines-length-requires
 lines-length-requires c κs = on-leader (c .before .before)
-
-refused-requires-2 : tie.Need-refused-requires-2
-refused-requires-2 c κs = search needs
 
 returns-2 : tie.Need-returns-2
 returns-2 c =
@@ -94,9 +79,6 @@ cast-t20 : tie.Need-cast-t20
 cast-t20 c =
     let l = c .before .before .before .before .before .before in omega (arith, c .before .before .put-lines .ensures .1, ap length (whole l), never-longer l)
 
-same-length : tie.Need-same-length
-same-length c = search needs
-
 returns-3 : tie.Need-returns-3
 returns-3 c =
     let a = c .before .before .before .before .before .before .before .before .before .before .before .before .before .before .args in
@@ -109,15 +91,15 @@ pub describe-spec : {M : Type 1} → statement M
 describe-spec =
     tie.close
     (tie.spec
-    places-requires
-    cycle-length-at-requires
-    refused-requires
+    (λ c κs. search needs)
+    (λ c κs. search needs)
+    (λ c κs. search needs)
     returns
-    leader-requires
+    (λ c κs. search needs)
     lines-length-requires
-    refused-requires-2
+    (λ c κs. search needs)
     returns-2
     put-lines-requires
     cast-t20
-    same-length
+    (λ c. search needs)
     returns-3)

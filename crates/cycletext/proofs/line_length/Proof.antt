@@ -17,29 +17,11 @@ item-digits c = omega (arith, c .decimal-length2 .ensures, length-decimal 2 (c .
 holder-digits : (c : tie.After-decimal-length3) → c .decimal-length3 .result ≤ 3
 holder-digits c = omega (arith, c .decimal-length3 .ensures, length-decimal 2 (c .before .before .before .before .before .before .before .args .w .holder) (omega (arith, c .before .struct-known3 .given)))
 
-cast-decimal-length : tie.Need-cast-decimal-length
-cast-decimal-length c = search needs
-
-decimal-length-requires : tie.Need-decimal-length-requires
-decimal-length-requires c κs = search needs
-
 add-result : tie.Need-add-result
 add-result c = omega (arith, session-digits c)
 
-cast-decimal-length-2 : tie.Need-cast-decimal-length-2
-cast-decimal-length-2 c = search needs
-
-decimal-length-requires-2 : tie.Need-decimal-length-requires-2
-decimal-length-requires-2 c κs = search needs
-
 add-result-2 : tie.Need-add-result-2
 add-result-2 c = omega (arith, session-digits (c .before .before), item-digits c)
-
-cast-decimal-length-3 : tie.Need-cast-decimal-length-3
-cast-decimal-length-3 c = search needs
-
-decimal-length-requires-3 : tie.Need-decimal-length-requires-3
-decimal-length-requires-3 c κs = search needs
 
 add-result-3 : tie.Need-add-result-3
 add-result-3 c = omega (arith, session-digits (c .before .before .before .before), item-digits (c .before .before), holder-digits c)
@@ -57,13 +39,13 @@ pub line-length-spec : {M : Type 1} → statement M
 line-length-spec =
     tie.close
     (tie.spec
-    cast-decimal-length
-    decimal-length-requires
+    (λ c. search needs)
+    (λ c κs. search needs)
     add-result
-    cast-decimal-length-2
-    decimal-length-requires-2
+    (λ c. search needs)
+    (λ c κs. search needs)
     add-result-2
-    cast-decimal-length-3
-    decimal-length-requires-3
+    (λ c. search needs)
+    (λ c κs. search needs)
     add-result-3
     returns)

@@ -30,9 +30,6 @@ wrote-0 : (c : tie.Start) → Wrote c 0 (c .args .out .now) 0
 unfolding ascii
 wrote-0 c = none-written (c .args .out .now) (pieces (c .args .w)) (omega (arith, length-line (c .args .w), c .pre))
 
-slice-aggregate-put-bytes : tie.Need-slice-aggregate-put-bytes
-slice-aggregate-put-bytes c = search needs
-
 put-bytes-requires : tie.Need-put-bytes-requires
 unfolding ascii
 put-bytes-requires c κs = piece-fits (wrote-0 (c .before .before .before))
@@ -40,9 +37,6 @@ put-bytes-requires c κs = piece-fits (wrote-0 (c .before .before .before))
 wrote-1 : (c : tie.After-put-bytes) → Wrote (c .before .before .before .before) 1 (c .put-bytes .last .0) (c .put-bytes .result)
 unfolding ascii
 wrote-1 c = let p = c .put-bytes in piece-written (wrote-0 (c .before .before .before .before)) (p .ensures .0) (p .ensures .1) (p .kept .0)
-
-cast-put-decimal : tie.Need-cast-put-decimal
-cast-put-decimal c = search needs
 
 put-decimal-requires : tie.Need-put-decimal-requires
 unfolding ascii
@@ -52,9 +46,6 @@ wrote-2 : (c : tie.After-put-decimal) → Wrote (c .before .before .before .befo
 unfolding ascii
 wrote-2 c = let p = c .put-decimal in piece-written (wrote-1 (c .before .before .before .before .before)) (p .ensures .0) (p .ensures .1) (p .kept .0)
 
-slice-aggregate-put-bytes-2 : tie.Need-slice-aggregate-put-bytes-2
-slice-aggregate-put-bytes-2 c = search needs
-
 put-bytes-requires-2 : tie.Need-put-bytes-requires-2
 unfolding ascii
 put-bytes-requires-2 c κs = piece-fits (wrote-2 (c .before .before .before .before))
@@ -62,9 +53,6 @@ put-bytes-requires-2 c κs = piece-fits (wrote-2 (c .before .before .before .bef
 wrote-3 : (c : tie.After-put-bytes2) → Wrote (c .before .before .before .before .before .before .before .before .before .before .before .before .before .before) 3 (c .put-bytes2 .last .0) (c .put-bytes2 .result)
 unfolding ascii
 wrote-3 c = let p = c .put-bytes2 in piece-written (wrote-2 (c .before .before .before .before .before)) (p .ensures .0) (p .ensures .1) (p .kept .0)
-
-cast-put-decimal-2 : tie.Need-cast-put-decimal-2
-cast-put-decimal-2 c = search needs
 
 put-decimal-requires-2 : tie.Need-put-decimal-requires-2
 unfolding ascii
@@ -74,9 +62,6 @@ wrote-4 : (c : tie.After-put-decimal2) → Wrote (c .before .before .before .bef
 unfolding ascii
 wrote-4 c = let p = c .put-decimal2 in piece-written (wrote-3 (c .before .before .before .before .before)) (p .ensures .0) (p .ensures .1) (p .kept .0)
 
-slice-aggregate-put-bytes-3 : tie.Need-slice-aggregate-put-bytes-3
-slice-aggregate-put-bytes-3 c = search needs
-
 put-bytes-requires-3 : tie.Need-put-bytes-requires-3
 unfolding ascii
 put-bytes-requires-3 c κs = piece-fits (wrote-4 (c .before .before .before .before))
@@ -85,9 +70,6 @@ wrote-5 : (c : tie.After-put-bytes3) → Wrote (c .before .before .before .befor
 unfolding ascii
 wrote-5 c = let p = c .put-bytes3 in piece-written (wrote-4 (c .before .before .before .before .before)) (p .ensures .0) (p .ensures .1) (p .kept .0)
 
-cast-put-decimal-3 : tie.Need-cast-put-decimal-3
-cast-put-decimal-3 c = search needs
-
 put-decimal-requires-3 : tie.Need-put-decimal-requires-3
 unfolding ascii
 put-decimal-requires-3 c κs = piece-fits (wrote-5 (c .before .before .before .before))
@@ -95,9 +77,6 @@ put-decimal-requires-3 c κs = piece-fits (wrote-5 (c .before .before .before .b
 wrote-6 : (c : tie.After-put-decimal3) → Wrote (c .before .before .before .before .before .before .before .before .before .before .before .before .before .before .before .before .before .before .before .before .before .before .before .before .before .before .before .before .before) 6 (c .put-decimal3 .last .0) (c .put-decimal3 .result)
 unfolding ascii
 wrote-6 c = let p = c .put-decimal3 in piece-written (wrote-5 (c .before .before .before .before .before)) (p .ensures .0) (p .ensures .1) (p .kept .0)
-
-slice-aggregate-put-bytes-4 : tie.Need-slice-aggregate-put-bytes-4
-slice-aggregate-put-bytes-4 c = search needs
 
 put-bytes-requires-4 : tie.Need-put-bytes-requires-4
 unfolding ascii
@@ -118,19 +97,19 @@ pub put-line-spec : {M : Type 1} → statement M
 put-line-spec =
     tie.close
     (tie.spec
-    slice-aggregate-put-bytes
+    (λ c. search needs)
     put-bytes-requires
-    cast-put-decimal
+    (λ c. search needs)
     put-decimal-requires
-    slice-aggregate-put-bytes-2
+    (λ c. search needs)
     put-bytes-requires-2
-    cast-put-decimal-2
+    (λ c. search needs)
     put-decimal-requires-2
-    slice-aggregate-put-bytes-3
+    (λ c. search needs)
     put-bytes-requires-3
-    cast-put-decimal-3
+    (λ c. search needs)
     put-decimal-requires-3
-    slice-aggregate-put-bytes-4
+    (λ c. search needs)
     put-bytes-requires-4
     same-length
     returns)

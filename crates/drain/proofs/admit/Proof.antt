@@ -21,15 +21,6 @@ goes-on false allowed h = absurd (true≢false h)
 passed : (c : tie.Else1) → (fits (longer (c .before .before .before .before .before .args .gap)) (c .before .before .before .before .before .args .n) (c .before .before .before .before .before .args .mail .now) ≡ true) × (c .before .before .before .before .before .args .allowed ≡ true)
 passed c = let s = c .before .before .before .before .before in goes-on (fits (longer (s .args .gap)) (s .args .n) (s .args .mail .now)) (s .args .allowed) (rw (c .before .room-refusal .ensures) at (c .if1 .left))
 
-add-t8 : tie.Need-add-t8
-add-t8 c = search needs
-
-room-refusal-requires : tie.Need-room-refusal-requires
-room-refusal-requires c κs = search needs
-
-same-length : tie.Need-same-length
-same-length c = search needs
-
 returns : tie.Need-returns
 returns c =
     let s = c .before .before .before .before .before in
@@ -44,9 +35,6 @@ returns c =
 make-places-requires : tie.Need-make-places-requires
 make-places-requires c κs = let s = c .before .before .before .before .before .before in (s .pre .0, s .pre .1, passed (c .before) .0)
 
-same-length-2 : tie.Need-same-length-2
-same-length-2 c = search needs
-
 returns-2 : tie.Need-returns-2
 returns-2 c =
     let p = passed (c .before .before .before .before) in
@@ -58,4 +46,4 @@ returns-2 c =
     }
 
 pub admit-spec : {M : Type 1} → statement M
-admit-spec = tie.close (tie.spec add-t8 room-refusal-requires same-length returns make-places-requires same-length-2 returns-2)
+admit-spec = tie.close (tie.spec (λ c. search needs) (λ c κs. search needs) (λ c. search needs) returns make-places-requires (λ c. search needs) returns-2)

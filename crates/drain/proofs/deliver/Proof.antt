@@ -9,17 +9,8 @@ use borrow.Author.Needs.{needs}
 use Rattle.drain.proofs.deliver.Statement.{statement}
 use Rattle.drain.proofs.deliver.Tie as tie
 
-route-of-requires : tie.Need-route-of-requires
-route-of-requires c κs = search needs
-
 deliver-to-item-requires : tie.Need-deliver-to-item-requires
 deliver-to-item-requires c κs = (c .before .before .before .before .before .before .before .before .pre, ap (λ (r : Route). r .item) (c .before .before .before .before .route-of .ensures))
-
-same-length : tie.Need-same-length
-same-length c = search needs
-
-same-length-2 : tie.Need-same-length-2
-same-length-2 c = search needs
 
 returns : tie.Need-returns
 returns c =
@@ -32,12 +23,6 @@ returns c =
 deliver-to-session-requires : tie.Need-deliver-to-session-requires
 deliver-to-session-requires c κs = (c .before .before .before .before .before .before .before .before .pre, ap (λ (r : Route). r .session) (c .before .before .before .before .route-of .ensures))
 
-same-length-3 : tie.Need-same-length-3
-same-length-3 c = search needs
-
-same-length-4 : tie.Need-same-length-4
-same-length-4 c = search needs
-
 returns-2 : tie.Need-returns-2
 returns-2 c =
     let s = c .before .before .before .before .before .before .before .before .before .before .before .before .before in
@@ -49,12 +34,12 @@ pub deliver-spec : {M : Type 1} → statement M
 deliver-spec =
     tie.close
     (tie.spec
-    route-of-requires
+    (λ c κs. search needs)
     deliver-to-item-requires
-    same-length
-    same-length-2
+    (λ c. search needs)
+    (λ c. search needs)
     returns
     deliver-to-session-requires
-    same-length-3
-    same-length-4
+    (λ c. search needs)
+    (λ c. search needs)
     returns-2)

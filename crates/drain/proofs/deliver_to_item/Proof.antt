@@ -24,15 +24,6 @@ received c = rw (← c .before .before .before .before .before .pre .1) (c .item
 item-receives-requires : tie.Need-item-receives-requires
 item-receives-requires c κs = let s = c .before .before .before .before in rw (s .pre .1) (due-for-item (s .args .gap) (s .args .table .now) (s .args .mail .now) (s .pre .0))
 
-admit-requires : tie.Need-admit-requires
-admit-requires c κs = search needs
-
-same-length : tie.Need-same-length
-same-length c = search needs
-
-same-length-2 : tie.Need-same-length-2
-same-length-2 c = search needs
-
 returns : tie.Need-returns
 returns c =
     let s = c .before .before .before .before .before .before .before .before .before .before .before in
@@ -44,12 +35,6 @@ post-requires c κs = let p = c .before .before .before .before .before .admit .
 
 put-item-requires : tie.Need-put-item-requires
 put-item-requires c κs = let s = c .before .before .before .before .before .before .before .before .before .before .before .before .before .before .before .before in rw (s .pre .1) (has-item (s .args .gap) (s .args .table .now) (s .args .mail .now) (s .pre .0))
-
-same-length-3 : tie.Need-same-length-3
-same-length-3 c = search needs
-
-same-length-4 : tie.Need-same-length-4
-same-length-4 c = search needs
 
 returns-2 : tie.Need-returns-2
 returns-2 c =
@@ -64,12 +49,12 @@ deliver-to-item-spec =
     tie.close
     (tie.spec
     item-receives-requires
-    admit-requires
-    same-length
-    same-length-2
+    (λ c κs. search needs)
+    (λ c. search needs)
+    (λ c. search needs)
     returns
     post-requires
     put-item-requires
-    same-length-3
-    same-length-4
+    (λ c. search needs)
+    (λ c. search needs)
     returns-2)

@@ -23,15 +23,6 @@ received c = rw (← c .before .before .before .before .before .pre .1) (c .sess
 session-receives-requires : tie.Need-session-receives-requires
 session-receives-requires c κs = let s = c .before .before .before .before in rw (s .pre .1) (due-for-session (s .args .gap) (s .args .table .now) (s .args .mail .now) (s .pre .0))
 
-admit-requires : tie.Need-admit-requires
-admit-requires c κs = search needs
-
-same-length : tie.Need-same-length
-same-length c = search needs
-
-same-length-2 : tie.Need-same-length-2
-same-length-2 c = search needs
-
 returns : tie.Need-returns
 returns c =
     let s = c .before .before .before .before .before .before .before .before .before .before .before in
@@ -43,12 +34,6 @@ post-requires c κs = let p = c .before .before .before .before .before .admit .
 
 put-session-requires : tie.Need-put-session-requires
 put-session-requires c κs = let s = c .before .before .before .before .before .before .before .before .before .before .before .before .before .before .before .before in rw (s .pre .1) (has-session (s .args .gap) (s .args .table .now) (s .args .mail .now) (s .pre .0))
-
-same-length-3 : tie.Need-same-length-3
-same-length-3 c = search needs
-
-same-length-4 : tie.Need-same-length-4
-same-length-4 c = search needs
 
 returns-2 : tie.Need-returns-2
 returns-2 c =
@@ -63,12 +48,12 @@ deliver-to-session-spec =
     tie.close
     (tie.spec
     session-receives-requires
-    admit-requires
-    same-length
-    same-length-2
+    (λ c κs. search needs)
+    (λ c. search needs)
+    (λ c. search needs)
     returns
     post-requires
     put-session-requires
-    same-length-3
-    same-length-4
+    (λ c. search needs)
+    (λ c. search needs)
     returns-2)

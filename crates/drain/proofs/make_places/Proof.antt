@@ -28,19 +28,10 @@ capacity-requires c κs =
     let s = c .before .before .before .before in
     omega (arith, kept-length (s .args .mail .now) (s .pre .0 .kept))
 
-same-length : tie.Need-same-length
-same-length c = search needs
-
 returns : tie.Need-returns
 returns c =
     let s = c .before .before .before .before .before .before in
     record { spent = s .pre .0; front = refl; capacity = refl; entries = refl; free = omega (arith, c .if1 .taken, c .before .before .before .count .ensures, c .before .capacity .ensures) }
-
-cut-requires : tie.Need-cut-requires
-cut-requires c κs = search needs
-
-same-length-2 : tie.Need-same-length-2
-same-length-2 c = search needs
 
 returns-2 : tie.Need-returns-2
 returns-2 c =
@@ -58,4 +49,4 @@ returns-2 c =
     })
 
 pub make-places-spec : {M : Type 1} → statement M
-make-places-spec = tie.close (tie.spec count-requires add-if1 capacity-requires same-length returns cut-requires same-length-2 returns-2)
+make-places-spec = tie.close (tie.spec count-requires add-if1 capacity-requires (λ c. search needs) returns (λ c κs. search needs) (λ c. search needs) returns-2)

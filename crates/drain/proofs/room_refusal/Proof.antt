@@ -15,15 +15,6 @@ use Rattle.drain.proofs.room_refusal.Tie as tie
 count-requires : tie.Need-count-requires
 count-requires c κs = let s = c .before in omega (arith, kept-length (s .args .mail .now) (s .pre .0 .kept))
 
-sub-if1 : tie.Need-sub-if1
-sub-if1 c = search needs
-
-sub-if1-2 : tie.Need-sub-if1-2
-sub-if1-2 c = search needs
-
-add-if1 : tie.Need-add-if1
-add-if1 c = search needs
-
 capacity-requires : tie.Need-capacity-requires
 capacity-requires c κs = let s = c .before .before .before in omega (arith, kept-length (s .args .mail .now) (s .pre .0 .kept))
 
@@ -40,4 +31,4 @@ returns-2 c =
     rw (lt-leb (length (inUse (s .args .gap) m) + s .args .n) (capacityOf m) (omega (arith, c .if1 .left, c .before .capacity .ensures, c .before .before .before .count .ensures, length-left (s .args .gap) m (s .pre .0)))) refl
 
 pub room-refusal-spec : {M : Type 1} → statement M
-room-refusal-spec = tie.close (tie.spec count-requires sub-if1 sub-if1-2 add-if1 capacity-requires returns returns-2)
+room-refusal-spec = tie.close (tie.spec count-requires (λ c. search needs) (λ c. search needs) (λ c. search needs) capacity-requires returns returns-2)

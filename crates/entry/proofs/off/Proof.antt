@@ -6,28 +6,13 @@ use borrow.Author.Tests.{eq-eqb, ne-eqb}
 use Rattle.entry.proofs.off.Statement.{statement}
 use Rattle.entry.proofs.off.Tie as tie
 
-add-item : tie.Need-add-item
-add-item c = search needs
-
-shared-slice-read-item : tie.Need-shared-slice-read-item
-shared-slice-read-item c = search needs
-
 returns : tie.Need-returns
 unfolding differs
 returns c = rw (ne-eqb _ _ (c .if1 .taken)) refl
 
-add-session : tie.Need-add-session
-add-session c = search needs
-
-shared-slice-read-session : tie.Need-shared-slice-read-session
-shared-slice-read-session c = search needs
-
 returns-2 : tie.Need-returns-2
 unfolding differs
 returns-2 c = rw (eq-eqb _ _ (c .before .before .if1 .left), ne-eqb _ _ (c .if2 .taken)) refl
-
-shared-slice-read-direction : tie.Need-shared-slice-read-direction
-shared-slice-read-direction c = search needs
 
 returns-3 : tie.Need-returns-3
 unfolding differs
@@ -37,11 +22,11 @@ pub off-spec : {M : Type 1} → statement M
 off-spec =
     tie.close
     (tie.spec
-    add-item
-    shared-slice-read-item
+    (λ c. search needs)
+    (λ c. search needs)
     returns
-    add-session
-    shared-slice-read-session
+    (λ c. search needs)
+    (λ c. search needs)
     returns-2
-    shared-slice-read-direction
+    (λ c. search needs)
     returns-3)

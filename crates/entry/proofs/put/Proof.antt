@@ -8,23 +8,11 @@ use native.Mathlib.Omega.{arith}
 use Rattle.entry.proofs.put.Statement.{statement}
 use Rattle.entry.proofs.put.Tie as tie
 
-slice-write-m : tie.Need-slice-write-m
-slice-write-m c = search needs
-
-add-m : tie.Need-add-m
-add-m c = search needs
-
 slice-write-m-2 : tie.Need-slice-write-m-2
 slice-write-m-2 c = simp length-set (omega arith)
 
-add-m-2 : tie.Need-add-m-2
-add-m-2 c = search needs
-
 slice-write-m-3 : tie.Need-slice-write-m-3
 slice-write-m-3 c = simp length-set (omega arith)
-
-same-length : tie.Need-same-length
-same-length c = search needs
 
 returns : tie.Need-returns
 returns c = let a = c .args in simp towards-suc (sets-splice (a .m .now) (a .at) (a .a ∷ a .b ∷ a .c ∷ []) (omega arith))
@@ -32,4 +20,4 @@ returns c = let a = c .args in simp towards-suc (sets-splice (a .m .now) (a .at)
 pub put-spec : {M : Type 1} → statement M
 put-spec =
     tie.close
-    (tie.spec slice-write-m add-m slice-write-m-2 add-m-2 slice-write-m-3 same-length returns)
+    (tie.spec (λ c. search needs) (λ c. search needs) slice-write-m-2 (λ c. search needs) slice-write-m-3 (λ c. search needs) returns)

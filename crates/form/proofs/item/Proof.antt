@@ -11,15 +11,6 @@ use Rattle.form.proofs.FormLaws.{item-form, row-low}
 use Rattle.form.proofs.item.Statement.{statement}
 use Rattle.form.proofs.item.Tie as tie
 
-shared-slice-read-h : tie.Need-shared-slice-read-h
-shared-slice-read-h c = search needs
-
-add-n : tie.Need-add-n
-add-n c = search needs
-
-shared-slice-read-n : tie.Need-shared-slice-read-n
-shared-slice-read-n c = search needs
-
 cast-n : tie.Need-cast-n
 cast-n c = let a = c .before .before .before .args in omega (arith, c .shared-slice-known3 .given (a .at + waitingPlace))
 
@@ -34,15 +25,6 @@ returns-2 c =
     let a = c .before .before .before .before .before .args in
     let t = a .t .now in
     rw (le-leb (getD t (a .at) 0) (a .s) (c .before .if1 .left), lt-leb (getD t (a .at + waitingPlace) 0) maxSessions (c .if2 .taken)) refl
-
-add-row : tie.Need-add-row
-add-row c = search needs
-
-row-requires : tie.Need-row-requires
-row-requires c κs = search needs
-
-add-queue : tie.Need-add-queue
-add-queue c = search needs
 
 queue-requires : tie.Need-queue-requires
 queue-requires c κs =
@@ -74,15 +56,15 @@ pub item-spec : {M : Type 1} → statement M
 item-spec =
     tie.close
     (tie.spec
-    shared-slice-read-h
-    add-n
-    shared-slice-read-n
+    (λ c. search needs)
+    (λ c. search needs)
+    (λ c. search needs)
     cast-n
     returns
     returns-2
-    add-row
-    row-requires
-    add-queue
+    (λ c. search needs)
+    (λ c κs. search needs)
+    (λ c. search needs)
     queue-requires
     returns-3
     returns-4)

@@ -22,15 +22,9 @@ table-formed c = admits (c .before .well-formed .result) (c .before .well-formed
 judged : (c : tie.After-well-formed2) → c .well-formed2 .result ≡ Mail.wellFormed (Table.sessionsOf (c .before .before .before .before .before .before .before .before .before .before .before .args .table .now)) (Table.itemsOf (c .before .before .before .before .before .before .before .before .before .before .before .args .table .now)) (c .before .before .before .before .before .before .before .before .before .before .before .args .mail .now)
 judged c = c .well-formed2 .ensures ∙ rw (c .before .before .sessions .ensures, c .before .items .ensures) refl
 
-sized-requires : tie.Need-sized-requires
-sized-requires c κs = search needs
-
 returns : tie.Need-returns
 unfolding first
 returns c = rw (refuses (c .before .sized .result) (c .before .sized .ensures) (c .if1 .taken)) refl
-
-sized-requires-2 : tie.Need-sized-requires-2
-sized-requires-2 c κs = search needs
 
 returns-2 : tie.Need-returns-2
 unfolding first
@@ -61,4 +55,4 @@ unfolding first
 returns-5 c = rw (table-sized (c .before .before .before .before .before .before .before .before), mail-sized (c .before .before .before .before .before .before), table-formed (c .before .before .before .before), admits (c .before .well-formed2 .result) (judged (c .before)) (c .if4 .left)) refl
 
 pub buffers-refusal-spec : {M : Type 1} → statement M
-buffers-refusal-spec = tie.close (tie.spec sized-requires returns sized-requires-2 returns-2 well-formed-requires returns-3 sessions-requires items-requires well-formed-requires-2 returns-4 returns-5)
+buffers-refusal-spec = tie.close (tie.spec (λ c κs. search needs) returns (λ c κs. search needs) returns-2 well-formed-requires returns-3 sessions-requires items-requires well-formed-requires-2 returns-4 returns-5)

@@ -26,9 +26,6 @@ returns c = sym (judged-verb _ _ _ _ _ (λ a b. omega arith))
 returns-2 : tie.Need-returns-2
 returns-2 c = sym (judged-verb _ _ _ _ _ (λ a b. omega arith))
 
-buffers-refusal-requires : tie.Need-buffers-refusal-requires
-buffers-refusal-requires c κs = search needs
-
 returns-3 : tie.Need-returns-3
 returns-3 c =
     let e = c .before .buffers-refusal .ensures in
@@ -40,9 +37,6 @@ returns-4 c = sym (judged-number _ _ _ _ _ (omega arith) (omega arith) (unhinder
 sessions-requires : tie.Need-sessions-requires
 sessions-requires c κs = head (c .before)
 
-cast-if5 : tie.Need-cast-if5
-cast-if5 c = search needs
-
 returns-5 : tie.Need-returns-5
 returns-5 c = sym (judged-number _ _ _ _ _ (omega arith) (omega arith) (unhindered (c .before .before .before)) (λ a b d e. omega (arith, c .before .sessions .ensures)))
 
@@ -52,9 +46,6 @@ returns-6 c = sym (judged-number _ _ _ _ _ (omega arith) (omega arith) (unhinder
 items-requires : tie.Need-items-requires
 items-requires c κs = head (c .before .before .before .before)
 
-cast-if7 : tie.Need-cast-if7
-cast-if7 c = search needs
-
 returns-7 : tie.Need-returns-7
 returns-7 c = sym (judged-number _ _ _ _ _ (omega arith) (omega arith) (unhindered (c .before .before .before .before .before .before)) (λ a b d e. omega (arith, c .before .items .ensures)))
 
@@ -62,4 +53,4 @@ returns-8 : tie.Need-returns-8
 returns-8 c = sym (judged-none _ _ _ _ _ (omega arith) (omega arith) (unhindered (c .before .before .before .before .before .before)) (omega arith) (omega (arith, c .before .before .before .before .sessions .ensures)) (omega arith) (omega (arith, c .before .items .ensures)))
 
 pub judge-spec : {M : Type 1} → statement M
-judge-spec = tie.close (tie.spec returns returns-2 buffers-refusal-requires returns-3 returns-4 sessions-requires cast-if5 returns-5 returns-6 items-requires cast-if7 returns-7 returns-8)
+judge-spec = tie.close (tie.spec returns returns-2 (λ c κs. search needs) returns-3 returns-4 sessions-requires (λ c. search needs) returns-5 returns-6 items-requires (λ c. search needs) returns-7 returns-8)

@@ -16,12 +16,6 @@ begin c = c .before .before .before .before
 admitted : (c : tie.Else1) → reportRefusal (begin c .args .session) (begin c .args .table .now) ≡ 0
 admitted c = sym (c .before .report-refusal .ensures) ∙ c .if1 .left
 
-report-refusal-requires : tie.Need-report-refusal-requires
-report-refusal-requires c κs = search needs
-
-refused-requires : tie.Need-refused-requires
-refused-requires c κs = search needs
-
 returns : tie.Need-returns
 returns c =
     let a = c .before .before .before .before .before .args in
@@ -35,9 +29,6 @@ cast-describe c = let a = begin c .args in omega (arith, report-small (a .sessio
 describe-requires : tie.Need-describe-requires
 describe-requires c κs = let a = begin (c .before) .args in report-zero (a .session) (a .table .now) (admitted (c .before))
 
-same-length : tie.Need-same-length
-same-length c = search needs
-
 returns-2 : tie.Need-returns-2
 returns-2 c =
     let e = c .before .before .before .before in
@@ -48,10 +39,10 @@ pub lockmgr-cycle-text-spec : {M : Type 1} → statement M
 lockmgr-cycle-text-spec =
     tie.close
     (tie.spec
-    report-refusal-requires
-    refused-requires
+    (λ c κs. search needs)
+    (λ c κs. search needs)
     returns
     cast-describe
     describe-requires
-    same-length
+    (λ c. search needs)
     returns-2)

@@ -22,20 +22,11 @@ judged c = sym (c .before .buffers-refusal .ensures) ∙ c .if1 .left
 formed : (c : tie.Else1) → Formed (begin c .args .table .now) (begin c .args .mail .now)
 formed c = buffers-zero (begin c .args .table .now) (begin c .args .mail .now) (judged c)
 
-buffers-refusal-requires : tie.Need-buffers-refusal-requires
-buffers-refusal-requires c κs = search needs
-
-same-length : tie.Need-same-length
-same-length c = search needs
-
 returns : tie.Need-returns
 returns c =
     let a = c .before .before .before .before .before .args in
     let e = c .before .buffers-refusal .ensures in
     ap (λ (n : ℕ). reopened n (a .table .now)) e ∙ sym (reopen-buffers (a .session) (a .table .now) (a .mail .now) (λ z. c .if1 .taken (e ∙ z)))
-
-same-length-2 : tie.Need-same-length-2
-same-length-2 c = search needs
 
 returns-2 : tie.Need-returns-2
 returns-2 c = sym (reopen-number _ _ _ (judged (c .before)) (λ low high. omega arith))
@@ -43,25 +34,13 @@ returns-2 c = sym (reopen-number _ _ _ (judged (c .before)) (λ low high. omega 
 sessions-requires : tie.Need-sessions-requires
 sessions-requires c κs = TableLaws.header-fits _ (formed (c .before .before) .records .sized)
 
-cast-if3 : tie.Need-cast-if3
-cast-if3 c = search needs
-
-same-length-3 : tie.Need-same-length-3
-same-length-3 c = search needs
-
 returns-3 : tie.Need-returns-3
 returns-3 c = sym (reopen-number _ _ _ (judged (c .before .before .before .before)) (λ low high. omega (arith, c .before .sessions .ensures)))
-
-cast-reopen : tie.Need-cast-reopen
-cast-reopen c = search needs
 
 reopen-requires : tie.Need-reopen-requires
 reopen-requires c κs =
     let f = formed (c .before .before .before .before .before) in
     (f, record { sized = f .records .sized; low = omega arith; high = omega (arith, c .before .before .sessions .ensures) })
-
-same-length-4 : tie.Need-same-length-4
-same-length-4 c = search needs
 
 returns-4 : tie.Need-returns-4
 returns-4 c =
@@ -75,16 +54,16 @@ pub lockmgr-reopen-spec : {M : Type 1} → statement M
 lockmgr-reopen-spec =
     tie.close
     (tie.spec
-    buffers-refusal-requires
-    same-length
+    (λ c κs. search needs)
+    (λ c. search needs)
     returns
-    same-length-2
+    (λ c. search needs)
     returns-2
     sessions-requires
-    cast-if3
-    same-length-3
+    (λ c. search needs)
+    (λ c. search needs)
     returns-3
-    cast-reopen
+    (λ c. search needs)
     reopen-requires
-    same-length-4
+    (λ c. search needs)
     returns-4)

@@ -12,9 +12,6 @@ use Rattle.lockmgr.proofs.lockmgr_report.Tie as tie
 admitted : (c : tie.Else1) → reportRefusal (c .before .before .before .args .session) (c .before .before .before .args .table .now) ≡ 0
 admitted c = sym (c .before .report-refusal .ensures) ∙ c .if1 .left
 
-report-refusal-requires : tie.Need-report-refusal-requires
-report-refusal-requires c κs = search needs
-
 returns : tie.Need-returns
 unfolding report
 returns c =
@@ -35,4 +32,4 @@ returns-2 c = rw (admitted (c .before), c .cycle-length .ensures) refl
 pub lockmgr-report-spec : {M : Type 1} → statement M
 lockmgr-report-spec =
     tie.close
-    (tie.spec report-refusal-requires returns cast-cycle-length cycle-length-requires returns-2)
+    (tie.spec (λ c κs. search needs) returns cast-cycle-length cycle-length-requires returns-2)

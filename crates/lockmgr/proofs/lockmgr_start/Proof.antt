@@ -28,15 +28,6 @@ Known s = Startable (given s) (s .args .table .now) (s .args .mail .now)
 known : (c : tie.Else1) → Known (c .before .before .before .before .before .before .before)
 known c = start-zero _ _ _ (admitted c)
 
-start-refusal-requires : tie.Need-start-refusal-requires
-start-refusal-requires c κs = search needs
-
-same-length : tie.Need-same-length
-same-length c = search needs
-
-same-length-2 : tie.Need-same-length-2
-same-length-2 c = search needs
-
 returns : tie.Need-returns
 unfolding start
 returns c =
@@ -56,12 +47,6 @@ clear-requires c κs =
 clear-requires-2 : tie.Need-clear-requires-2
 clear-requires-2 c κs = let f = known (c .before .before .before .before .before) .sizes in (f .some-room, f .max-room, f .mail-whole)
 
-same-length-3 : tie.Need-same-length-3
-same-length-3 c = search needs
-
-same-length-4 : tie.Need-same-length-4
-same-length-4 c = search needs
-
 returns-2 : tie.Need-returns-2
 unfolding start
 returns-2 c = rw (admitted (c .before .before .before .before .before .before .before .before), c .before .before .before .before .before .before .clear .ensures, c .before .before .clear2 .ensures) refl
@@ -70,14 +55,14 @@ pub lockmgr-start-spec : {M : Type 1} → statement M
 lockmgr-start-spec =
     tie.close
     (tie.spec
-    start-refusal-requires
-    same-length
-    same-length-2
+    (λ c κs. search needs)
+    (λ c. search needs)
+    (λ c. search needs)
     returns
     cast-clear
     cast-clear-2
     clear-requires
     clear-requires-2
-    same-length-3
-    same-length-4
+    (λ c. search needs)
+    (λ c. search needs)
     returns-2)

@@ -17,18 +17,6 @@ allowed c = sym (c .before .judge .ensures) ∙ c .if1 .left
 known : (c : tie.Else1) → (1 ≤ c .before .before .before .before .before .before .args .verb) × (c .before .before .before .before .before .before .args .verb ≤ 4) × Judged (c .before .before .before .before .before .before .args .session) (c .before .before .before .before .before .before .args .item) (c .before .before .before .before .before .before .args .table .now) (c .before .before .before .before .before .before .args .mail .now)
 known c = let s = c .before .before .before .before .before .before in judged-zero (s .args .verb) (s .args .session) (s .args .item) (s .args .table .now) (s .args .mail .now) (allowed c)
 
-judge-requires : tie.Need-judge-requires
-judge-requires c κs = search needs
-
-refused-requires : tie.Need-refused-requires
-refused-requires c κs = search needs
-
-same-length : tie.Need-same-length
-same-length c = search needs
-
-same-length-2 : tie.Need-same-length-2
-same-length-2 c = search needs
-
 returns : tie.Need-returns
 returns c =
     let s = c .before .before .before .before .before .before .before in
@@ -45,12 +33,6 @@ cast-act-2 c = let s = c .before .before .before .before .before .before in let 
 act-requires : tie.Need-act-requires
 act-requires c κs = known (c .before .before)
 
-same-length-3 : tie.Need-same-length-3
-same-length-3 c = search needs
-
-same-length-4 : tie.Need-same-length-4
-same-length-4 c = search needs
-
 returns-2 : tie.Need-returns-2
 returns-2 c =
     let s = c .before .before .before .before .before .before .before .before .before .before .before .before .before in
@@ -60,14 +42,14 @@ pub lockmgr-step-spec : {M : Type 1} → statement M
 lockmgr-step-spec =
     tie.close
     (tie.spec
-    judge-requires
-    refused-requires
-    same-length
-    same-length-2
+    (λ c κs. search needs)
+    (λ c κs. search needs)
+    (λ c. search needs)
+    (λ c. search needs)
     returns
     cast-act
     cast-act-2
     act-requires
-    same-length-3
-    same-length-4
+    (λ c. search needs)
+    (λ c. search needs)
     returns-2)

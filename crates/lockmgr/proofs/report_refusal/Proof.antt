@@ -16,9 +16,6 @@ table-sized c = admits (c .before .sized .result) (c .before .sized .ensures) (c
 table-formed : (c : tie.Else2) → Table.wellFormed (c .before .before .before .before .before .args .table .now) ≡ true
 table-formed c = admits (c .before .well-formed .result) (c .before .well-formed .ensures) (c .if2 .left)
 
-sized-requires : tie.Need-sized-requires
-sized-requires c κs = search needs
-
 returns : tie.Need-returns
 returns c = sym (report-size _ _ (refuses (c .before .sized .result) (c .before .sized .ensures) (c .if1 .taken)))
 
@@ -34,9 +31,6 @@ returns-3 c = sym (report-number _ _ (table-sized (c .before .before .before)) (
 sessions-requires : tie.Need-sessions-requires
 sessions-requires c κs = TableLaws.header-fits (c .before .before .before .before .before .before .args .table .now) (table-sized (c .before .before .before))
 
-cast-if4 : tie.Need-cast-if4
-cast-if4 c = search needs
-
 returns-4 : tie.Need-returns-4
 returns-4 c = sym (report-number _ _ (table-sized (c .before .before .before .before .before)) (table-formed (c .before .before .before)) (λ l h. omega (arith, c .before .sessions .ensures)))
 
@@ -44,4 +38,4 @@ returns-5 : tie.Need-returns-5
 returns-5 c = sym (report-none _ _ (table-sized (c .before .before .before .before .before)) (table-formed (c .before .before .before)) (omega arith) (omega (arith, c .before .sessions .ensures)))
 
 pub report-refusal-spec : {M : Type 1} → statement M
-report-refusal-spec = tie.close (tie.spec sized-requires returns well-formed-requires returns-2 returns-3 sessions-requires cast-if4 returns-4 returns-5)
+report-refusal-spec = tie.close (tie.spec (λ c κs. search needs) returns well-formed-requires returns-2 returns-3 sessions-requires (λ c. search needs) returns-4 returns-5)

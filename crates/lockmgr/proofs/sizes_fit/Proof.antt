@@ -29,9 +29,6 @@ cast-size c = omega (arith, known c .sessions)
 cast-size-2 : tie.Need-cast-size-2
 cast-size-2 c = omega (arith, known c .items)
 
-size-requires : tie.Need-size-requires
-size-requires c κs = search needs
-
 size-requires-2 : tie.Need-size-requires-2
 size-requires-2 c κs = omega (arith, known (c .before) .capacity)
 
@@ -40,4 +37,4 @@ returns-2 c = rw (bounded (c .before .before), c .size2 .ensures, c .before .siz
 
 pub sizes-fit-spec : {M : Type 1} → statement M
 sizes-fit-spec =
-    tie.close (tie.spec returns cast-size cast-size-2 size-requires size-requires-2 returns-2)
+    tie.close (tie.spec returns cast-size cast-size-2 (λ c κs. search needs) size-requires-2 returns-2)

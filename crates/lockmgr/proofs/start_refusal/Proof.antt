@@ -22,9 +22,6 @@ Fit s = Sizes (given s) (s .args .table .now) (s .args .mail .now)
 fitting : (c : tie.Else1) → fit (c .before .before .before .before .before) ≡ true
 fitting c = sym (c .before .sizes-fit .ensures) ∙ not-false _ (c .if1 .left)
 
-sizes-fit-requires : tie.Need-sizes-fit-requires
-sizes-fit-requires c κs = search needs
-
 returns : tie.Need-returns
 unfolding startRefusal first
 returns c =
@@ -35,13 +32,10 @@ ranks-requires : tie.Need-ranks-requires
 ranks-requires c κs =
     let known : Fit (c .before .before .before .before .before) = sizes-known _ _ _ (fitting c) in omega (arith, known .bounded)
 
-cause-requires : tie.Need-cause-requires
-cause-requires c κs = search needs
-
 returns-2 : tie.Need-returns-2
 unfolding startRefusal first
 returns-2 c = rw (c .cause .ensures, c .before .ranks .ensures, fitting (c .before .before)) refl
 
 pub start-refusal-spec : {M : Type 1} → statement M
 start-refusal-spec =
-    tie.close (tie.spec sizes-fit-requires returns ranks-requires cause-requires returns-2)
+    tie.close (tie.spec (λ c κs. search needs) returns ranks-requires (λ c κs. search needs) returns-2)

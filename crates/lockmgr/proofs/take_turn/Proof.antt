@@ -24,9 +24,6 @@ some c = let s = c .before .before .before .before .before .before in some-left 
 count-requires : tie.Need-count-requires
 count-requires c κs = let s = c .before .before .before in omega (arith, kept-length (s .args .mail .now) (s .pre .1 .kept))
 
-same-length : tie.Need-same-length
-same-length c = search needs
-
 returns : tie.Need-returns
 returns c =
     let s = c .before .before .before .before .before .before in
@@ -35,12 +32,6 @@ returns c =
 
 deliver-requires : tie.Need-deliver-requires
 deliver-requires c κs = let s = c .before .before .before .before .before .before .before .before in oldest-due (s .args .gap) (s .args .table .now) (s .args .mail .now) (s .pre .0) (s .pre .1) (behind (c .before .before)) (s .pre .2)
-
-same-length-2 : tie.Need-same-length-2
-same-length-2 c = search needs
-
-same-length-3 : tie.Need-same-length-3
-same-length-3 c = search needs
 
 returns-2 : tie.Need-returns-2
 returns-2 c =
@@ -51,23 +42,11 @@ returns-2 c =
 add-t17 : tie.Need-add-t17
 add-t17 c = let s = c .before .before .before .before .before .before .before .before .before .before .before .before .before .before .before .before .before in omega (arith, ltb-true (s .args .made) (s .args .limit) (c .if3 .taken))
 
-same-length-4 : tie.Need-same-length-4
-same-length-4 c = search needs
-
-same-length-5 : tie.Need-same-length-5
-same-length-5 c = search needs
-
 returns-3 : tie.Need-returns-3
 returns-3 c =
     let s = c .before .before .before .before .before .before .before .before .before .before .before .before .before .before .before .before .before in
     let d = c .before .before .before .before .before .before .before .before .deliver .ensures in
     (d .1 ∙ s .pre .0, d .0, turn-made (s .args .table .now) (pending (s .args .gap) (s .args .mail .now)) (s .pre .2) (s .args .gap .from) (s .pre .0) (some (c .before .before .before .before .before .before .before .before .before .before .before)) (s .args .limit) (s .args .made) _ _ _ (rw (c .if3 .taken) at (d .2)) (c .before .if2 .left) (c .if3 .taken))
-
-same-length-6 : tie.Need-same-length-6
-same-length-6 c = search needs
-
-same-length-7 : tie.Need-same-length-7
-same-length-7 c = search needs
 
 returns-4 : tie.Need-returns-4
 returns-4 c =
@@ -80,16 +59,16 @@ take-turn-spec =
     tie.close
     (tie.spec
     count-requires
-    same-length
+    (λ c. search needs)
     returns
     deliver-requires
-    same-length-2
-    same-length-3
+    (λ c. search needs)
+    (λ c. search needs)
     returns-2
     add-t17
-    same-length-4
-    same-length-5
+    (λ c. search needs)
+    (λ c. search needs)
     returns-3
-    same-length-6
-    same-length-7
+    (λ c. search needs)
+    (λ c. search needs)
     returns-4)

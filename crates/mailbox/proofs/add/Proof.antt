@@ -7,27 +7,6 @@ use native.Mathlib.Omega.{arith}
 use Rattle.mailbox.proofs.add.Statement.{statement}
 use Rattle.mailbox.proofs.add.Tie as tie
 
-route-place-requires : tie.Need-route-place-requires
-route-place-requires c κs = search needs
-
-put-requires : tie.Need-put-requires
-put-requires c κs = search needs
-
-body-place-requires : tie.Need-body-place-requires
-body-place-requires c κs = search needs
-
-put-requires-2 : tie.Need-put-requires-2
-put-requires-2 c κs = search needs
-
-add-put16 : tie.Need-add-put16
-add-put16 c = search needs
-
-put16-requires : tie.Need-put16-requires
-put16-requires c κs = search needs
-
-same-length : tie.Need-same-length
-same-length c = search needs
-
 returns : tie.Need-returns
 returns c =
     λ l e f.
@@ -43,11 +22,11 @@ pub add-spec : {M : Type 1} → statement M
 add-spec =
     tie.close
     (tie.spec
-    route-place-requires
-    put-requires
-    body-place-requires
-    put-requires-2
-    add-put16
-    put16-requires
-    same-length
+    (λ c κs. search needs)
+    (λ c κs. search needs)
+    (λ c κs. search needs)
+    (λ c κs. search needs)
+    (λ c. search needs)
+    (λ c κs. search needs)
+    (λ c. search needs)
     returns)

@@ -16,41 +16,14 @@ capacity-requires c κs = let s = c .before .before in omega (arith, kept-length
 count-requires : tie.Need-count-requires
 count-requires c κs = let s = c .before .before .before .before in omega (arith, kept-length (s .args .m .now) (s .pre .0), s .pre .0)
 
-sub-by : tie.Need-sub-by
-sub-by c = search needs
-
-mul-by : tie.Need-mul-by
-mul-by c = search needs
-
-sub-len : tie.Need-sub-len
-sub-len c = search needs
-
-mul-len : tie.Need-mul-len
-mul-len c = search needs
-
-route-place-requires : tie.Need-route-place-requires
-route-place-requires c κs = search needs
-
 cut-requires : tie.Need-cut-requires
 cut-requires c κs = let s = c .before .before .before .before .before .before .before in omega (arith, kept-length (s .args .m .now) (s .pre .0), s .pre .0)
-
-body-place-requires : tie.Need-body-place-requires
-body-place-requires c κs = search needs
 
 cut-requires-2 : tie.Need-cut-requires-2
 cut-requires-2 c κs = let s = c .before .before .before .before .before .before .before .before .before .before .before .before in omega (arith, kept-length (s .args .m .now) (s .pre .0), s .pre .0, c .before .before .before .before .cut .kept .0)
 
-sub-put16 : tie.Need-sub-put16
-sub-put16 c = search needs
-
-sub-put16-2 : tie.Need-sub-put16-2
-sub-put16-2 c = search needs
-
 put16-requires : tie.Need-put16-requires
 put16-requires c κs = let s = c .before .before .before .before .before .before .before .before .before .before .before .before .before .before .before .before in omega (arith, kept-length (s .args .m .now) (s .pre .0), s .pre .0, c .before .before .before .cut2 .kept .0, c .before .before .before .before .before .before .before .before .cut .kept .0)
-
-same-length : tie.Need-same-length
-same-length c = search needs
 
 returns : tie.Need-returns
 returns c =
@@ -71,16 +44,16 @@ cut-spec =
     (tie.spec
     capacity-requires
     count-requires
-    sub-by
-    mul-by
-    sub-len
-    mul-len
-    route-place-requires
+    (λ c. search needs)
+    (λ c. search needs)
+    (λ c. search needs)
+    (λ c. search needs)
+    (λ c κs. search needs)
     cut-requires
-    body-place-requires
+    (λ c κs. search needs)
     cut-requires-2
-    sub-put16
-    sub-put16-2
+    (λ c. search needs)
+    (λ c. search needs)
     put16-requires
-    same-length
+    (λ c. search needs)
     returns)

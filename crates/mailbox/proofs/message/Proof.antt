@@ -7,17 +7,8 @@ use native.Mathlib.Omega.{arith}
 use Rattle.mailbox.proofs.message.Statement.{statement}
 use Rattle.mailbox.proofs.message.Tie as tie
 
-route-place-requires : tie.Need-route-place-requires
-route-place-requires c κs = search needs
-
 capacity-requires : tie.Need-capacity-requires
 capacity-requires c κs = let s = c .before .before in omega (arith, kept-length (s .args .m .now) (s .pre .0 .kept), s .pre .0 .kept)
-
-body-place-requires : tie.Need-body-place-requires
-body-place-requires c κs = search needs
-
-add-new : tie.Need-add-new
-add-new c = search needs
 
 shared-slice-read-new : tie.Need-shared-slice-read-new
 shared-slice-read-new c = let s = c .before .before .before .before .before in omega (arith, kept-length (s .args .m .now) (s .pre .0 .kept), s .pre .0 .kept)
@@ -25,20 +16,11 @@ shared-slice-read-new c = let s = c .before .before .before .before .before in o
 shared-slice-read-new-2 : tie.Need-shared-slice-read-new-2
 shared-slice-read-new-2 c = let s = c .before .before .before .before .before .before in omega (arith, kept-length (s .args .m .now) (s .pre .0 .kept), s .pre .0 .kept)
 
-add-new-2 : tie.Need-add-new-2
-add-new-2 c = search needs
-
 shared-slice-read-new-3 : tie.Need-shared-slice-read-new-3
 shared-slice-read-new-3 c = let s = c .before .before .before .before .before .before .before in omega (arith, kept-length (s .args .m .now) (s .pre .0 .kept), s .pre .0 .kept)
 
-add-new-3 : tie.Need-add-new-3
-add-new-3 c = search needs
-
 shared-slice-read-new-4 : tie.Need-shared-slice-read-new-4
 shared-slice-read-new-4 c = let s = c .before .before .before .before .before .before .before .before in omega (arith, kept-length (s .args .m .now) (s .pre .0 .kept), s .pre .0 .kept)
-
-new-requires : tie.Need-new-requires
-new-requires c κs = search needs
 
 returns : tie.Need-returns
 unfolding entryAt
@@ -48,15 +30,15 @@ pub message-spec : {M : Type 1} → statement M
 message-spec =
     tie.close
     (tie.spec
-    route-place-requires
+    (λ c κs. search needs)
     capacity-requires
-    body-place-requires
-    add-new
+    (λ c κs. search needs)
+    (λ c. search needs)
     shared-slice-read-new
     shared-slice-read-new-2
-    add-new-2
+    (λ c. search needs)
     shared-slice-read-new-3
-    add-new-3
+    (λ c. search needs)
     shared-slice-read-new-4
-    new-requires
+    (λ c κs. search needs)
     returns)

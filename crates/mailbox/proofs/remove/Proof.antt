@@ -8,15 +8,6 @@ use borrow.Author.Needs.{needs}
 use Rattle.mailbox.proofs.remove.Statement.{statement}
 use Rattle.mailbox.proofs.remove.Tie as tie
 
-add-cut : tie.Need-add-cut
-add-cut c = search needs
-
-cut-requires : tie.Need-cut-requires
-cut-requires c κs = search needs
-
-same-length : tie.Need-same-length
-same-length c = search needs
-
 returns : tie.Need-returns
 returns c =
     let s = c .before .before .before .before .before in
@@ -25,4 +16,4 @@ returns c =
     ∙ ap (mailBytes (capacityOf m)) (sym (removeAt-without (s .args .k) (entriesOf m) (omega (arith, length-entries m, s .pre .inside))))
 
 pub remove-spec : {M : Type 1} → statement M
-remove-spec = tie.close (tie.spec add-cut cut-requires same-length returns)
+remove-spec = tie.close (tie.spec (λ c. search needs) (λ c κs. search needs) (λ c. search needs) returns)

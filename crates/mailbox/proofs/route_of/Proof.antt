@@ -7,20 +7,11 @@ use native.Mathlib.Omega.{arith}
 use Rattle.mailbox.proofs.route_of.Statement.{statement}
 use Rattle.mailbox.proofs.route_of.Tie as tie
 
-route-place-requires : tie.Need-route-place-requires
-route-place-requires c κs = search needs
-
 shared-slice-read-t5 : tie.Need-shared-slice-read-t5
 shared-slice-read-t5 c = let s = c .before .before .before in omega (arith, kept-length (s .args .m .now) (s .pre .kept), s .pre .kept)
 
-add-t6 : tie.Need-add-t6
-add-t6 c = search needs
-
 shared-slice-read-t8 : tie.Need-shared-slice-read-t8
 shared-slice-read-t8 c = let s = c .before .before .before .before in omega (arith, kept-length (s .args .m .now) (s .pre .kept), s .pre .kept)
-
-add-t9 : tie.Need-add-t9
-add-t9 c = search needs
 
 shared-slice-read-t11 : tie.Need-shared-slice-read-t11
 shared-slice-read-t11 c = let s = c .before .before .before .before .before in omega (arith, kept-length (s .args .m .now) (s .pre .kept), s .pre .kept)
@@ -33,10 +24,10 @@ pub route-of-spec : {M : Type 1} → statement M
 route-of-spec =
     tie.close
     (tie.spec
-    route-place-requires
+    (λ c κs. search needs)
     shared-slice-read-t5
-    add-t6
+    (λ c. search needs)
     shared-slice-read-t8
-    add-t9
+    (λ c. search needs)
     shared-slice-read-t11
     returns)

@@ -12,9 +12,6 @@ use Rattle.mailbox.proofs.sized.Tie as tie
 returns : tie.Need-returns
 returns c = sym (short-unsized (c .before .before .args .m .now) (c .if1 .taken))
 
-capacity-requires : tie.Need-capacity-requires
-capacity-requires c κs = search needs
-
 size-requires : tie.Need-size-requires
 size-requires c κs =
     let m = c .before .before .before .args .m .now in
@@ -30,6 +27,6 @@ sized-spec =
     tie.close
     (tie.spec
     returns
-    capacity-requires
+    (λ c κs. search needs)
     size-requires
     returns-2)

@@ -22,9 +22,6 @@ member-zeros k t l low =
     ∙ ap (λ (b : Bool). member t l || b) (all-member (λ b. eqb b 0) t (replicate k 0) (all-zeros k) (ne-eqb t 0 (λ z. omega (arith, z, low))))
     ∙ or-false (member t l)
 
-row-has-requires : tie.Need-row-has-requires
-row-has-requires c κs = search needs
-
 returns : tie.Need-returns
 unfolding itemNames
 returns c =
@@ -35,4 +32,4 @@ returns c =
     rw (c .row-has .ensures) (ap (λ (b : Bool). eqb (a .i .holder) (a .t) || b) row)
 
 pub item-names-spec : {M : Type 1} → statement M
-item-names-spec = tie.close (tie.spec row-has-requires returns)
+item-names-spec = tie.close (tie.spec (λ c κs. search needs) returns)

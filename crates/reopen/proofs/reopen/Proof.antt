@@ -9,9 +9,6 @@ use Rattle.reopen.proofs.reopen.Tie as tie
 may-reopen-requires : tie.Need-may-reopen-requires
 may-reopen-requires c κs = c .before .before .before .pre
 
-same-length : tie.Need-same-length
-same-length c = search needs
-
 returns : tie.Need-returns
 unfolding first
 returns c =
@@ -23,9 +20,6 @@ session-requires c κs = c .before .before .before .before .before .before .pre 
 
 put-session-requires : tie.Need-put-session-requires
 put-session-requires c κs = c .before .before .before .before .before .before .before .before .before .pre .1
-
-same-length-2 : tie.Need-same-length-2
-same-length-2 c = search needs
 
 returns-2 : tie.Need-returns-2
 unfolding first
@@ -39,9 +33,9 @@ reopen-spec =
     tie.close
     (tie.spec
     may-reopen-requires
-    same-length
+    (λ c. search needs)
     returns
     session-requires
     put-session-requires
-    same-length-2
+    (λ c. search needs)
     returns-2)

@@ -50,18 +50,6 @@ acted c =
 delivered-requires : tie.Need-delivered-requires
 delivered-requires c κs = kept (c .before)
 
-step-refusal-requires : tie.Need-step-refusal-requires
-step-refusal-requires c κs = search needs
-
-refused-requires : tie.Need-refused-requires
-refused-requires c κs = search needs
-
-same-length : tie.Need-same-length
-same-length c = search needs
-
-same-length-2 : tie.Need-same-length-2
-same-length-2 c = search needs
-
 returns : tie.Need-returns
 returns c =
     let s = c .before .before .before .before .before .before .before .before .before in
@@ -82,12 +70,6 @@ commit-item-requires c κs =
     let is = item-acts (senior (s .args .table .now)) (s .args .verb) (s .args .t) (s .args .x) (s .args .table .now) entries (eq-eqb (s .args .verb) 3 (c .before .before .before .before .before .if2 .taken)) in
     (has-session (s .args .t) (s .args .x) (s .args .table .now) (s .args .mail .now) j, has-item (s .args .t) (s .args .x) (s .args .table .now) (s .args .mail .now) j, rw (received (c .before .before), c .before .before .before .before .before .before .before .before .before .before .delivered .ensures) (rw (is) at formed), kept (c .before .before .before .before .before .before .before .before .before .before .before .before), c .before .before .item-receives .ensures .1)
 
-same-length-3 : tie.Need-same-length-3
-same-length-3 c = search needs
-
-same-length-4 : tie.Need-same-length-4
-same-length-4 c = search needs
-
 returns-2 : tie.Need-returns-2
 returns-2 c =
     let s = c .before .before .before .before .before .before .before .before .before .before .before .before .before .before .before .before .before .before .before in
@@ -105,12 +87,6 @@ commit-session-requires c κs =
     let s = c .before .before .before .before .before .before .before .before .before .before .before .before .before .before in
     (has-session (s .args .t) (s .args .x) (s .args .table .now) (s .args .mail .now) (s .pre .2), kept (c .before .before .before .before .before .before .before .before .before .before .before .before), omega (arith, acted (c .before .before)))
 
-same-length-5 : tie.Need-same-length-5
-same-length-5 c = search needs
-
-same-length-6 : tie.Need-same-length-6
-same-length-6 c = search needs
-
 returns-3 : tie.Need-returns-3
 returns-3 c =
     let s = c .before .before .before .before .before .before .before .before .before .before .before .before .before .before .before .before .before .before .before in
@@ -119,4 +95,4 @@ returns-3 c =
     c .before .before .before .before .commit-session .ensures (sessionActs (senior (s .args .table .now)) (s .args .verb) (s .args .t) (s .args .x) (session (s .args .table .now) (s .args .t)) (getD entries (c .before .before .before .before .before .before .before .before .before .before .before .before .before .before .before .delivered .result) unused)) (c .before .before .before .before .before .before .before .session-acts .ensures) ∙ sym (acted-concluded (senior (s .args .table .now)) (s .args .verb) (s .args .t) (s .args .x) (s .args .table .now) (s .args .mail .now) (none (c .before .before .before .before .before .before .before .before .before .before .before)) ∙ rw (is, ← c .before .before .before .before .before .before .before .before .before .before .before .before .before .before .before .delivered .ensures) refl)
 
 pub act-spec : {M : Type 1} → statement M
-act-spec = tie.close (tie.spec delivered-requires step-refusal-requires refused-requires same-length same-length-2 returns item-receives-requires commit-item-requires same-length-3 same-length-4 returns-2 session-acts-requires commit-session-requires same-length-5 same-length-6 returns-3)
+act-spec = tie.close (tie.spec delivered-requires (λ c κs. search needs) (λ c κs. search needs) (λ c. search needs) (λ c. search needs) returns item-receives-requires commit-item-requires (λ c. search needs) (λ c. search needs) returns-2 session-acts-requires commit-session-requires (λ c. search needs) (λ c. search needs) returns-3)

@@ -5,9 +5,6 @@ use borrow.Author.Needs.{needs}
 use Rattle.step.proofs.closes.Statement.{statement}
 use Rattle.step.proofs.closes.Tie as tie
 
-cycle-length-requires : tie.Need-cycle-length-requires
-cycle-length-requires c κs = search needs
-
 returns : tie.Need-returns
 returns c = rw (← c .before .cycle-length .ensures, eq-eqb (c .before .cycle-length .result) 0 (c .if1 .taken)) refl
 
@@ -15,4 +12,4 @@ returns-2 : tie.Need-returns-2
 returns-2 c = rw (← c .before .cycle-length .ensures, ne-eqb (c .before .cycle-length .result) 0 (c .if1 .left)) refl
 
 pub closes-spec : {M : Type 1} → statement M
-closes-spec = tie.close (tie.spec cycle-length-requires returns returns-2)
+closes-spec = tie.close (tie.spec (λ c κs. search needs) returns returns-2)

@@ -15,15 +15,6 @@ queue-whole c =
     let s = c in
     sym (length-map (s .args .r .item .queue) (λ v. v)) ∙ s .good .1 .1 .1 .0 .1 .1 .0 .1 .1 .1 .1 .0 .1 .0 .1
 
-make-room-requires : tie.Need-make-room-requires
-make-room-requires c κs = search needs
-
-refused-requires : tie.Need-refused-requires
-refused-requires c κs = search needs
-
-same-length : tie.Need-same-length
-same-length c = search needs
-
 returns : tie.Need-returns
 returns c w e =
     let s = c .before .before .before .before .before .before .before .before .before .before in
@@ -35,12 +26,6 @@ post-requires c κs =
     let s = c .before .before .before .before .before .before .before .before .before .before in
     has-room (s .args .mail .now) (s .args .k) _ (c .before .before .before .before .make-room .ensures) (s .pre .3) (not-false _ (c .before .if1 .left)) _ refl (s .pre .4)
 
-put-item-requires : tie.Need-put-item-requires
-put-item-requires c κs = search needs
-
-cast-answer-of : tie.Need-cast-answer-of
-cast-answer-of c = search needs
-
 answer-of-requires : tie.Need-answer-of-requires
 answer-of-requires c κs =
     let s = c .before .before .before .before .before .before .before .before .before .before .before .before .before .before .before .before .before .before in
@@ -49,12 +34,6 @@ answer-of-requires c κs =
     let i = s .args .r .item in
     let put = c .before .before .before .put-item .ensures in
     (record { sized = rw (put) (sized-withItem t (p .1 .sized) (s .args .x) (p .1 .low) (p .1 .high) i (queue-whole s)); formed = rw (put) (p .2) }, p .0 .low, rw (put, sessionsOf-withItem t (p .1 .sized) (s .args .x) (p .1 .low) (p .1 .high) i (queue-whole s)) (p .0 .high))
-
-same-length-2 : tie.Need-same-length-2
-same-length-2 c = search needs
-
-same-length-3 : tie.Need-same-length-3
-same-length-3 c = search needs
 
 returns-2 : tie.Need-returns-2
 returns-2 c w e =
@@ -66,14 +45,14 @@ pub commit-item-spec : {M : Type 1} → statement M
 commit-item-spec =
     tie.close
     (tie.spec
-    make-room-requires
-    refused-requires
-    same-length
+    (λ c κs. search needs)
+    (λ c κs. search needs)
+    (λ c. search needs)
     returns
     post-requires
-    put-item-requires
-    cast-answer-of
+    (λ c κs. search needs)
+    (λ c. search needs)
     answer-of-requires
-    same-length-2
-    same-length-3
+    (λ c. search needs)
+    (λ c. search needs)
     returns-2)

@@ -8,15 +8,6 @@ use borrow.Author.Needs.{needs}
 use Rattle.step.proofs.commit_session.Statement.{statement}
 use Rattle.step.proofs.commit_session.Tie as tie
 
-make-room-requires : tie.Need-make-room-requires
-make-room-requires c κs = search needs
-
-refused-requires : tie.Need-refused-requires
-refused-requires c κs = search needs
-
-same-length : tie.Need-same-length
-same-length c = search needs
-
 returns : tie.Need-returns
 returns c w e =
     let s = c .before .before .before .before .before .before .before .before .before .before in
@@ -28,21 +19,6 @@ post-requires c κs =
     let s = c .before .before .before .before .before .before .before .before .before .before in
     has-room (s .args .mail .now) (s .args .k) _ (c .before .before .before .before .make-room .ensures) (s .pre .1) (not-false _ (c .before .if1 .left)) _ refl (s .pre .2)
 
-put-session-requires : tie.Need-put-session-requires
-put-session-requires c κs = search needs
-
-cast-accepted : tie.Need-cast-accepted
-cast-accepted c = search needs
-
-accepted-requires : tie.Need-accepted-requires
-accepted-requires c κs = search needs
-
-same-length-2 : tie.Need-same-length-2
-same-length-2 c = search needs
-
-same-length-3 : tie.Need-same-length-3
-same-length-3 c = search needs
-
 returns-2 : tie.Need-returns-2
 returns-2 c w e =
     let s = c .before .before .before .before .before .before .before .before .before .before .before .before .before .before .before .before .before .before in
@@ -53,14 +29,14 @@ pub commit-session-spec : {M : Type 1} → statement M
 commit-session-spec =
     tie.close
     (tie.spec
-    make-room-requires
-    refused-requires
-    same-length
+    (λ c κs. search needs)
+    (λ c κs. search needs)
+    (λ c. search needs)
     returns
     post-requires
-    put-session-requires
-    cast-accepted
-    accepted-requires
-    same-length-2
-    same-length-3
+    (λ c κs. search needs)
+    (λ c. search needs)
+    (λ c κs. search needs)
+    (λ c. search needs)
+    (λ c. search needs)
     returns-2)

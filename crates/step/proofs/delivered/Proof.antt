@@ -8,12 +8,6 @@ use borrow.Author.Needs.{needs}
 use Rattle.step.proofs.delivered.Statement.{statement}
 use Rattle.step.proofs.delivered.Tie as tie
 
-earliest-requires : tie.Need-earliest-requires
-earliest-requires c κs = search needs
-
-earliest-requires-2 : tie.Need-earliest-requires-2
-earliest-requires-2 c κs = search needs
-
 count-requires : tie.Need-count-requires
 count-requires c κs =
     let s = c .before .before in
@@ -32,4 +26,4 @@ unfolding delivered
 returns-3 c = c .count .ensures ∙ sym (length-entries (c .before .before .before .args .mail .now)) ∙ rw (ne-eqb _ _ (c .before .match .rest .0 .1), ne-eqb _ _ (c .before .match .rest .1)) refl
 
 pub delivered-spec : {M : Type 1} → statement M
-delivered-spec = tie.close (tie.spec earliest-requires earliest-requires-2 count-requires returns returns-2 returns-3)
+delivered-spec = tie.close (tie.spec (λ c κs. search needs) (λ c κs. search needs) count-requires returns returns-2 returns-3)

@@ -12,14 +12,8 @@ use Rattle.step.proofs.Acting.{item-sends-few}
 use Rattle.step.proofs.item_receives.Statement.{statement}
 use Rattle.step.proofs.item_receives.Tie as tie
 
-item-requires : tie.Need-item-requires
-item-requires c κs = search needs
-
 ranks-requires : tie.Need-ranks-requires
 ranks-requires c κs = c .before .before .before .pre .item .sized
-
-message-to-item-requires : tie.Need-message-to-item-requires
-message-to-item-requires c κs = search needs
 
 receive-requires : tie.Need-receive-requires
 receive-requires c κs = rw (c .before .before .item .ensures) (c .before .before .before .before .before .pre .packed)
@@ -33,4 +27,4 @@ returns c =
     (does, omega (arith, ap (λ (r : ItemStep). r .outbox .n) does, item-sends-few (senior (s .args .table .now)) (s .args .x) (s .args .table .now) e (s .pre .packed)))
 
 pub item-receives-spec : {M : Type 1} → statement M
-item-receives-spec = tie.close (tie.spec item-requires ranks-requires message-to-item-requires receive-requires returns)
+item-receives-spec = tie.close (tie.spec (λ c κs. search needs) ranks-requires (λ c κs. search needs) receive-requires returns)

@@ -13,9 +13,6 @@ count-requires c κs =
     let s = c .before in
     omega (arith, kept-length (s .args .mail .now) (s .pre))
 
-sub-result : tie.Need-sub-result
-sub-result c = search needs
-
 returns : tie.Need-returns
 returns c =
     let s = c .before .before .before in
@@ -31,4 +28,4 @@ returns-2 c =
     rw (removeAt-past (s .args .k) (entriesOf m) (omega (arith, c .before .count .ensures))) (c .before .count .ensures ∙ sym n)
 
 pub left-spec : {M : Type 1} → statement M
-left-spec = tie.close (tie.spec count-requires sub-result returns returns-2)
+left-spec = tie.close (tie.spec count-requires (λ c. search needs) returns returns-2)

@@ -17,29 +17,17 @@ capacity-requires c κs =
     let s = c .before .before in
     omega (arith, MailLaws.kept-length (s .args .mail .now) (s .pre .0))
 
-left-requires : tie.Need-left-requires
-left-requires c κs = search needs
-
 add-if1 : tie.Need-add-if1
 add-if1 c =
     let s = c .before .before .before .before .before in
     let m = s .args .mail .now in
     omega (arith, c .left .ensures, removeAt-le (s .args .k) (entriesOf m), MailLaws.length-entries m, s .pre .0 .fits, s .pre .0 .high, s .pre .1)
 
-same-length : tie.Need-same-length
-same-length c = search needs
-
 returns : tie.Need-returns
 returns c =
     let s = c .before .before .before .before .before .before in
     let m = s .args .mail .now in
     rw (lt-ltb (capacityOf m) (length (removeAt (s .args .k) (entriesOf m)) + s .args .n) (omega (arith, c .if1 .taken, c .before .before .before .capacity .ensures, c .before .left .ensures))) refl
-
-take-requires : tie.Need-take-requires
-take-requires c κs = search needs
-
-same-length-2 : tie.Need-same-length-2
-same-length-2 c = search needs
 
 returns-2 : tie.Need-returns-2
 returns-2 c =
@@ -48,4 +36,4 @@ returns-2 c =
     rw (le-ltb (capacityOf m) (length (removeAt (s .args .k) (entriesOf m)) + s .args .n) (omega (arith, c .before .before .before .before .if1 .left, c .before .before .before .before .before .before .before .capacity .ensures, c .before .before .before .before .before .left .ensures)), c .before .before .take .ensures) refl
 
 pub make-room-spec : {M : Type 1} → statement M
-make-room-spec = tie.close (tie.spec capacity-requires left-requires add-if1 same-length returns take-requires same-length-2 returns-2)
+make-room-spec = tie.close (tie.spec capacity-requires (λ c κs. search needs) add-if1 (λ c. search needs) returns (λ c κs. search needs) (λ c. search needs) returns-2)

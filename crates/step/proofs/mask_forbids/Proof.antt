@@ -4,11 +4,8 @@ use borrow.Author.Needs.{needs}
 use Rattle.step.proofs.mask_forbids.Statement.{statement}
 use Rattle.step.proofs.mask_forbids.Tie as tie
 
-contains-requires : tie.Need-contains-requires
-contains-requires c κs = search needs
-
 returns : tie.Need-returns
 returns c = rw (c .contains .ensures) refl
 
 pub mask-forbids-spec : {M : Type 1} → statement M
-mask-forbids-spec = tie.close (tie.spec contains-requires returns)
+mask-forbids-spec = tie.close (tie.spec (λ c κs. search needs) returns)

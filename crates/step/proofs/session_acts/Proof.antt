@@ -14,15 +14,6 @@ use Rattle.step.proofs.session_acts.Tie as tie
 inside : (c : tie.At-match-rest) → c .before .before .before .args .k < countOf (c .before .before .before .args .mail .now)
 inside c = c .before .before .before .pre .found (c .match .rest .0 .1) (c .match .rest .1)
 
-session-requires : tie.Need-session-requires
-session-requires c κs = search needs
-
-request-requires : tie.Need-request-requires
-request-requires c κs = search needs
-
-session-requires-2 : tie.Need-session-requires-2
-session-requires-2 c κs = search needs
-
 release-requires : tie.Need-release-requires
 release-requires c κs =
     let s = c .before .before .before .before in
@@ -50,4 +41,4 @@ returns-3 c =
 
 pub session-acts-spec : {M : Type 1} → statement M
 session-acts-spec =
-    tie.close (tie.spec session-requires request-requires session-requires-2 release-requires session-receives-requires returns returns-2 returns-3)
+    tie.close (tie.spec (λ c κs. search needs) (λ c κs. search needs) (λ c κs. search needs) release-requires session-receives-requires returns returns-2 returns-3)

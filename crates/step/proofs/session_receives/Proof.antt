@@ -12,14 +12,8 @@ use Rattle.step.proofs.Acting.{session-sends-few}
 use Rattle.step.proofs.session_receives.Statement.{statement}
 use Rattle.step.proofs.session_receives.Tie as tie
 
-session-requires : tie.Need-session-requires
-session-requires c κs = search needs
-
 ranks-requires : tie.Need-ranks-requires
 ranks-requires c κs = c .before .before .before .pre .session .sized
-
-message-to-session-requires : tie.Need-message-to-session-requires
-message-to-session-requires c κs = search needs
 
 receive-requires : tie.Need-receive-requires
 receive-requires c κs = rw (c .message-to-session .ensures) (c .before .before .before .before .before .pre .deliverable)
@@ -34,4 +28,4 @@ returns c =
     (does, omega (arith, ap (λ (r : SessionStep). r .outbox .n) does, few))
 
 pub session-receives-spec : {M : Type 1} → statement M
-session-receives-spec = tie.close (tie.spec session-requires ranks-requires message-to-session-requires receive-requires returns)
+session-receives-spec = tie.close (tie.spec (λ c κs. search needs) ranks-requires (λ c κs. search needs) receive-requires returns)

@@ -7,12 +7,6 @@ use borrow.Author.Needs.{needs}
 use Rattle.step.proofs.step_refusal.Statement.{statement}
 use Rattle.step.proofs.step_refusal.Tie as tie
 
-session-requires : tie.Need-session-requires
-session-requires c κs = search needs
-
-stage-forbids-requires : tie.Need-stage-forbids-requires
-stage-forbids-requires c κs = search needs
-
 mask-forbids-requires : tie.Need-mask-forbids-requires
 mask-forbids-requires c κs =
     let s = c .before .before .before .before in
@@ -23,15 +17,6 @@ count-requires c κs =
     let s = c .before .before .before .before .before in
     mail-head (s .args .t) (s .args .x) (s .args .table .now) (s .args .mail .now) (s .pre .0)
 
-cause-requires : tie.Need-cause-requires
-cause-requires c κs = search needs
-
-cause-requires-2 : tie.Need-cause-requires-2
-cause-requires-2 c κs = search needs
-
-cause-requires-3 : tie.Need-cause-requires-3
-cause-requires-3 c κs = search needs
-
 returns : tie.Need-returns
 unfolding first
 returns c =
@@ -39,4 +24,4 @@ returns c =
     rw (c .cause3 .ensures, c .before .cause2 .ensures, c .before .before .cause .ensures, c .before .before .before .before .before .stage-forbids .ensures, c .before .before .before .before .mask-forbids .ensures, c .before .before .before .before .before .before .session .ensures, c .before .before .before .count .ensures, ← length-entries (s .args .mail .now), s .pre .1) refl
 
 pub step-refusal-spec : {M : Type 1} → statement M
-step-refusal-spec = tie.close (tie.spec session-requires stage-forbids-requires mask-forbids-requires count-requires cause-requires cause-requires-2 cause-requires-3 returns)
+step-refusal-spec = tie.close (tie.spec (λ c κs. search needs) (λ c κs. search needs) mask-forbids-requires count-requires (λ c κs. search needs) (λ c κs. search needs) (λ c κs. search needs) returns)

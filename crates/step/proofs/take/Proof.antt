@@ -13,9 +13,6 @@ count-requires c κs =
     let s = c .before .before in
     omega (arith, kept-length (s .args .mail .now) (s .pre))
 
-same-length : tie.Need-same-length
-same-length c = search needs
-
 returns : tie.Need-returns
 returns c =
     let s = c .before .before .before .before in
@@ -25,11 +22,8 @@ returns c =
 remove-requires : tie.Need-remove-requires
 remove-requires c κs = record { kept = c .before .before .before .before .before .pre; inside = omega (arith, c .before .before .count .ensures) }
 
-same-length-2 : tie.Need-same-length-2
-same-length-2 c = search needs
-
 returns-2 : tie.Need-returns-2
 returns-2 c = c .before .before .remove .ensures
 
 pub take-spec : {M : Type 1} → statement M
-take-spec = tie.close (tie.spec count-requires same-length returns remove-requires same-length-2 returns-2)
+take-spec = tie.close (tie.spec count-requires (λ c. search needs) returns remove-requires (λ c. search needs) returns-2)

@@ -10,9 +10,6 @@ use Rattle.table.proofs.holder.Tie as tie
 sessions-requires : tie.Need-sessions-requires
 sessions-requires c κs = header-fits (c .before .args .t .now) (c .before .pre .sized)
 
-item-place-requires : tie.Need-item-place-requires
-item-place-requires c κs = search needs
-
 shared-slice-read-result : tie.Need-shared-slice-read-result
 shared-slice-read-result c =
     let start = c .before .before .before .before in
@@ -26,4 +23,4 @@ returns c = rw (c .before .item-place .ensures, c .before .before .sessions .ens
 pub holder-spec : {M : Type 1} → statement M
 holder-spec =
     tie.close
-    (tie.spec sessions-requires item-place-requires shared-slice-read-result returns)
+    (tie.spec sessions-requires (λ c κs. search needs) shared-slice-read-result returns)

@@ -10,9 +10,6 @@ use Rattle.table.proofs.item.Tie as tie
 sessions-requires : tie.Need-sessions-requires
 sessions-requires c κs = header-fits (c .before .args .t .now) (c .before .pre .sized)
 
-item-place-requires : tie.Need-item-place-requires
-item-place-requires c κs = search needs
-
 load-requires : tie.Need-load-requires
 load-requires c κs =
     let start = c .before .before .before in
@@ -25,4 +22,4 @@ returns c = c .load .ensures ∙ rw (c .before .item-place .ensures, c .before .
 
 pub item-spec : {M : Type 1} → statement M
 item-spec =
-    tie.close (tie.spec sessions-requires item-place-requires load-requires returns)
+    tie.close (tie.spec sessions-requires (λ c κs. search needs) load-requires returns)

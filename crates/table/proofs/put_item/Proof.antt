@@ -10,16 +10,10 @@ use Rattle.table.proofs.put_item.Tie as tie
 sessions-requires : tie.Need-sessions-requires
 sessions-requires c κs = header-fits (c .before .before .args .t .now) (c .before .before .pre .sized)
 
-item-place-requires : tie.Need-item-place-requires
-item-place-requires c κs = search needs
-
 store-requires : tie.Need-store-requires
 store-requires c κs =
     let start = c .before .before .before .before .before in
     rw (c .before .item-place .ensures, c .before .before .sessions .ensures) (item-fits (start .args .t .now) (start .pre .sized) (start .args .x) (omega arith) (omega arith))
-
-same-length : tie.Need-same-length
-same-length c = search needs
 
 returns : tie.Need-returns
 unfolding withItem
@@ -28,4 +22,4 @@ returns c = c .before .before .store .ensures ∙ rw (c .before .before .before 
 pub put-item-spec : {M : Type 1} → statement M
 put-item-spec =
     tie.close
-    (tie.spec sessions-requires item-place-requires store-requires same-length returns)
+    (tie.spec sessions-requires (λ c κs. search needs) store-requires (λ c. search needs) returns)

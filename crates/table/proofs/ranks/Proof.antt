@@ -14,18 +14,6 @@ sessions-requires c κs = header-fits (c .before .args .t .now) (c .before .pre)
 items-requires : tie.Need-items-requires
 items-requires c κs = header-fits (c .before .before .args .t .now) (c .before .before .pre)
 
-ranks-place-requires : tie.Need-ranks-place-requires
-ranks-place-requires c κs = search needs
-
-ranks-end-requires : tie.Need-ranks-end-requires
-ranks-end-requires c κs = search needs
-
-sub-result : tie.Need-sub-result
-sub-result c = search needs
-
-part-result-start : tie.Need-part-result-start
-part-result-start c = search needs
-
 part-result-end : tie.Need-part-result-end
 part-result-end c =
     let s = c .before .before .before .before .before in
@@ -47,9 +35,9 @@ ranks-spec =
     (tie.spec
     sessions-requires
     items-requires
-    ranks-place-requires
-    ranks-end-requires
-    sub-result
-    part-result-start
+    (λ c κs. search needs)
+    (λ c κs. search needs)
+    (λ c. search needs)
+    (λ c. search needs)
     part-result-end
     returns)

@@ -7,9 +7,6 @@ use Rattle.table.proofs.Laws.{session-fits}
 use Rattle.table.proofs.session.Statement.{statement}
 use Rattle.table.proofs.session.Tie as tie
 
-session-place-requires : tie.Need-session-place-requires
-session-place-requires c κs = search needs
-
 load-requires : tie.Need-load-requires
 load-requires c κs =
     let start = c .before .before in
@@ -20,4 +17,4 @@ unfolding session
 returns c = c .load .ensures ∙ rw (c .before .session-place .ensures) refl
 
 pub session-spec : {M : Type 1} → statement M
-session-spec = tie.close (tie.spec session-place-requires load-requires returns)
+session-spec = tie.close (tie.spec (λ c κs. search needs) load-requires returns)

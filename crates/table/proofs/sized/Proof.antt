@@ -19,21 +19,6 @@ returns c =
     let M = itemsOf t in
     rw (ne-eqb (length t) (size S M) (λ e. omega arith)) (sym (and-false (between 1 maxSessions S && between 1 maxItems M)))
 
-sessions-requires : tie.Need-sessions-requires
-sessions-requires c κs = search needs
-
-items-requires : tie.Need-items-requires
-items-requires c κs = search needs
-
-cast-result : tie.Need-cast-result
-cast-result c = search needs
-
-cast-result-2 : tie.Need-cast-result-2
-cast-result-2 c = search needs
-
-size-requires : tie.Need-size-requires
-size-requires c κs = search needs
-
 returns-2 : tie.Need-returns-2
 unfolding sized
 returns-2 c = rw (c .size .ensures, c .before .items .ensures, c .before .before .sessions .ensures) refl
@@ -41,4 +26,4 @@ returns-2 c = rw (c .size .ensures, c .before .items .ensures, c .before .before
 pub sized-spec : {M : Type 1} → statement M
 sized-spec =
     tie.close
-    (tie.spec returns sessions-requires items-requires cast-result cast-result-2 size-requires returns-2)
+    (tie.spec returns (λ c κs. search needs) (λ c κs. search needs) (λ c. search needs) (λ c. search needs) (λ c κs. search needs) returns-2)

@@ -10,9 +10,6 @@ use Rattle.table.proofs.waiting.Tie as tie
 sessions-requires : tie.Need-sessions-requires
 sessions-requires c κs = header-fits (c .before .args .t .now) (c .before .pre .sized)
 
-item-place-requires : tie.Need-item-place-requires
-item-place-requires c κs = search needs
-
 add-result : tie.Need-add-result
 add-result c =
     let start = c .before .before .before in
@@ -32,4 +29,4 @@ returns c = rw (c .before .item-place .ensures, c .before .before .sessions .ens
 pub waiting-spec : {M : Type 1} → statement M
 waiting-spec =
     tie.close
-    (tie.spec sessions-requires item-place-requires add-result shared-slice-read-result returns)
+    (tie.spec sessions-requires (λ c κs. search needs) add-result shared-slice-read-result returns)

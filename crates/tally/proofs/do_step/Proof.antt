@@ -7,35 +7,11 @@ use Rattle.tally.proofs.do_step.Tie as tie
 abbrev begin : tie.After-lockmgr-step → tie.Start
 begin c = c .before .before .before .before .before .before .before .before .before
 
-stage-requires : tie.Need-stage-requires
-stage-requires c κs = search needs
-
-cast-lockmgr-step : tie.Need-cast-lockmgr-step
-cast-lockmgr-step c = search needs
-
-cast-lockmgr-step-2 : tie.Need-cast-lockmgr-step-2
-cast-lockmgr-step-2 c = search needs
-
-cast-lockmgr-step-3 : tie.Need-cast-lockmgr-step-3
-cast-lockmgr-step-3 c = search needs
-
-lockmgr-step-requires : tie.Need-lockmgr-step-requires
-lockmgr-step-requires c κs = search needs
-
 stage-requires-2 : tie.Need-stage-requires-2
 stage-requires-2 c κs =
     let d = c .before .before .before .before .before in
     let a = begin d .args in
     formed-after (a .c) (a .table .now) (a .mail .now) (begin d .pre) (d .lockmgr-step .ensures) .records .sized
-
-rolls-back-requires : tie.Need-rolls-back-requires
-rolls-back-requires c κs = search needs
-
-same-length : tie.Need-same-length
-same-length c = search needs
-
-same-length-2 : tie.Need-same-length-2
-same-length-2 c = search needs
 
 returns : tie.Need-returns
 returns c =
@@ -48,13 +24,13 @@ pub do-step-spec : {M : Type 1} → statement M
 do-step-spec =
     tie.close
     (tie.spec
-    stage-requires
-    cast-lockmgr-step
-    cast-lockmgr-step-2
-    cast-lockmgr-step-3
-    lockmgr-step-requires
+    (λ c κs. search needs)
+    (λ c. search needs)
+    (λ c. search needs)
+    (λ c. search needs)
+    (λ c κs. search needs)
     stage-requires-2
-    rolls-back-requires
-    same-length
-    same-length-2
+    (λ c κs. search needs)
+    (λ c. search needs)
+    (λ c. search needs)
     returns)

@@ -21,9 +21,6 @@ returns-2 c =
     let a = c .before .before .before .before .args in
     rw (lt-leb (a .session) (sessionsOf (a .table .now)) (omega (arith, c .before .sessions .ensures)), and-false (leb 1 (a .session))) refl
 
-session-requires : tie.Need-session-requires
-session-requires c κs = search needs
-
 returns-3 : tie.Need-returns-3
 returns-3 c =
     let a = c .before .before .before .before .before .args in
@@ -31,4 +28,4 @@ returns-3 c =
 
 pub stage-spec : {M : Type 1} → statement M
 stage-spec =
-    tie.close (tie.spec returns sessions-requires returns-2 session-requires returns-3)
+    tie.close (tie.spec returns sessions-requires returns-2 (λ c κs. search needs) returns-3)

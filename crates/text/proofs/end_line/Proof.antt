@@ -23,9 +23,6 @@ add-result c =
     let a = c .before .before .before .before .before .before .args in
     let len = length-append (spaced (a .numbers .now)) (lineFeed ∷ []) in omega arith
 
-same-length : tie.Need-same-length
-same-length c = search needs
-
 returns : tie.Need-returns
 returns c =
     let a = c .before .before .before .before .before .before .args in
@@ -35,4 +32,4 @@ returns c =
 
 pub end-line-spec : {M : Type 1} → statement M
 end-line-spec =
-    tie.close (tie.spec put-spaced-requires slice-write-out add-result same-length returns)
+    tie.close (tie.spec put-spaced-requires slice-write-out add-result (λ c. search needs) returns)

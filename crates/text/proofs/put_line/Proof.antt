@@ -18,9 +18,6 @@ end-line-requires c κs =
     let p = c .before .before .before .put-decimal in
     let len = length-append (decimal (a .first)) (rest (a .others .now)) in omega (arith, p .ensures .1, p .kept .0)
 
-same-length : tie.Need-same-length
-same-length c = search needs
-
 returns : tie.Need-returns
 returns c =
     let a = c .before .before .before .before .before .before .before .before .before .before .args in
@@ -30,4 +27,4 @@ returns c =
     (splice-then (a .out .now) (a .at) (decimal (a .first)) (rest (a .others .now)) (omega arith) (p .0) (p .1) (e .0), omega (arith, p .1, e .1))
 
 pub put-line-spec : {M : Type 1} → statement M
-put-line-spec = tie.close (tie.spec put-decimal-requires end-line-requires same-length returns)
+put-line-spec = tie.close (tie.spec put-decimal-requires end-line-requires (λ c. search needs) returns)

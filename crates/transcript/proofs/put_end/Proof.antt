@@ -11,15 +11,6 @@ use borrow.Author.Needs.{needs}
 use Rattle.transcript.proofs.put_end.Statement.{statement}
 use Rattle.transcript.proofs.put_end.Tie as tie
 
-slice-aggregate-put-bytes : tie.Need-slice-aggregate-put-bytes
-slice-aggregate-put-bytes c = search needs
-
-put-bytes-requires : tie.Need-put-bytes-requires
-put-bytes-requires c κs = search needs
-
-slice-aggregate-end-line : tie.Need-slice-aggregate-end-line
-slice-aggregate-end-line c = search needs
-
 end-line-requires : tie.Need-end-line-requires
 end-line-requires c κs =
     let s = c .before .before .before .before .before .before .before .before in
@@ -27,9 +18,6 @@ end-line-requires c κs =
     let p = c .before .before .before .before .put-bytes in
     let short = end-short (a .left) (tallyOf (a .t)) (s .pre .0) (s .pre .1) (s .pre .2) (s .pre .3) in
     omega (arith, p .ensures .1, p .kept .0)
-
-same-length : tie.Need-same-length
-same-length c = search needs
 
 returns : tie.Need-returns
 unfolding endLine ascii
@@ -51,9 +39,9 @@ pub put-end-spec : {M : Type 1} → statement M
 put-end-spec =
     tie.close
     (tie.spec
-    slice-aggregate-put-bytes
-    put-bytes-requires
-    slice-aggregate-end-line
+    (λ c. search needs)
+    (λ c κs. search needs)
+    (λ c. search needs)
     end-line-requires
-    same-length
+    (λ c. search needs)
     returns)

@@ -21,15 +21,6 @@ returns c =
     rw (ne-eqb (length t) (size (countIn t)) (λ e. omega arith))
     (sym (and-false (between 1 maxSessions (sessionsIn t) && between 1 maxItems (itemsIn t) && leb (countIn t) maxSteps)))
 
-shared-slice-read-s : tie.Need-shared-slice-read-s
-shared-slice-read-s c = search needs
-
-shared-slice-read-m : tie.Need-shared-slice-read-m
-shared-slice-read-m c = search needs
-
-get16-requires : tie.Need-get16-requires
-get16-requires c κs = search needs
-
 few : (c : tie.After-get16) → countIn (c .before .before .before .before .before .args .input .now) < 65536
 few c =
     let s = c .before .before .before .before .before in
@@ -56,9 +47,9 @@ well-formed-spec =
     tie.close
     (tie.spec
     returns
-    shared-slice-read-s
-    shared-slice-read-m
-    get16-requires
+    (λ c. search needs)
+    (λ c. search needs)
+    (λ c κs. search needs)
     cast-result
     cast-result-2
     mul-result

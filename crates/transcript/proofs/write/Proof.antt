@@ -38,18 +38,6 @@ lent c = let i = input (c .before .before .before) in omega (arith, c .size .ens
 returns : tie.Need-returns
 returns c = let a = c .before .before .before .args in at-start-short longest (transcript (a .input .now)) (a .out .now) (c .if1 .taken)
 
-well-formed-requires : tie.Need-well-formed-requires
-well-formed-requires c κs = search needs
-
-slice-aggregate-put-bytes : tie.Need-slice-aggregate-put-bytes
-slice-aggregate-put-bytes c = search needs
-
-put-bytes-requires : tie.Need-put-bytes-requires
-put-bytes-requires c κs = search needs
-
-same-length : tie.Need-same-length
-same-length c = search needs
-
 returns-2 : tie.Need-returns-2
 unfolding ascii
 returns-2 c =
@@ -67,17 +55,11 @@ shared-slice-read-size c = let i = input (c .before) in omega arith
 shared-slice-read-size-2 : tie.Need-shared-slice-read-size-2
 shared-slice-read-size-2 c = let i = input (c .before .before) in omega arith
 
-size-requires : tie.Need-size-requires
-size-requires c κs = search needs
-
 array-borrow-prefix-table : tie.Need-array-borrow-prefix-table
 array-borrow-prefix-table c = lent c
 
 slice-aggregate-play : tie.Need-slice-aggregate-play
 slice-aggregate-play c = sym (length-take-le (c .before .size .result) (replicate (Table.size maxSessions maxItems) 0) (omega (arith, lent (c .before))))
-
-slice-aggregate-play-2 : tie.Need-slice-aggregate-play-2
-slice-aggregate-play-2 c = search needs
 
 play-requires : tie.Need-play-requires
 play-requires c κs =
@@ -88,9 +70,6 @@ play-requires c κs =
       length-replicate {A = ℕ} (Mail.size capacity) 0,
       long (e .before),
     )
-
-same-length-2 : tie.Need-same-length-2
-same-length-2 c = search needs
 
 returns-3 : tie.Need-returns-3
 returns-3 c =
@@ -104,17 +83,17 @@ write-spec =
     tie.close
     (tie.spec
     returns
-    well-formed-requires
-    slice-aggregate-put-bytes
-    put-bytes-requires
-    same-length
+    (λ c κs. search needs)
+    (λ c. search needs)
+    (λ c κs. search needs)
+    (λ c. search needs)
     returns-2
     shared-slice-read-size
     shared-slice-read-size-2
-    size-requires
+    (λ c κs. search needs)
     array-borrow-prefix-table
     slice-aggregate-play
-    slice-aggregate-play-2
+    (λ c. search needs)
     play-requires
-    same-length-2
+    (λ c. search needs)
     returns-3)

@@ -3,15 +3,9 @@ use borrow.Author.Needs.{needs}
 use Rattle.waits.proofs.cycle_length.Statement.{statement}
 use Rattle.waits.proofs.cycle_length.Tie as tie
 
-places-requires : tie.Need-places-requires
-places-requires c κs = search needs
-
 cycle-length-at-requires : tie.Need-cycle-length-at-requires
 cycle-length-at-requires c κs =
     let p = c .before .before .before .pre in (record { formed = p .0; read = c .before .places .ensures }, p .1, p .2)
 
-returns : tie.Need-returns
-returns c = search needs
-
 pub cycle-length-spec : {M : Type 1} → statement M
-cycle-length-spec = tie.close (tie.spec places-requires cycle-length-at-requires returns)
+cycle-length-spec = tie.close (tie.spec (λ c κs. search needs) cycle-length-at-requires (λ c. search needs))

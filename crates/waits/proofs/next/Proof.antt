@@ -12,12 +12,6 @@ use Rattle.waits.proofs.next.Tie as tie
 place : (c : tie.Start) → getD (c .args .at .now) (c .args .s - 1) 0 ≡ waitsAt (c .args .t .now) (c .args .s)
 place c = let p = c .pre in place-of (p .0) (c .args .s) (p .1) (p .2)
 
-sub-k : tie.Need-sub-k
-sub-k c = search needs
-
-element-copy-out-item : tie.Need-element-copy-out-item
-element-copy-out-item c = search needs
-
 returns : tie.Need-returns
 returns c =
     let b = c .before .before .before in wait-none (b .args .t .now) (b .args .s) (place b) (c .if1 .taken)
@@ -33,4 +27,4 @@ returns-2 c =
     wait-some (b .args .t .now) (b .args .s) (place b) (c .before .if1 .left) (c .holder .ensures)
 
 pub next-spec : {M : Type 1} → statement M
-next-spec = tie.close (tie.spec sub-k element-copy-out-item returns holder-requires returns-2)
+next-spec = tie.close (tie.spec (λ c. search needs) (λ c. search needs) returns holder-requires returns-2)

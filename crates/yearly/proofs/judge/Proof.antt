@@ -20,9 +20,6 @@ list c = days (c .before .before .before .before .args .input .now) (c .value .r
 allowed : (c : tie.Else2) → consistent (c .before .before .before .before .before .before .before .before .args .input .now) ≡ true
 allowed c = let r = c .before .before .before .consistent in sym (r .ensures) ∙ not-false (r .result) (c .if2 .left)
 
-sized-requires : tie.Need-sized-requires
-sized-requires c κs = search needs
-
 returns : tie.Need-returns
 returns c =
     let r = c .before .sized in
@@ -61,7 +58,7 @@ pub judge-spec : {M : Type 1} → statement M
 judge-spec =
     tie.close
     (tie.spec
-    sized-requires
+    (λ c κs. search needs)
     returns
     value-requires
     consistent-requires

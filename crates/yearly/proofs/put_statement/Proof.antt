@@ -48,9 +48,6 @@ total c =
 rate-requires : tie.Need-rate-requires
 rate-requires c κs = let s = c .before .before .before .before in (total s .0, total s .1, s .sums .ensures .1)
 
-slice-aggregate-put-line : tie.Need-slice-aggregate-put-line
-slice-aggregate-put-line c = search needs
-
 -- the last line is short
 short : (c : tie.After-sums) → length (lastLine (c .sums .result)) ≤ longestLast
 short c = last-short (c .sums .result) (total c .0) (total c .1) (c .sums .ensures .1)
@@ -66,9 +63,6 @@ put-line-requires c κs =
     let d = r .before .before .before .put-days in
     let s = r .before .before .before .before .before in
     omega (arith, ap length (last r), short s, d .ensures .2, d .kept .0, list (s .before) .few, s .before .before .before .before .pre .1)
-
-same-length : tie.Need-same-length
-same-length c = search needs
 
 returns : tie.Need-returns
 returns c =
@@ -99,7 +93,7 @@ put-statement-spec =
     sums-requires
     put-days-requires
     rate-requires
-    slice-aggregate-put-line
+    (λ c. search needs)
     put-line-requires
-    same-length
+    (λ c. search needs)
     returns)

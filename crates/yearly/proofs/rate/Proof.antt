@@ -24,15 +24,6 @@ few c =
     let a = 1000 * c .args .rollbacks in
     (omega (arith, c .pre, div-le-self a (c .args .sessions)), omega (arith, c .pre, mod-lt a (c .pre .0)))
 
-mul-scaled : tie.Need-mul-scaled
-mul-scaled c = search needs
-
-div-quotient : tie.Need-div-quotient
-div-quotient c = search needs
-
-rem-remainder : tie.Need-rem-remainder
-rem-remainder c = search needs
-
 mul-if1 : tie.Need-mul-if1
 mul-if1 c = omega (arith, few c .1)
 
@@ -58,9 +49,9 @@ pub rate-spec : {M : Type 1} → statement M
 rate-spec =
     tie.close
     (tie.spec
-    mul-scaled
-    div-quotient
-    rem-remainder
+    (λ c. search needs)
+    (λ c. search needs)
+    (λ c. search needs)
     mul-if1
     returns
     mul-if2

@@ -4,15 +4,6 @@ use borrow.Author.Needs.{needs}
 use Rattle.yearly.proofs.read_day.Statement.{statement}
 use Rattle.yearly.proofs.read_day.Tie as tie
 
-value-requires : tie.Need-value-requires
-value-requires c κs = search needs
-
-add-value : tie.Need-add-value
-add-value c = search needs
-
-value-requires-2 : tie.Need-value-requires-2
-value-requires-2 c κs = search needs
-
 returns : tie.Need-returns
 returns c =
     let v = c .before .value .ensures in
@@ -20,4 +11,4 @@ returns c =
     (rw (v .0, w .0, c .before .before .before .pre .0 .count) refl, v .1, w .1)
 
 pub read-day-spec : {M : Type 1} → statement M
-read-day-spec = tie.close (tie.spec value-requires add-value value-requires-2 returns)
+read-day-spec = tie.close (tie.spec (λ c κs. search needs) (λ c. search needs) (λ c κs. search needs) returns)

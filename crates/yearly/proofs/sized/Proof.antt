@@ -16,22 +16,10 @@ returns c =
     let t = c .before .before .args .input .now in
     rw (ne-eqb (length t) (size (daysIn t)) (λ e. omega arith)) (sym (and-false (between 1 maxDays (daysIn t))))
 
-value-requires : tie.Need-value-requires
-value-requires c κs = search needs
-
-mul-result : tie.Need-mul-result
-mul-result c = search needs
-
-add-result : tie.Need-add-result
-add-result c = search needs
-
-mul-result-2 : tie.Need-mul-result-2
-mul-result-2 c = search needs
-
 returns-2 : tie.Need-returns-2
 unfolding sized
 returns-2 c = rw (c .value .ensures .0) refl
 
 pub sized-spec : {M : Type 1} → statement M
 sized-spec =
-    tie.close (tie.spec returns value-requires mul-result add-result mul-result-2 returns-2)
+    tie.close (tie.spec returns (λ c κs. search needs) (λ c. search needs) (λ c. search needs) (λ c. search needs) returns-2)

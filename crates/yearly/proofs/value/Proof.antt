@@ -6,12 +6,6 @@ use Rattle.buffer.proofs.Laws.{fromBytes-slice-bound}
 use Rattle.yearly.proofs.value.Statement.{statement}
 use Rattle.yearly.proofs.value.Tie as tie
 
-mul-get16 : tie.Need-mul-get16
-mul-get16 c = search needs
-
-get16-requires : tie.Need-get16-requires
-get16-requires c κs = search needs
-
 returns : tie.Need-returns
 returns c =
     let s = c .before .before in
@@ -20,4 +14,4 @@ returns c =
     (c .get16 .ensures, omega (arith, c .get16 .ensures))
 
 pub value-spec : {M : Type 1} → statement M
-value-spec = tie.close (tie.spec mul-get16 get16-requires returns)
+value-spec = tie.close (tie.spec (λ c. search needs) (λ c κs. search needs) returns)

@@ -26,20 +26,8 @@ refused c =
 returns : tie.Need-returns
 returns c = let a = c .before .before .before .args in at-start-short longest (Printed.statement (a .input .now)) (a .out .now) (c .if1 .taken)
 
-judge-requires : tie.Need-judge-requires
-judge-requires c κs = search needs
-
-cast-put-line : tie.Need-cast-put-line
-cast-put-line c = search needs
-
-slice-aggregate-put-line : tie.Need-slice-aggregate-put-line
-slice-aggregate-put-line c = search needs
-
 put-line-requires : tie.Need-put-line-requires
 put-line-requires c κs = let r = c .before .before in omega (arith, refused r .0, long (r .before .before))
-
-same-length : tie.Need-same-length
-same-length c = search needs
 
 returns-2 : tie.Need-returns-2
 returns-2 c =
@@ -49,12 +37,6 @@ returns-2 c =
     let e = refused r in
     at-start-long longest (Printed.statement (a .input .now)) (a .out .now) (long (r .before .before)) (omega (arith, e .0, ap length (e .1)))
     (w .0 ∙ ap (splice (a .out .now) 0) (e .1)) (omega (arith, w .1, ap length (e .1)))
-
-put-statement-requires : tie.Need-put-statement-requires
-put-statement-requires c κs = search needs
-
-same-length-2 : tie.Need-same-length-2
-same-length-2 c = search needs
 
 returns-3 : tie.Need-returns-3
 returns-3 c =
@@ -68,12 +50,12 @@ write-spec =
     tie.close
     (tie.spec
     returns
-    judge-requires
-    cast-put-line
-    slice-aggregate-put-line
+    (λ c κs. search needs)
+    (λ c. search needs)
+    (λ c. search needs)
     put-line-requires
-    same-length
+    (λ c. search needs)
     returns-2
-    put-statement-requires
-    same-length-2
+    (λ c κs. search needs)
+    (λ c. search needs)
     returns-3)

@@ -4,11 +4,8 @@ use borrow.Author.Needs.{needs}
 use Rattle.item.proofs.Item.dropped.Statement.{statement}
 use Rattle.item.proofs.Item.dropped.Tie as tie
 
-empty-requires : tie.Need-empty-requires
-empty-requires c κs = search needs
-
 returns : tie.Need-returns
 returns c = rw (c .empty .ensures, ← c .before .pre .zeros) refl
 
 pub dropped-spec : {M : Type 1} → statement M
-dropped-spec = tie.close (tie.spec empty-requires returns)
+dropped-spec = tie.close (tie.spec (λ c κs. search needs) returns)

@@ -10,9 +10,6 @@ use borrow.Author.Needs.{needs}
 use Rattle.item.proofs.Item.granted.Statement.{statement}
 use Rattle.item.proofs.Item.granted.Tie as tie
 
-single-requires : tie.Need-single-requires
-single-requires c κs = search needs
-
 returns : tie.Need-returns
 unfolding granted
 returns c =
@@ -23,4 +20,4 @@ returns c =
     (c .single .ensures)
 
 pub granted-spec : {M : Type 1} → statement M
-granted-spec = tie.close (tie.spec single-requires returns)
+granted-spec = tie.close (tie.spec (λ c κs. search needs) returns)

@@ -10,9 +10,6 @@ use borrow.Author.Needs.{needs}
 use Rattle.item.proofs.Item.handed_over.Statement.{statement}
 use Rattle.item.proofs.Item.handed_over.Tie as tie
 
-single-requires : tie.Need-single-requires
-single-requires c κs = search needs
-
 resends-requires : tie.Need-resends-requires
 resends-requires c κs = (c .before .pre .fits, rw (c .single .ensures) (omega arith))
 
@@ -23,4 +20,4 @@ returns c =
     step-eq _ _ _ (unpacked i) (plain (i .holder) Kind.grant ∷ resends (unpacked i .queue)) (s .pre .zeros) (c .resends .ensures _ (c .before .single .ensures))
 
 pub handed-over-spec : {M : Type 1} → statement M
-handed-over-spec = tie.close (tie.spec single-requires resends-requires returns)
+handed-over-spec = tie.close (tie.spec (λ c κs. search needs) resends-requires returns)

@@ -7,18 +7,6 @@ use borrow.Author.Needs.{needs}
 use Rattle.item.proofs.Item.joined.Statement.{statement}
 use Rattle.item.proofs.Item.joined.Tie as tie
 
-with-requires : tie.Need-with-requires
-with-requires c κs = search needs
-
-empty-requires : tie.Need-empty-requires
-empty-requires c κs = search needs
-
-senior-requires : tie.Need-senior-requires
-senior-requires c κs = search needs
-
-new-requires : tie.Need-new-requires
-new-requires c κs = search needs
-
 push-requires : tie.Need-push-requires
 push-requires c κs = rw (c .before .before .before .empty .ensures) (lit< tt)
 
@@ -41,10 +29,10 @@ pub joined-spec : {M : Type 1} → statement M
 joined-spec =
     tie.close
     (tie.spec
-    with-requires
-    empty-requires
-    senior-requires
-    new-requires
+    (λ c κs. search needs)
+    (λ c κs. search needs)
+    (λ c κs. search needs)
+    (λ c κs. search needs)
     push-requires
     returns
     returns-2)

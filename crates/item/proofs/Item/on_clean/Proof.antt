@@ -16,21 +16,9 @@ use borrow.Author.Needs.{needs}
 use Rattle.item.proofs.Item.on_clean.Statement.{statement}
 use Rattle.item.proofs.Item.on_clean.Tie as tie
 
-dropped-requires : tie.Need-dropped-requires
-dropped-requires c κs = search needs
-
 returns : tie.Need-returns
 unfolding onClean
 returns c = rw (eq-eqb _ _ (c .before .if1 .taken)) (c .dropped .ensures)
-
-single-requires : tie.Need-single-requires
-single-requires c κs = search needs
-
-place-requires : tie.Need-place-requires
-place-requires c κs = search needs
-
-without-requires : tie.Need-without-requires
-without-requires c κs = search needs
 
 probes-requires : tie.Need-probes-requires
 probes-requires c κs =
@@ -67,11 +55,11 @@ pub on-clean-spec : {M : Type 1} → statement M
 on-clean-spec =
     tie.close
     (tie.spec
-    dropped-requires
+    (λ c κs. search needs)
     returns
-    single-requires
-    place-requires
-    without-requires
+    (λ c κs. search needs)
+    (λ c κs. search needs)
+    (λ c κs. search needs)
     probes-requires
     resends-requires
     returns-2)

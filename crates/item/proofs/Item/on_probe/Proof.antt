@@ -7,22 +7,10 @@ use borrow.Author.Needs.{needs}
 use Rattle.item.proofs.Item.on_probe.Statement.{statement}
 use Rattle.item.proofs.Item.on_probe.Tie as tie
 
-waits-requires : tie.Need-waits-requires
-waits-requires c κs = search needs
-
-senior-requires : tie.Need-senior-requires
-senior-requires c κs = search needs
-
-dropped-requires : tie.Need-dropped-requires
-dropped-requires c κs = search needs
-
 returns : tie.Need-returns
 unfolding onProbe
 returns c =
     rw (← c .before .before .before .waits .ensures, ← c .before .before .senior .ensures, c .before .if1 .taken) (c .dropped .ensures)
-
-single-requires : tie.Need-single-requires
-single-requires c κs = search needs
 
 returns-2 : tie.Need-returns-2
 unfolding onProbe
@@ -31,9 +19,6 @@ returns-2 c =
     let s = b .before .before .before in
     rw (← b .before .waits .ensures, ← b .senior .ensures, c .before .before .if1 .left, eq-eqb _ _ (c .before .if2 .taken))
     (step-eq _ _ _ (unpacked (s .args .self)) _ (s .pre .zeros) (c .single .ensures))
-
-single-requires-2 : tie.Need-single-requires-2
-single-requires-2 c κs = search needs
 
 returns-3 : tie.Need-returns-3
 unfolding onProbe
@@ -47,11 +32,11 @@ pub on-probe-spec : {M : Type 1} → statement M
 on-probe-spec =
     tie.close
     (tie.spec
-    waits-requires
-    senior-requires
-    dropped-requires
+    (λ c κs. search needs)
+    (λ c κs. search needs)
+    (λ c κs. search needs)
     returns
-    single-requires
+    (λ c κs. search needs)
     returns-2
-    single-requires-2
+    (λ c κs. search needs)
     returns-3)

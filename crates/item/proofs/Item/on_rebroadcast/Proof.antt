@@ -10,15 +10,9 @@ use borrow.Author.Needs.{needs}
 use Rattle.item.proofs.Item.on_rebroadcast.Statement.{statement}
 use Rattle.item.proofs.Item.on_rebroadcast.Tie as tie
 
-dropped-requires : tie.Need-dropped-requires
-dropped-requires c κs = search needs
-
 returns : tie.Need-returns
 unfolding onRebroadcast
 returns c = rw (eq-eqb _ _ (c .before .if1 .taken)) (c .dropped .ensures)
-
-empty-requires : tie.Need-empty-requires
-empty-requires c κs = search needs
 
 probes-requires : tie.Need-probes-requires
 probes-requires c κs = (c .before .before .before .before .pre .fits, rw (c .empty .ensures) (omega arith))
@@ -40,4 +34,4 @@ returns-2 c =
 pub on-rebroadcast-spec : {M : Type 1} → statement M
 on-rebroadcast-spec =
     tie.close
-    (tie.spec dropped-requires returns empty-requires probes-requires resends-requires returns-2)
+    (tie.spec (λ c κs. search needs) returns (λ c κs. search needs) probes-requires resends-requires returns-2)

@@ -19,15 +19,9 @@ use borrow.Author.Needs.{needs}
 use Rattle.item.proofs.Item.on_release.Statement.{statement}
 use Rattle.item.proofs.Item.on_release.Tie as tie
 
-dropped-requires : tie.Need-dropped-requires
-dropped-requires c κs = search needs
-
 returns : tie.Need-returns
 unfolding onRelease
 returns c = rw (ne-eqb _ _ (c .before .if1 .taken)) (c .dropped .ensures)
-
-vacant-requires : tie.Need-vacant-requires
-vacant-requires c κs = search needs
 
 returns-2 : tie.Need-returns-2
 unfolding onRelease
@@ -35,15 +29,6 @@ returns-2 c =
     let s = c .before .before .before .before .before .before in
     let i = s .args .self in
     rw (eq-eqb _ _ (c .before .before .before .if1 .left), vacated-none (senior (s .args .ranks .now)) (nextHolder (senior (s .args .ranks .now))) (unpacked i .queue) (queue-length i (s .pre) ∙ c .before .if2 .taken)) (c .vacant .ensures)
-
-next-holder-requires : tie.Need-next-holder-requires
-next-holder-requires c κs = search needs
-
-array-read-n : tie.Need-array-read-n
-array-read-n c = search needs
-
-without-requires : tie.Need-without-requires
-without-requires c κs = search needs
 
 handed-over-requires : tie.Need-handed-over-requires
 handed-over-requires c κs =
@@ -77,12 +62,12 @@ pub on-release-spec : {M : Type 1} → statement M
 on-release-spec =
     tie.close
     (tie.spec
-    dropped-requires
+    (λ c κs. search needs)
     returns
-    vacant-requires
+    (λ c κs. search needs)
     returns-2
-    next-holder-requires
-    array-read-n
-    without-requires
+    (λ c κs. search needs)
+    (λ c. search needs)
+    (λ c κs. search needs)
     handed-over-requires
     returns-3)

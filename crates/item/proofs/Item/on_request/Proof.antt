@@ -5,18 +5,9 @@ use borrow.Author.Needs.{needs}
 use Rattle.item.proofs.Item.on_request.Statement.{statement}
 use Rattle.item.proofs.Item.on_request.Tie as tie
 
-waits-requires : tie.Need-waits-requires
-waits-requires c κs = search needs
-
-dropped-requires : tie.Need-dropped-requires
-dropped-requires c κs = search needs
-
 returns : tie.Need-returns
 unfolding onRequest
 returns c = rw (← c .before .before .waits .ensures, c .before .if1 .taken) (c .dropped .ensures)
-
-granted-requires : tie.Need-granted-requires
-granted-requires c κs = search needs
 
 returns-2 : tie.Need-returns-2
 unfolding onRequest
@@ -34,4 +25,4 @@ returns-3 c =
 pub on-request-spec : {M : Type 1} → statement M
 on-request-spec =
     tie.close
-    (tie.spec waits-requires dropped-requires returns granted-requires returns-2 joined-requires returns-3)
+    (tie.spec (λ c κs. search needs) (λ c κs. search needs) returns (λ c κs. search needs) returns-2 joined-requires returns-3)

@@ -12,15 +12,6 @@ use borrow.Author.Needs.{needs}
 use Rattle.item.proofs.Item.on_withdraw.Statement.{statement}
 use Rattle.item.proofs.Item.on_withdraw.Tie as tie
 
-single-requires : tie.Need-single-requires
-single-requires c κs = search needs
-
-place-requires : tie.Need-place-requires
-place-requires c κs = search needs
-
-without-requires : tie.Need-without-requires
-without-requires c κs = search needs
-
 returns : tie.Need-returns
 unfolding onWithdraw without
 returns c =
@@ -32,4 +23,4 @@ returns c =
 
 pub on-withdraw-spec : {M : Type 1} → statement M
 on-withdraw-spec =
-    tie.close (tie.spec single-requires place-requires without-requires returns)
+    tie.close (tie.spec (λ c κs. search needs) (λ c κs. search needs) (λ c κs. search needs) returns)

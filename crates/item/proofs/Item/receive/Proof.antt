@@ -5,27 +5,6 @@ use borrow.Author.Needs.{needs}
 use Rattle.item.proofs.Item.receive.Statement.{statement}
 use Rattle.item.proofs.Item.receive.Tie as tie
 
-on-request-requires : tie.Need-on-request-requires
-on-request-requires c κs = search needs
-
-on-release-requires : tie.Need-on-release-requires
-on-release-requires c κs = search needs
-
-on-probe-requires : tie.Need-on-probe-requires
-on-probe-requires c κs = search needs
-
-on-clean-requires : tie.Need-on-clean-requires
-on-clean-requires c κs = search needs
-
-on-rebroadcast-requires : tie.Need-on-rebroadcast-requires
-on-rebroadcast-requires c κs = search needs
-
-on-withdraw-requires : tie.Need-on-withdraw-requires
-on-withdraw-requires c κs = search needs
-
-dropped-requires : tie.Need-dropped-requires
-dropped-requires c κs = search needs
-
 returns : tie.Need-returns
 unfolding received
 returns c = rw (c .before .match .keys1) (c .on-request .ensures)
@@ -61,13 +40,13 @@ pub receive-spec : {M : Type 1} → statement M
 receive-spec =
     tie.close
     (tie.spec
-    on-request-requires
-    on-release-requires
-    on-probe-requires
-    on-clean-requires
-    on-rebroadcast-requires
-    on-withdraw-requires
-    dropped-requires
+    (λ c κs. search needs)
+    (λ c κs. search needs)
+    (λ c κs. search needs)
+    (λ c κs. search needs)
+    (λ c κs. search needs)
+    (λ c κs. search needs)
+    (λ c κs. search needs)
     returns
     returns-2
     returns-3

@@ -8,17 +8,8 @@ use borrow.Author.Needs.{needs}
 use Rattle.item.proofs.Item.store.Statement.{statement}
 use Rattle.item.proofs.Item.store.Tie as tie
 
-slice-write-t : tie.Need-slice-write-t
-slice-write-t c = search needs
-
-add-t : tie.Need-add-t
-add-t c = search needs
-
 slice-write-t-2 : tie.Need-slice-write-t-2
 slice-write-t-2 c = simp length-set (omega arith)
-
-add-put-row : tie.Need-add-put-row
-add-put-row c = search needs
 
 put-row-requires : tie.Need-put-row-requires
 put-row-requires c κs = simp length-set (omega arith)
@@ -36,4 +27,4 @@ returns c =
 pub store-spec : {M : Type 1} → statement M
 store-spec =
     tie.close
-    (tie.spec slice-write-t add-t slice-write-t-2 add-put-row put-row-requires same-length returns)
+    (tie.spec (λ c. search needs) (λ c. search needs) slice-write-t-2 (λ c. search needs) put-row-requires same-length returns)

@@ -6,9 +6,6 @@ use borrow.Author.Needs.{needs}
 use Rattle.item.proofs.Item.vacant.Statement.{statement}
 use Rattle.item.proofs.Item.vacant.Tie as tie
 
-empty-requires : tie.Need-empty-requires
-empty-requires c κs = search needs
-
 returns : tie.Need-returns
 returns c =
     let s = c .before in
@@ -16,4 +13,4 @@ returns c =
     rw (c .empty .ensures, packed-eq 0 (i .waiting) (i .queue) [] (s .pre .1) (rw (s .pre .1) at (queue-padded i (s .pre .0)))) refl
 
 pub vacant-spec : {M : Type 1} → statement M
-vacant-spec = tie.close (tie.spec empty-requires returns)
+vacant-spec = tie.close (tie.spec (λ c κs. search needs) returns)

@@ -9,12 +9,6 @@ use Rattle.lists.proofs.Laws.{member-findIndex}
 use Rattle.item.proofs.Item.waits.Statement.{statement}
 use Rattle.item.proofs.Item.waits.Tie as tie
 
-place-requires : tie.Need-place-requires
-place-requires c κs = search needs
-
-cast-result : tie.Need-cast-result
-cast-result c = search needs
-
 returns : tie.Need-returns
 returns c =
     let s = c .before .before in
@@ -24,4 +18,4 @@ returns c =
     rw (c .before .place .ensures, member-findIndex (s .args .t) (unpacked i .queue), full) refl
 
 pub waits-spec : {M : Type 1} → statement M
-waits-spec = tie.close (tie.spec place-requires cast-result returns)
+waits-spec = tie.close (tie.spec (λ c κs. search needs) (λ c. search needs) returns)

@@ -9,18 +9,6 @@ use borrow.Author.Needs.{needs}
 use Rattle.item.proofs.Item.with.Statement.{statement}
 use Rattle.item.proofs.Item.with.Tie as tie
 
-cast-n : tie.Need-cast-n
-cast-n c = search needs
-
-add-self : tie.Need-add-self
-add-self c = search needs
-
-cast-self : tie.Need-cast-self
-cast-self c = search needs
-
-element-write-self : tie.Need-element-write-self
-element-write-self c = search needs
-
 returns : tie.Need-returns
 returns c =
     let i = c .args .t1 in
@@ -29,4 +17,4 @@ returns c =
     packed-eq (i .holder) (i .waiting + 1) _ (l ++ (c .args .t ∷ [])) (omega (arith, length-append l (c .args .t ∷ []), queue-length i f)) (queue-put i f (c .args .t) (c .pre .room))
 
 pub with-spec : {M : Type 1} → statement M
-with-spec = tie.close (tie.spec cast-n add-self cast-self element-write-self returns)
+with-spec = tie.close (tie.spec (λ c. search needs) (λ c. search needs) (λ c. search needs) (λ c. search needs) returns)

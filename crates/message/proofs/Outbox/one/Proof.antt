@@ -7,9 +7,6 @@ use borrow.Author.Needs.{needs}
 use Rattle.message.proofs.Outbox.one.Statement.{statement}
 use Rattle.message.proofs.Outbox.one.Tie as tie
 
-empty-requires : tie.Need-empty-requires
-empty-requires c κs = search needs
-
 push-requires : tie.Need-push-requires
 push-requires c κs = omega (arith, ap (λ (o : Outbox). o .n) (c .empty .ensures))
 
@@ -17,4 +14,4 @@ returns : tie.Need-returns
 returns c = c .push .ensures [] (c .before .empty .ensures)
 
 pub one-spec : {M : Type 1} → statement M
-one-spec = tie.close (tie.spec empty-requires push-requires returns)
+one-spec = tie.close (tie.spec (λ c κs. search needs) push-requires returns)

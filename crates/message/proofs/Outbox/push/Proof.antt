@@ -11,15 +11,6 @@ use borrow.Author.Needs.{needs}
 use Rattle.message.proofs.Outbox.push.Statement.{statement}
 use Rattle.message.proofs.Outbox.push.Tie as tie
 
-mul-m : tie.Need-mul-m
-mul-m c = search needs
-
-element-set-from-m : tie.Need-element-set-from-m
-element-set-from-m c = search needs
-
-add-self : tie.Need-add-self
-add-self c = search needs
-
 returns : tie.Need-returns
 returns c =
     λ l e.
@@ -27,4 +18,4 @@ returns c =
     rw (e, push-cells l (c .args .m) h, length-append l (c .args .m ∷ [])) refl
 
 pub push-spec : {M : Type 1} → statement M
-push-spec = tie.close (tie.spec mul-m element-set-from-m add-self returns)
+push-spec = tie.close (tie.spec (λ c. search needs) (λ c. search needs) (λ c. search needs) returns)

@@ -5,12 +5,9 @@ use borrow.Author.Needs.{needs}
 use Rattle.session.proofs.Session.aborted.Statement.{statement}
 use Rattle.session.proofs.Session.aborted.Tie as tie
 
-single-requires : tie.Need-single-requires
-single-requires c κs = search needs
-
 returns : tie.Need-returns
 unfolding aborted
 returns c = rw (c .before .single .ensures) refl
 
 pub aborted-spec : {M : Type 1} → statement M
-aborted-spec = tie.close (tie.spec single-requires returns)
+aborted-spec = tie.close (tie.spec (λ c κs. search needs) returns)

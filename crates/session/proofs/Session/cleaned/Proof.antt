@@ -5,12 +5,9 @@ use borrow.Author.Needs.{needs}
 use Rattle.session.proofs.Session.cleaned.Statement.{statement}
 use Rattle.session.proofs.Session.cleaned.Tie as tie
 
-to-held-requires : tie.Need-to-held-requires
-to-held-requires c κs = search needs
-
 returns : tie.Need-returns
 unfolding cleaned
 returns c = rw (c .before .to-held .ensures) refl
 
 pub cleaned-spec : {M : Type 1} → statement M
-cleaned-spec = tie.close (tie.spec to-held-requires returns)
+cleaned-spec = tie.close (tie.spec (λ c κs. search needs) returns)

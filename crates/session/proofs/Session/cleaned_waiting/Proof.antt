@@ -9,12 +9,6 @@ use borrow.Author.Needs.{needs}
 use Rattle.session.proofs.Session.cleaned_waiting.Statement.{statement}
 use Rattle.session.proofs.Session.cleaned_waiting.Tie as tie
 
-new-requires : tie.Need-new-requires
-new-requires c κs = search needs
-
-to-held-requires : tie.Need-to-held-requires
-to-held-requires c κs = search needs
-
 push-requires : tie.Need-push-requires
 push-requires c κs =
     let a = c .before .before .args in
@@ -25,4 +19,4 @@ unfolding cleanedWaiting
 returns c = rw (c .before .push .ensures _ (c .before .before .to-held .ensures), c .before .before .before .new .ensures) refl
 
 pub cleaned-waiting-spec : {M : Type 1} → statement M
-cleaned-waiting-spec = tie.close (tie.spec new-requires to-held-requires push-requires returns)
+cleaned-waiting-spec = tie.close (tie.spec (λ c κs. search needs) (λ c κs. search needs) push-requires returns)

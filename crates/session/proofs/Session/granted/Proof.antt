@@ -6,18 +6,9 @@ use borrow.Author.Needs.{needs}
 use Rattle.session.proofs.Session.granted.Statement.{statement}
 use Rattle.session.proofs.Session.granted.Tie as tie
 
-insert-requires : tie.Need-insert-requires
-insert-requires c κs = search needs
-
-empty-requires : tie.Need-empty-requires
-empty-requires c κs = search needs
-
 returns : tie.Need-returns
 unfolding granted
 returns c = rw (eq-eqb _ _ (c .before .before .if1 .taken), c .empty .ensures, c .before .insert .ensures) refl
-
-dropped-requires : tie.Need-dropped-requires
-dropped-requires c κs = search needs
 
 returns-2 : tie.Need-returns-2
 unfolding granted
@@ -25,4 +16,4 @@ returns-2 c = c .dropped .ensures ∙ rw (ne-eqb _ _ (c .before .if1 .left)) ref
 
 pub granted-spec : {M : Type 1} → statement M
 granted-spec =
-    tie.close (tie.spec insert-requires empty-requires returns dropped-requires returns-2)
+    tie.close (tie.spec (λ c κs. search needs) (λ c κs. search needs) returns (λ c κs. search needs) returns-2)

@@ -5,9 +5,6 @@ use Rattle.session.specs.Rules.{junior}
 use Rattle.session.proofs.Session.junior.Statement.{statement}
 use Rattle.session.proofs.Session.junior.Tie as tie
 
-senior-requires : tie.Need-senior-requires
-senior-requires c κs = search needs
-
 returns : tie.Need-returns
 unfolding junior
 returns c = rw (← c .before .senior .ensures, c .if1 .taken) refl
@@ -17,4 +14,4 @@ unfolding junior
 returns-2 c = rw (← c .before .senior .ensures, c .if1 .left) refl
 
 pub junior-spec : {M : Type 1} → statement M
-junior-spec = tie.close (tie.spec senior-requires returns returns-2)
+junior-spec = tie.close (tie.spec (λ c κs. search needs) returns returns-2)

@@ -6,24 +6,6 @@ use borrow.Author.Needs.{needs}
 use Rattle.session.proofs.Session.kept_probe.Statement.{statement}
 use Rattle.session.proofs.Session.kept_probe.Tie as tie
 
-sub-at : tie.Need-sub-at
-sub-at c = search needs
-
-element-copy-out-stored : tie.Need-element-copy-out-stored
-element-copy-out-stored c = search needs
-
-senior-requires : tie.Need-senior-requires
-senior-requires c κs = search needs
-
-element-write-self : tie.Need-element-write-self
-element-write-self c = search needs
-
-empty-requires : tie.Need-empty-requires
-empty-requires c κs = search needs
-
-single-requires : tie.Need-single-requires
-single-requires c κs = search needs
-
 returns : tie.Need-returns
 unfolding keptProbe
 returns c =
@@ -35,9 +17,6 @@ unfolding keptProbe
 returns-2 c =
     rw (← c .before .before .before .senior .ensures, c .before .before .if1 .taken, c .before .empty .ensures, c .if2 .left) refl
 
-dropped-requires : tie.Need-dropped-requires
-dropped-requires c κs = search needs
-
 returns-3 : tie.Need-returns-3
 unfolding keptProbe
 returns-3 c = c .dropped .ensures ∙ rw (← c .before .before .senior .ensures, c .before .if1 .left) refl
@@ -46,13 +25,13 @@ pub kept-probe-spec : {M : Type 1} → statement M
 kept-probe-spec =
     tie.close
     (tie.spec
-    sub-at
-    element-copy-out-stored
-    senior-requires
-    element-write-self
-    empty-requires
-    single-requires
+    (λ c. search needs)
+    (λ c. search needs)
+    (λ c κs. search needs)
+    (λ c. search needs)
+    (λ c κs. search needs)
+    (λ c κs. search needs)
     returns
     returns-2
-    dropped-requires
+    (λ c κs. search needs)
     returns-3)

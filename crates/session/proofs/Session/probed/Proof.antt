@@ -5,15 +5,9 @@ use borrow.Author.Needs.{needs}
 use Rattle.session.proofs.Session.probed.Statement.{statement}
 use Rattle.session.proofs.Session.probed.Tie as tie
 
-junior-requires : tie.Need-junior-requires
-junior-requires c κs = search needs
-
-kept-probe-requires : tie.Need-kept-probe-requires
-kept-probe-requires c κs = search needs
-
 returns : tie.Need-returns
 unfolding probed
 returns c = c .kept-probe .ensures ∙ rw (c .before .junior .ensures) refl
 
 pub probed-spec : {M : Type 1} → statement M
-probed-spec = tie.close (tie.spec junior-requires kept-probe-requires returns)
+probed-spec = tie.close (tie.spec (λ c κs. search needs) (λ c κs. search needs) returns)

@@ -18,13 +18,10 @@ returns-2 c =
     let a = c .before .before .args in
     sym (rank-outside (a .ranks .now) (a .t) (fails _ (λ e. omega (arith, c .if2 .taken, within 1 (length (a .ranks .now)) (a .t) e))))
 
-shared-slice-read-result : tie.Need-shared-slice-read-result
-shared-slice-read-result c = search needs
-
 returns-3 : tie.Need-returns-3
 returns-3 c =
     let a = c .before .before .before .args in
     sym (rank-inside (a .ranks .now) (a .t) (between-intro 1 (length (a .ranks .now)) (a .t) (omega (arith, c .before .before .if1 .left)) (omega (arith, c .before .if2 .left))))
 
 pub rank-spec : {M : Type 1} → statement M
-rank-spec = tie.close (tie.spec returns returns-2 shared-slice-read-result returns-3)
+rank-spec = tie.close (tie.spec returns returns-2 (λ c. search needs) returns-3)

@@ -22,52 +22,10 @@ early (suc (suc (suc n))) h l = absurd (omega arith)
 late : (n : ℕ) → (n ≡ Stage.growing → ⊥) → (n ≡ Stage.waiting → ⊥) → eqb n Stage.growing || eqb n Stage.waiting ≡ false
 late n f g = rw (ne-eqb n Stage.growing f, ne-eqb n Stage.waiting g) refl
 
-granted-requires : tie.Need-granted-requires
-granted-requires c κs = search needs
-
-dropped-requires : tie.Need-dropped-requires
-dropped-requires c κs = search needs
-
 probed-requires : tie.Need-probed-requires
 probed-requires c κs =
     let s = c .before .before .before .before in
     record { initiator = s .pre .initiator (c .before .before .match .keys2); stage = early (s .args .self .stage) (c .before .if1 .left) (c .if2 .taken) }
-
-dropped-requires-2 : tie.Need-dropped-requires-2
-dropped-requires-2 c κs = search needs
-
-resent-requires : tie.Need-resent-requires
-resent-requires c κs = search needs
-
-dropped-requires-3 : tie.Need-dropped-requires-3
-dropped-requires-3 c κs = search needs
-
-aborted-requires : tie.Need-aborted-requires
-aborted-requires c κs = search needs
-
-dropped-requires-4 : tie.Need-dropped-requires-4
-dropped-requires-4 c κs = search needs
-
-cleaned-requires : tie.Need-cleaned-requires
-cleaned-requires c κs = search needs
-
-cleaned-waiting-requires : tie.Need-cleaned-waiting-requires
-cleaned-waiting-requires c κs = search needs
-
-cleaned-victim-requires : tie.Need-cleaned-victim-requires
-cleaned-victim-requires c κs = search needs
-
-dropped-requires-5 : tie.Need-dropped-requires-5
-dropped-requires-5 c κs = search needs
-
-rolled-back-requires : tie.Need-rolled-back-requires
-rolled-back-requires c κs = search needs
-
-dropped-requires-6 : tie.Need-dropped-requires-6
-dropped-requires-6 c κs = search needs
-
-dropped-requires-7 : tie.Need-dropped-requires-7
-dropped-requires-7 c κs = search needs
 
 returns : tie.Need-returns
 unfolding received
@@ -145,21 +103,21 @@ pub receive-spec : {M : Type 1} → statement M
 receive-spec =
     tie.close
     (tie.spec
-    granted-requires
-    dropped-requires
+    (λ c κs. search needs)
+    (λ c κs. search needs)
     probed-requires
-    dropped-requires-2
-    resent-requires
-    dropped-requires-3
-    aborted-requires
-    dropped-requires-4
-    cleaned-requires
-    cleaned-waiting-requires
-    cleaned-victim-requires
-    dropped-requires-5
-    rolled-back-requires
-    dropped-requires-6
-    dropped-requires-7
+    (λ c κs. search needs)
+    (λ c κs. search needs)
+    (λ c κs. search needs)
+    (λ c κs. search needs)
+    (λ c κs. search needs)
+    (λ c κs. search needs)
+    (λ c κs. search needs)
+    (λ c κs. search needs)
+    (λ c κs. search needs)
+    (λ c κs. search needs)
+    (λ c κs. search needs)
+    (λ c κs. search needs)
     returns
     returns-2
     returns-3

@@ -5,15 +5,9 @@ use borrow.Author.Needs.{needs}
 use Rattle.session.proofs.Session.release.Statement.{statement}
 use Rattle.session.proofs.Session.release.Tie as tie
 
-single-requires : tie.Need-single-requires
-single-requires c κs = search needs
-
-remove-requires : tie.Need-remove-requires
-remove-requires c κs = search needs
-
 returns : tie.Need-returns
 unfolding released
 returns c = rw (c .before .before .single .ensures, c .before .remove .ensures) refl
 
 pub release-spec : {M : Type 1} → statement M
-release-spec = tie.close (tie.spec single-requires remove-requires returns)
+release-spec = tie.close (tie.spec (λ c κs. search needs) (λ c κs. search needs) returns)

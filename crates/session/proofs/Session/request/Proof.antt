@@ -7,9 +7,6 @@ use borrow.Author.Needs.{needs}
 use Rattle.session.proofs.Session.request.Statement.{statement}
 use Rattle.session.proofs.Session.request.Tie as tie
 
-single-requires : tie.Need-single-requires
-single-requires c κs = search needs
-
 stored-probes-requires : tie.Need-stored-probes-requires
 stored-probes-requires c κs = omega (arith, ap (λ (o : Outbox). o .n) (c .single .ensures))
 
@@ -18,4 +15,4 @@ unfolding requested
 returns c = rw (c .stored-probes .ensures _ (c .before .single .ensures)) refl
 
 pub request-spec : {M : Type 1} → statement M
-request-spec = tie.close (tie.spec single-requires stored-probes-requires returns)
+request-spec = tie.close (tie.spec (λ c κs. search needs) stored-probes-requires returns)

@@ -9,9 +9,6 @@ use borrow.Author.Needs.{needs}
 use Rattle.session.proofs.Session.resent.Statement.{statement}
 use Rattle.session.proofs.Session.resent.Tie as tie
 
-empty-requires : tie.Need-empty-requires
-empty-requires c κs = search needs
-
 stored-probes-requires : tie.Need-stored-probes-requires
 stored-probes-requires c κs = omega (arith, ap (λ (o : Outbox). o .n) (c .empty .ensures))
 
@@ -19,13 +16,10 @@ returns : tie.Need-returns
 unfolding resent
 returns c = rw (eq-eqb _ _ (c .before .before .if1 .taken), c .stored-probes .ensures [] (c .before .empty .ensures)) refl
 
-dropped-requires : tie.Need-dropped-requires
-dropped-requires c κs = search needs
-
 returns-2 : tie.Need-returns-2
 unfolding resent
 returns-2 c = c .dropped .ensures ∙ rw (ne-eqb _ _ (c .before .if1 .left)) refl
 
 pub resent-spec : {M : Type 1} → statement M
 resent-spec =
-    tie.close (tie.spec empty-requires stored-probes-requires returns dropped-requires returns-2)
+    tie.close (tie.spec (λ c κs. search needs) stored-probes-requires returns (λ c κs. search needs) returns-2)

@@ -5,12 +5,9 @@ use borrow.Author.Needs.{needs}
 use Rattle.session.proofs.Session.rolled_back.Statement.{statement}
 use Rattle.session.proofs.Session.rolled_back.Tie as tie
 
-leaving-requires : tie.Need-leaving-requires
-leaving-requires c κs = search needs
-
 returns : tie.Need-returns
 unfolding rolledBack
 returns c = rw (c .leaving .ensures) refl
 
 pub rolled-back-spec : {M : Type 1} → statement M
-rolled-back-spec = tie.close (tie.spec leaving-requires returns)
+rolled-back-spec = tie.close (tie.spec (λ c κs. search needs) returns)

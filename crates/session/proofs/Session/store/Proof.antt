@@ -10,23 +10,11 @@ use Rattle.session.proofs.Laws.{array-length, store-eq}
 use Rattle.session.proofs.Session.store.Statement.{statement}
 use Rattle.session.proofs.Session.store.Tie as tie
 
-slice-write-t : tie.Need-slice-write-t
-slice-write-t c = search needs
-
-add-t : tie.Need-add-t
-add-t c = search needs
-
 slice-write-t-2 : tie.Need-slice-write-t-2
 slice-write-t-2 c = simp length-set (omega arith)
 
-add-put64 : tie.Need-add-put64
-add-put64 c = search needs
-
 put64-requires : tie.Need-put64-requires
 put64-requires c κs = simp length-set (omega arith)
-
-add-put-row : tie.Need-add-put-row
-add-put-row c = search needs
 
 put-row-requires : tie.Need-put-row-requires
 put-row-requires c κs = omega (arith, simp length-set at (c .before .before .before .before .put64 .kept .0))
@@ -47,12 +35,12 @@ pub store-spec : {M : Type 1} → statement M
 store-spec =
     tie.close
     (tie.spec
-    slice-write-t
-    add-t
+    (λ c. search needs)
+    (λ c. search needs)
     slice-write-t-2
-    add-put64
+    (λ c. search needs)
     put64-requires
-    add-put-row
+    (λ c. search needs)
     put-row-requires
     same-length
     returns)
