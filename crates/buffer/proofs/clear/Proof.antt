@@ -17,12 +17,6 @@ abbrev μ-loop : tie.MeasureT-loop
 loop-holds : tie.Need-loop-holds Inv-loop μ-loop
 loop-holds c = (omega arith, refl)
 
-slice-write-t : tie.Need-slice-write-t Inv-loop μ-loop
-slice-write-t c = search needs
-
-add-i : tie.Need-add-i Inv-loop μ-loop
-add-i c = search needs
-
 loop-less : tie.Need-loop-less Inv-loop μ-loop
 loop-less c =
     let len = ap length (c .before .loop .inv .1) ∙ filled-length 0 (c .before .loop .i) (c .before .before .args .t .now) (omega arith) in omega arith
@@ -52,8 +46,8 @@ clear-spec =
     Inv-loop
     μ-loop
     loop-holds
-    slice-write-t
-    add-i
+    (λ c. search needs)
+    (λ c. search needs)
     loop-less
     loop-again
     same-length

@@ -22,18 +22,6 @@ loop-holds : tie.Need-loop-holds Inv-loop μ-loop
 unfolding allOf
 loop-holds c = (omega arith, refl)
 
-add-acc : tie.Need-add-acc Inv-loop μ-loop
-add-acc c = omega arith
-
-shared-slice-read-acc : tie.Need-shared-slice-read-acc Inv-loop μ-loop
-shared-slice-read-acc c = omega arith
-
-add-i : tie.Need-add-i Inv-loop μ-loop
-add-i c = omega arith
-
-loop-less : tie.Need-loop-less Inv-loop μ-loop
-loop-less c = omega arith
-
 loop-again : tie.Need-loop-again Inv-loop μ-loop
 unfolding allOf
 loop-again c =
@@ -51,9 +39,9 @@ is-zero-spec =
     Inv-loop
     μ-loop
     loop-holds
-    add-acc
-    shared-slice-read-acc
-    add-i
-    loop-less
+    (λ c. omega arith)
+    (λ c. omega arith)
+    (λ c. omega arith)
+    (λ c. omega arith)
     loop-again
     returns)

@@ -29,30 +29,6 @@ abbrev μ-loop2 : tie.MeasureT-loop2
 loop-holds : tie.Need-loop-holds Inv-loop μ-loop Inv-loop2 μ-loop2
 loop-holds c = (omega arith, refl, refl)
 
-sub-loop : tie.Need-sub-loop Inv-loop μ-loop Inv-loop2 μ-loop2
-sub-loop c = omega arith
-
-add-get-row : tie.Need-add-get-row Inv-loop μ-loop Inv-loop2 μ-loop2
-add-get-row c = omega arith
-
-add-get-row-2 : tie.Need-add-get-row-2 Inv-loop μ-loop Inv-loop2 μ-loop2
-add-get-row-2 c = omega arith
-
-get-row-requires : tie.Need-get-row-requires Inv-loop μ-loop Inv-loop2 μ-loop2
-get-row-requires c κs = omega arith
-
-add-put-row : tie.Need-add-put-row Inv-loop μ-loop Inv-loop2 μ-loop2
-add-put-row c = omega arith
-
-put-row-requires : tie.Need-put-row-requires Inv-loop μ-loop Inv-loop2 μ-loop2
-put-row-requires c κs = omega arith
-
-add-i : tie.Need-add-i Inv-loop μ-loop Inv-loop2 μ-loop2
-add-i c = omega arith
-
-loop-less : tie.Need-loop-less Inv-loop μ-loop Inv-loop2 μ-loop2
-loop-less c = omega arith
-
 loop-again : tie.Need-loop-again Inv-loop μ-loop Inv-loop2 μ-loop2
 loop-again c =
     let row = c .before .before in
@@ -63,27 +39,6 @@ loop-again c =
 
 loop2-holds : tie.Need-loop2-holds Inv-loop μ-loop Inv-loop2 μ-loop2
 loop2-holds c = (c .before .loop .inv .0, refl, refl)
-
-add-t : tie.Need-add-t Inv-loop μ-loop Inv-loop2 μ-loop2
-add-t c = omega arith
-
-add-t-2 : tie.Need-add-t-2 Inv-loop μ-loop Inv-loop2 μ-loop2
-add-t-2 c = omega arith
-
-slice-read-t : tie.Need-slice-read-t Inv-loop μ-loop Inv-loop2 μ-loop2
-slice-read-t c = omega arith
-
-add-t-3 : tie.Need-add-t-3 Inv-loop μ-loop Inv-loop2 μ-loop2
-add-t-3 c = omega arith
-
-slice-write-t : tie.Need-slice-write-t Inv-loop μ-loop Inv-loop2 μ-loop2
-slice-write-t c = omega arith
-
-add-i-2 : tie.Need-add-i-2 Inv-loop μ-loop Inv-loop2 μ-loop2
-add-i-2 c = omega arith
-
-loop2-less : tie.Need-loop2-less Inv-loop μ-loop Inv-loop2 μ-loop2
-loop2-less c = omega arith
 
 loop2-again : tie.Need-loop2-again Inv-loop μ-loop Inv-loop2 μ-loop2
 loop2-again c =
@@ -112,23 +67,23 @@ move-down-spec =
     Inv-loop2
     μ-loop2
     loop-holds
-    sub-loop
-    add-get-row
-    add-get-row-2
-    get-row-requires
-    add-put-row
-    put-row-requires
-    add-i
-    loop-less
+    (λ c. omega arith)
+    (λ c. omega arith)
+    (λ c. omega arith)
+    (λ c κs. omega arith)
+    (λ c. omega arith)
+    (λ c κs. omega arith)
+    (λ c. omega arith)
+    (λ c. omega arith)
     loop-again
     loop2-holds
-    add-t
-    add-t-2
-    slice-read-t
-    add-t-3
-    slice-write-t
-    add-i-2
-    loop2-less
+    (λ c. omega arith)
+    (λ c. omega arith)
+    (λ c. omega arith)
+    (λ c. omega arith)
+    (λ c. omega arith)
+    (λ c. omega arith)
+    (λ c. omega arith)
     loop2-again
     same-length
     returns)

@@ -19,18 +19,6 @@ abbrev μ-loop : tie.MeasureT-loop
 loop-holds : tie.Need-loop-holds Inv-loop μ-loop
 loop-holds c = (omega arith, refl, paste-zero (c .args .t .now) (c .args .at) (replicate (c .args .n) 0))
 
-add-t : tie.Need-add-t Inv-loop μ-loop
-add-t c = omega arith
-
-slice-write-t : tie.Need-slice-write-t Inv-loop μ-loop
-slice-write-t c = omega arith
-
-add-i : tie.Need-add-i Inv-loop μ-loop
-add-i c = omega arith
-
-loop-less : tie.Need-loop-less Inv-loop μ-loop
-loop-less c = omega arith
-
 loop-again : tie.Need-loop-again Inv-loop μ-loop
 loop-again c =
     let a = c .before .before .args in
@@ -38,9 +26,6 @@ loop-again c =
     let zeros : List ℕ = replicate (a .n) 0 in
     let more = paste-suc (a .t .now) (a .at) zeros (l .i) 0 (omega arith) (omega (arith, length-replicate {A = ℕ} (a .n) 0)) in
     (omega arith, simp length-set (l .inv .1), rw (l .inv .2, add-one) (rw (getD-replicate {A = ℕ} (a .n) (l .i) 0 0 (omega arith)) at more))
-
-same-length : tie.Need-same-length Inv-loop μ-loop
-same-length c = omega arith
 
 returns : tie.Need-returns Inv-loop μ-loop
 returns c =
@@ -55,10 +40,10 @@ put-zeros-spec =
     Inv-loop
     μ-loop
     loop-holds
-    add-t
-    slice-write-t
-    add-i
-    loop-less
+    (λ c. omega arith)
+    (λ c. omega arith)
+    (λ c. omega arith)
+    (λ c. omega arith)
     loop-again
-    same-length
+    (λ c. omega arith)
     returns)

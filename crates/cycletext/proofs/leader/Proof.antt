@@ -27,15 +27,6 @@ loop-holds c =
 next-requires : tie.Need-next-requires Inv-loop μ-loop
 next-requires c κs = let l = c .before .loop in readable (c .before .before .before .before .pre) (l .i - 1) (l .inv .2)
 
-senior-requires : tie.Need-senior-requires Inv-loop μ-loop
-senior-requires c κs = tt
-
-add-i : tie.Need-add-i Inv-loop μ-loop
-add-i c = omega arith
-
-loop-less : tie.Need-loop-less Inv-loop μ-loop
-loop-less c = omega arith
-
 loop-again : tie.Need-loop-again Inv-loop μ-loop
 loop-again c =
     let l = c .before .before .before .before .loop in
@@ -71,8 +62,8 @@ leader-spec =
     ranks-requires
     loop-holds
     next-requires
-    senior-requires
-    add-i
-    loop-less
+    (λ _ _. tt)
+    (λ c. omega arith)
+    (λ c. omega arith)
     loop-again
     returns)

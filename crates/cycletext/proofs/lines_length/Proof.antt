@@ -22,17 +22,8 @@ loop-holds c = let a = c .before .args in (omega arith, none-ahead (a .t .now) (
 next-requires : tie.Need-next-requires Inv-loop μ-loop
 next-requires c κs = let l = c .before .loop in readable (c .before .before .before .pre) (l .counted) (l .inv .1)
 
-line-length-requires : tie.Need-line-length-requires Inv-loop μ-loop
-line-length-requires c κs = tt
-
 add-length : tie.Need-add-length Inv-loop μ-loop
 add-length c = let l = c .before .before .before .loop in omega (arith, l .inv .3, c .line-length .ensures .1)
-
-add-counted : tie.Need-add-counted Inv-loop μ-loop
-add-counted c = omega arith
-
-loop-less : tie.Need-loop-less Inv-loop μ-loop
-loop-less c = omega arith
 
 loop-again : tie.Need-loop-again Inv-loop μ-loop
 loop-again c =
@@ -60,9 +51,9 @@ lines-length-spec =
     μ-loop
     loop-holds
     next-requires
-    line-length-requires
+    (λ _ _. tt)
     add-length
-    add-counted
-    loop-less
+    (λ c. omega arith)
+    (λ c. omega arith)
     loop-again
     returns)

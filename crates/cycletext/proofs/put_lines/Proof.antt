@@ -42,9 +42,6 @@ sub-put-line c = omega (arith, room c)
 part-put-line-start : tie.Need-part-put-line-start Inv-loop μ-loop
 part-put-line-start c = omega (arith, room c)
 
-part-put-line-end : tie.Need-part-put-line-end Inv-loop μ-loop
-part-put-line-end c = omega arith
-
 put-line-requires : tie.Need-put-line-requires Inv-loop μ-loop
 put-line-requires c κs =
     let l = c .before .before .before .loop in
@@ -53,12 +50,6 @@ put-line-requires c κs =
 
 add-free : tie.Need-add-free Inv-loop μ-loop
 add-free c = omega (arith, room (c .before .before .before .before), c .before .before .put-line .ensures .1)
-
-add-written : tie.Need-add-written Inv-loop μ-loop
-add-written c = omega arith
-
-loop-less : tie.Need-loop-less Inv-loop μ-loop
-loop-less c = omega arith
 
 loop-again : tie.Need-loop-again Inv-loop μ-loop
 loop-again c =
@@ -97,11 +88,11 @@ put-lines-spec =
     next-requires
     sub-put-line
     part-put-line-start
-    part-put-line-end
+    (λ c. omega arith)
     put-line-requires
     add-free
-    add-written
-    loop-less
+    (λ c. omega arith)
+    (λ c. omega arith)
     loop-again
     same-length
     returns)

@@ -18,30 +18,6 @@ loop-holds : tie.Need-loop-holds Inv-loop μ-loop
 unfolding everyBelow
 loop-holds c = (omega arith, refl)
 
-add-cell : tie.Need-add-cell Inv-loop μ-loop
-add-cell c = omega arith
-
-add-cell-2 : tie.Need-add-cell-2 Inv-loop μ-loop
-add-cell-2 c = omega arith
-
-element-copy-out-cell : tie.Need-element-copy-out-cell Inv-loop μ-loop
-element-copy-out-cell c = omega arith
-
-element-copy-out-cell-2 : tie.Need-element-copy-out-cell-2 Inv-loop μ-loop
-element-copy-out-cell-2 c = omega arith
-
-element-copy-out-cell-3 : tie.Need-element-copy-out-cell-3 Inv-loop μ-loop
-element-copy-out-cell-3 c = omega arith
-
-cell-requires : tie.Need-cell-requires Inv-loop μ-loop
-cell-requires c κs = omega arith
-
-add-i : tie.Need-add-i Inv-loop μ-loop
-add-i c = omega arith
-
-loop-less : tie.Need-loop-less Inv-loop μ-loop
-loop-less c = omega arith
-
 loop-again : tie.Need-loop-again Inv-loop μ-loop
 loop-again c = (omega arith, rw (below-more, c .before .before .before .before .before .loop .inv .1, c .cell .ensures) refl)
 
@@ -55,13 +31,13 @@ block-spec =
     Inv-loop
     μ-loop
     loop-holds
-    add-cell
-    add-cell-2
-    element-copy-out-cell
-    element-copy-out-cell-2
-    element-copy-out-cell-3
-    cell-requires
-    add-i
-    loop-less
+    (λ c. omega arith)
+    (λ c. omega arith)
+    (λ c. omega arith)
+    (λ c. omega arith)
+    (λ c. omega arith)
+    (λ c κs. omega arith)
+    (λ c. omega arith)
+    (λ c. omega arith)
     loop-again
     returns)

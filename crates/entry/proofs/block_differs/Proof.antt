@@ -18,21 +18,6 @@ loop-holds : tie.Need-loop-holds Inv-loop μ-loop
 unfolding everyBelow
 loop-holds c = (omega arith, refl)
 
-element-copy-out-ok : tie.Need-element-copy-out-ok Inv-loop μ-loop
-element-copy-out-ok c = omega arith
-
-add-differs : tie.Need-add-differs Inv-loop μ-loop
-add-differs c = omega arith
-
-differs-requires : tie.Need-differs-requires Inv-loop μ-loop
-differs-requires c κs = omega arith
-
-add-i : tie.Need-add-i Inv-loop μ-loop
-add-i c = omega arith
-
-loop-less : tie.Need-loop-less Inv-loop μ-loop
-loop-less c = omega arith
-
 loop-again : tie.Need-loop-again Inv-loop μ-loop
 loop-again c = (omega arith, rw (below-more, c .before .before .before .loop .inv .1, c .differs .ensures) refl)
 
@@ -46,10 +31,10 @@ block-differs-spec =
     Inv-loop
     μ-loop
     loop-holds
-    element-copy-out-ok
-    add-differs
-    differs-requires
-    add-i
-    loop-less
+    (λ c. omega arith)
+    (λ c. omega arith)
+    (λ c κs. omega arith)
+    (λ c. omega arith)
+    (λ c. omega arith)
     loop-again
     returns)

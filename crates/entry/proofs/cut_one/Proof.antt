@@ -16,32 +16,8 @@ Inv-loop m₀ from len end n₀ m n =
 abbrev μ-loop : tie.MeasureT-loop
 μ-loop m₀ from len end n₀ m n = len - 3 - n
 
-sub-end : tie.Need-sub-end Inv-loop μ-loop
-sub-end c = omega arith
-
 loop-holds : tie.Need-loop-holds Inv-loop μ-loop
 loop-holds c = (omega arith, refl, refl)
-
-add-m : tie.Need-add-m Inv-loop μ-loop
-add-m c = omega arith
-
-add-m-2 : tie.Need-add-m-2 Inv-loop μ-loop
-add-m-2 c = omega arith
-
-slice-read-m : tie.Need-slice-read-m Inv-loop μ-loop
-slice-read-m c = omega arith
-
-add-m-3 : tie.Need-add-m-3 Inv-loop μ-loop
-add-m-3 c = omega arith
-
-slice-write-m : tie.Need-slice-write-m Inv-loop μ-loop
-slice-write-m c = omega arith
-
-add-n : tie.Need-add-n Inv-loop μ-loop
-add-n c = omega arith
-
-loop-less : tie.Need-loop-less Inv-loop μ-loop
-loop-less c = omega arith
 
 loop-again : tie.Need-loop-again Inv-loop μ-loop
 loop-again c =
@@ -50,12 +26,6 @@ loop-again c =
     let l = c .before .before .loop in
     let fits = s .pre .0 in
     (omega arith, simp length-set (l .inv .1), rw (move-byte (l .m) (a .from + l .n) 3 (omega arith)) (move-more (l .m) (a .from) 3 (a .len - 3) (l .n) 1 (omega arith) (omega arith)) ∙ l .inv .2)
-
-add-put : tie.Need-add-put Inv-loop μ-loop
-add-put c = omega arith
-
-put-requires : tie.Need-put-requires Inv-loop μ-loop
-put-requires c κs = omega arith
 
 same-length : tie.Need-same-length Inv-loop μ-loop
 same-length c = c .before .before .put .kept .0 ∙ c .before .before .before .before .before .loop .inv .1
@@ -76,17 +46,17 @@ cut-one-spec =
     (tie.spec
     Inv-loop
     μ-loop
-    sub-end
+    (λ c. omega arith)
     loop-holds
-    add-m
-    add-m-2
-    slice-read-m
-    add-m-3
-    slice-write-m
-    add-n
-    loop-less
+    (λ c. omega arith)
+    (λ c. omega arith)
+    (λ c. omega arith)
+    (λ c. omega arith)
+    (λ c. omega arith)
+    (λ c. omega arith)
+    (λ c. omega arith)
     loop-again
-    add-put
-    put-requires
+    (λ c. omega arith)
+    (λ c κs. omega arith)
     same-length
     returns)

@@ -16,9 +16,6 @@ Inv-loop m at n d t x by-item by-session i₀ i = (i ≤ n) × (everyBelow i (λ
 abbrev μ-loop : tie.MeasureT-loop
 μ-loop m at n d t x by-item by-session i₀ i = n - i
 
-thrice-requires : tie.Need-thrice-requires Inv-loop μ-loop
-thrice-requires c κs = omega arith
-
 passed-requires : tie.Need-passed-requires Inv-loop μ-loop
 unfolding everyBelow
 passed-requires c κs = (c .before .before .before .pre, c .before .thrice .ensures, omega arith, refl)
@@ -31,24 +28,6 @@ passed-requires-3 c κs = let e = c .before .passed2 .ensures in (c .before .bef
 
 loop-holds : tie.Need-loop-holds Inv-loop μ-loop
 loop-holds c = c .passed3 .ensures
-
-sub-loop : tie.Need-sub-loop Inv-loop μ-loop
-sub-loop c = omega arith
-
-mul-off : tie.Need-mul-off Inv-loop μ-loop
-mul-off c = omega arith
-
-add-off : tie.Need-add-off Inv-loop μ-loop
-add-off c = omega arith
-
-off-requires : tie.Need-off-requires Inv-loop μ-loop
-off-requires c κs = omega arith
-
-add-i : tie.Need-add-i Inv-loop μ-loop
-add-i c = omega arith
-
-loop-less : tie.Need-loop-less Inv-loop μ-loop
-loop-less c = omega arith
 
 loop-again : tie.Need-loop-again Inv-loop μ-loop
 loop-again c = (omega arith, rw (below-more, c .before .before .before .loop .inv .1, ← c .before .off .ensures, c .if1 .taken) refl)
@@ -68,17 +47,17 @@ first-spec =
     (tie.spec
     Inv-loop
     μ-loop
-    thrice-requires
+    (λ c κs. omega arith)
     passed-requires
     passed-requires-2
     passed-requires-3
     loop-holds
-    sub-loop
-    mul-off
-    add-off
-    off-requires
-    add-i
-    loop-less
+    (λ c. omega arith)
+    (λ c. omega arith)
+    (λ c. omega arith)
+    (λ c κs. omega arith)
+    (λ c. omega arith)
+    (λ c. omega arith)
     loop-again
     returns
     returns-2)

@@ -18,39 +18,9 @@ returns : tie.Need-returns Inv-loop μ-loop
 unfolding everyBelow
 returns c = (omega arith, refl)
 
-thrice-requires : tie.Need-thrice-requires Inv-loop μ-loop
-thrice-requires c κs = omega arith
-
-thrice-requires-2 : tie.Need-thrice-requires-2 Inv-loop μ-loop
-thrice-requires-2 c κs = omega arith
-
-thrice-requires-3 : tie.Need-thrice-requires-3 Inv-loop μ-loop
-thrice-requires-3 c κs = omega arith
-
 loop-holds : tie.Need-loop-holds Inv-loop μ-loop
 unfolding everyBelow
 loop-holds c = (omega arith, refl)
-
-sub-loop : tie.Need-sub-loop Inv-loop μ-loop
-sub-loop c = omega arith
-
-mul-p : tie.Need-mul-p Inv-loop μ-loop
-mul-p c = omega arith
-
-add-block : tie.Need-add-block Inv-loop μ-loop
-add-block c = omega arith
-
-add-block-2 : tie.Need-add-block-2 Inv-loop μ-loop
-add-block-2 c = omega arith
-
-block-requires : tie.Need-block-requires Inv-loop μ-loop
-block-requires c κs = omega arith
-
-add-i : tie.Need-add-i Inv-loop μ-loop
-add-i c = omega arith
-
-loop-less : tie.Need-loop-less Inv-loop μ-loop
-loop-less c = omega arith
 
 loop-again : tie.Need-loop-again Inv-loop μ-loop
 loop-again c =
@@ -71,17 +41,17 @@ formed-spec =
     Inv-loop
     μ-loop
     returns
-    thrice-requires
-    thrice-requires-2
-    thrice-requires-3
+    (λ c κs. omega arith)
+    (λ c κs. omega arith)
+    (λ c κs. omega arith)
     loop-holds
-    sub-loop
-    mul-p
-    add-block
-    add-block-2
-    block-requires
-    add-i
-    loop-less
+    (λ c. omega arith)
+    (λ c. omega arith)
+    (λ c. omega arith)
+    (λ c. omega arith)
+    (λ c κs. omega arith)
+    (λ c. omega arith)
+    (λ c. omega arith)
     loop-again
     returns-2
     returns-3)

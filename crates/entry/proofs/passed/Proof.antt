@@ -20,24 +20,6 @@ abbrev μ-loop : tie.MeasureT-loop
 loop-holds : tie.Need-loop-holds Inv-loop μ-loop
 loop-holds c = let p = c .before .pre in (p .2, p .3)
 
-sub-loop : tie.Need-sub-loop Inv-loop μ-loop
-sub-loop c = search needs
-
-mul-block-differs : tie.Need-mul-block-differs Inv-loop μ-loop
-mul-block-differs c = search needs
-
-add-block-differs : tie.Need-add-block-differs Inv-loop μ-loop
-add-block-differs c = search needs
-
-block-differs-requires : tie.Need-block-differs-requires Inv-loop μ-loop
-block-differs-requires c κs = search needs
-
-add-i : tie.Need-add-i Inv-loop μ-loop
-add-i c = search needs
-
-loop-less : tie.Need-loop-less Inv-loop μ-loop
-loop-less c = search needs
-
 loop-again : tie.Need-loop-again Inv-loop μ-loop
 loop-again c =
     let s = c .before .before .before .before .before in
@@ -58,12 +40,12 @@ passed-spec =
     Inv-loop
     μ-loop
     loop-holds
-    sub-loop
-    mul-block-differs
-    add-block-differs
-    block-differs-requires
-    add-i
-    loop-less
+    (λ c. search needs)
+    (λ c. search needs)
+    (λ c. search needs)
+    (λ c κs. search needs)
+    (λ c. search needs)
+    (λ c. search needs)
     loop-again
     returns
     returns-2)

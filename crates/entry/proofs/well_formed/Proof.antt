@@ -15,29 +15,8 @@ Inv-loop m at to n s x i₀ i = (i ≤ n) × (everyBelow i (formAt m s x at to) 
 abbrev μ-loop : tie.MeasureT-loop
 μ-loop m at to n s x i₀ i = n - i
 
-formed-requires : tie.Need-formed-requires Inv-loop μ-loop
-formed-requires c κs = omega arith
-
 loop-holds : tie.Need-loop-holds Inv-loop μ-loop
 loop-holds c = c .formed .ensures
-
-mul-p : tie.Need-mul-p Inv-loop μ-loop
-mul-p c = omega arith
-
-add-entry : tie.Need-add-entry Inv-loop μ-loop
-add-entry c = omega arith
-
-add-entry-2 : tie.Need-add-entry-2 Inv-loop μ-loop
-add-entry-2 c = omega arith
-
-entry-requires : tie.Need-entry-requires Inv-loop μ-loop
-entry-requires c κs = omega arith
-
-add-i : tie.Need-add-i Inv-loop μ-loop
-add-i c = omega arith
-
-loop-less : tie.Need-loop-less Inv-loop μ-loop
-loop-less c = omega arith
 
 loop-again : tie.Need-loop-again Inv-loop μ-loop
 loop-again c = (omega arith, rw (below-more, c .before .before .before .loop .inv .1, ← c .before .entry .ensures, c .if1 .taken) refl)
@@ -57,14 +36,14 @@ well-formed-spec =
     (tie.spec
     Inv-loop
     μ-loop
-    formed-requires
+    (λ c κs. omega arith)
     loop-holds
-    mul-p
-    add-entry
-    add-entry-2
-    entry-requires
-    add-i
-    loop-less
+    (λ c. omega arith)
+    (λ c. omega arith)
+    (λ c. omega arith)
+    (λ c κs. omega arith)
+    (λ c. omega arith)
+    (λ c. omega arith)
     loop-again
     returns
     returns-2)

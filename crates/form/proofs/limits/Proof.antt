@@ -18,15 +18,6 @@ abbrev μ-loop : tie.MeasureT-loop
 loop-holds : tie.Need-loop-holds Inv-loop μ-loop
 loop-holds c = (omega arith, refl)
 
-array-write-limits : tie.Need-array-write-limits Inv-loop μ-loop
-array-write-limits c = search needs
-
-add-k : tie.Need-add-k Inv-loop μ-loop
-add-k c = search needs
-
-loop-less : tie.Need-loop-less Inv-loop μ-loop
-loop-less c = search needs
-
 loop-again : tie.Need-loop-again Inv-loop μ-loop
 loop-again c =
     let l = c .before .loop in
@@ -38,4 +29,4 @@ returns c = let all : c .before .loop .k ≡ maxSessions = omega arith in rw (al
 pub limits-spec : {M : Type 1} → statement M
 limits-spec =
     tie.close
-    (tie.spec Inv-loop μ-loop loop-holds array-write-limits add-k loop-less loop-again returns)
+    (tie.spec Inv-loop μ-loop loop-holds (λ c. search needs) (λ c. search needs) (λ c. search needs) loop-again returns)

@@ -18,18 +18,9 @@ Inv-loop t at n h seen₀ i₀ seen i = (i ≤ n) × (inLine h (slice t at i) �
 abbrev μ-loop : tie.MeasureT-loop
 μ-loop t at n h seen₀ i₀ seen i = n - i
 
-single-requires : tie.Need-single-requires Inv-loop μ-loop
-single-requires c κs = search needs
-
 loop-holds : tie.Need-loop-holds Inv-loop μ-loop
 unfolding allOf distinct member
 loop-holds c = (omega arith, refl, rw (c .single .ensures) (none-seen (c .before .before .args .h)))
-
-add-v : tie.Need-add-v Inv-loop μ-loop
-add-v c = search needs
-
-shared-slice-read-v : tie.Need-shared-slice-read-v Inv-loop μ-loop
-shared-slice-read-v c = search needs
 
 returns : tie.Need-returns Inv-loop μ-loop
 returns c =
@@ -54,12 +45,6 @@ returns-2 c =
 
 insert-requires : tie.Need-insert-requires Inv-loop μ-loop
 insert-requires c κs = omega (arith, c .before .before .if1 .left, c .before .before .before .before .before .before .before .before .pre .2 (c .before .before .before .before .before .loop .i) (c .before .before .before .before .loop-test .taken))
-
-add-i : tie.Need-add-i Inv-loop μ-loop
-add-i c = search needs
-
-loop-less : tie.Need-loop-less Inv-loop μ-loop
-loop-less c = search needs
 
 loop-again : tie.Need-loop-again Inv-loop μ-loop
 loop-again c =
@@ -87,15 +72,15 @@ queue-spec =
     (tie.spec
     Inv-loop
     μ-loop
-    single-requires
+    (λ c κs. search needs)
     loop-holds
-    add-v
-    shared-slice-read-v
+    (λ c. search needs)
+    (λ c. search needs)
     returns
     contains-requires
     returns-2
     insert-requires
-    add-i
-    loop-less
+    (λ c. search needs)
+    (λ c. search needs)
     loop-again
     returns-3)

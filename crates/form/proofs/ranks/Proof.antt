@@ -26,9 +26,6 @@ loop-holds : tie.Need-loop-holds Inv-loop μ-loop
 unfolding member single
 loop-holds c = (omega arith, (λ k h. absurd (omega arith)), none-seen 0, omega arith)
 
-shared-slice-read-rank : tie.Need-shared-slice-read-rank Inv-loop μ-loop
-shared-slice-read-rank c = omega arith
-
 returns : tie.Need-returns Inv-loop μ-loop
 returns c =
     let l = c .before .before .before .before .before .args .l .now in
@@ -44,12 +41,6 @@ returns-2 c =
 
 insert-requires : tie.Need-insert-requires Inv-loop μ-loop
 insert-requires c κs = omega (arith, c .before .if1 .left, c .if2 .left)
-
-add-i : tie.Need-add-i Inv-loop μ-loop
-add-i c = omega arith
-
-loop-less : tie.Need-loop-less Inv-loop μ-loop
-loop-less c = omega arith
 
 loop-again : tie.Need-loop-again Inv-loop μ-loop
 loop-again c =
@@ -90,13 +81,13 @@ ranks-spec =
     Inv-loop
     μ-loop
     loop-holds
-    shared-slice-read-rank
+    (λ c. omega arith)
     returns
     cast-if2
     returns-2
     insert-requires
-    add-i
-    loop-less
+    (λ c. omega arith)
+    (λ c. omega arith)
     loop-again
     cast-full
     full-requires

@@ -18,29 +18,8 @@ Inv-loop t at s n limits from ok₀ i₀ ok i = (i ≤ maxSessions) × (ok ≡ w
 abbrev μ-loop : tie.MeasureT-loop
 μ-loop t at s n limits from ok₀ i₀ ok i = maxSessions - i
 
-sub-from : tie.Need-sub-from Inv-loop μ-loop
-sub-from c = search needs
-
 loop-holds : tie.Need-loop-holds Inv-loop μ-loop
 loop-holds c = (omega arith, sym (within-none (c .args .s) (c .args .n)))
-
-add-ok : tie.Need-add-ok Inv-loop μ-loop
-add-ok c = search needs
-
-shared-slice-read-ok : tie.Need-shared-slice-read-ok Inv-loop μ-loop
-shared-slice-read-ok c = search needs
-
-add-ok-2 : tie.Need-add-ok-2 Inv-loop μ-loop
-add-ok-2 c = search needs
-
-element-copy-out-ok : tie.Need-element-copy-out-ok Inv-loop μ-loop
-element-copy-out-ok c = search needs
-
-add-i : tie.Need-add-i Inv-loop μ-loop
-add-i c = search needs
-
-loop-less : tie.Need-loop-less Inv-loop μ-loop
-loop-less c = search needs
 
 loop-again : tie.Need-loop-again Inv-loop μ-loop
 loop-again c =
@@ -63,13 +42,13 @@ row-spec =
     (tie.spec
     Inv-loop
     μ-loop
-    sub-from
+    (λ c. search needs)
     loop-holds
-    add-ok
-    shared-slice-read-ok
-    add-ok-2
-    element-copy-out-ok
-    add-i
-    loop-less
+    (λ c. search needs)
+    (λ c. search needs)
+    (λ c. search needs)
+    (λ c. search needs)
+    (λ c. search needs)
+    (λ c. search needs)
     loop-again
     returns)

@@ -65,9 +65,6 @@ loop-again c =
 close-gap-requires : tie.Need-close-gap-requires Inv-loop μ-loop
 close-gap-requires c κs = c .before .before .loop .inv .3
 
-accepted-requires : tie.Need-accepted-requires Inv-loop μ-loop
-accepted-requires c κs = search needs
-
 same-length : tie.Need-same-length Inv-loop μ-loop
 same-length c = c .before .before .before .before .before .before .loop .inv .0
 
@@ -91,7 +88,7 @@ deliver-all-spec =
     loop-less
     loop-again
     close-gap-requires
-    accepted-requires
+    (λ c κs. search needs)
     same-length
     same-length-2
     returns)

@@ -37,29 +37,8 @@ loop-holds c =
     let C = c .before .before .before .capacity in
     (omega arith, refl, λ k e f. rw (append-nil, C .ensures) (s .pre .kept .bytes))
 
-mul-msg : tie.Need-mul-msg Inv-loop μ-loop
-mul-msg c = omega arith
-
-array-copy-out-msg : tie.Need-array-copy-out-msg Inv-loop μ-loop
-array-copy-out-msg c = omega arith
-
-by-direction-requires : tie.Need-by-direction-requires Inv-loop μ-loop
-by-direction-requires c κs = omega arith
-
-by-direction-requires-2 : tie.Need-by-direction-requires-2 Inv-loop μ-loop
-by-direction-requires-2 c κs = omega arith
-
-add-add : tie.Need-add-add Inv-loop μ-loop
-add-add c = omega arith
-
 add-requires : tie.Need-add-requires Inv-loop μ-loop
 add-requires c κs = let s = c .before .before .before .before .before .before .before .before .before .before .before .before in omega (arith, kept-length (s .args .m .now) (s .pre .kept), s .pre .kept, s .pre, c .before .before .before .before .before .loop .inv, c .before .before .before .before .before .before .before .count .ensures, c .before .before .before .before .before .before .before .before .before .capacity .ensures)
-
-add-i : tie.Need-add-i Inv-loop μ-loop
-add-i c = omega arith
-
-loop-less : tie.Need-loop-less Inv-loop μ-loop
-loop-less c = omega arith
 
 loop-again : tie.Need-loop-again Inv-loop μ-loop
 loop-again c =
@@ -104,14 +83,14 @@ post-spec =
     capacity-requires
     count-requires
     loop-holds
-    mul-msg
-    array-copy-out-msg
-    by-direction-requires
-    by-direction-requires-2
-    add-add
+    (λ c. omega arith)
+    (λ c. omega arith)
+    (λ c κs. omega arith)
+    (λ c κs. omega arith)
+    (λ c. omega arith)
     add-requires
-    add-i
-    loop-less
+    (λ c. omega arith)
+    (λ c. omega arith)
     loop-again
     same-length
     returns)

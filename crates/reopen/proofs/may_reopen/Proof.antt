@@ -15,9 +15,6 @@ use Rattle.reopen.proofs.may_reopen.Tie as tie
 session-requires : tie.Need-session-requires
 session-requires c κs = c .before .before .pre .1
 
-is-over-requires : tie.Need-is-over-requires
-is-over-requires c κs = tt
-
 returns : tie.Need-returns
 unfolding mayReopen
 returns c =
@@ -76,7 +73,7 @@ may-reopen-spec =
     tie.close
     (tie.spec
     session-requires
-    is-over-requires
+    (λ _ _. tt)
     returns
     no-probe-names-requires
     returns-2

@@ -54,12 +54,6 @@ returns c =
     let l = c .before .before .before .before .loop in
     sym (no-entry (a .t) (a .mail .now) ∙ below-false (countOf (a .mail .now)) (l .k) (unnamed (a .t) (a .mail .now)) (omega arith) (ap not (sym (here (c .before)) ∙ c .if1 .taken)))
 
-add-k : tie.Need-add-k Inv-loop μ-loop
-add-k c = search needs
-
-loop-less : tie.Need-loop-less Inv-loop μ-loop
-loop-less c = search needs
-
 loop-again : tie.Need-loop-again Inv-loop μ-loop
 loop-again c = let v = c .before .before .before .before .loop .inv in (v .0, omega arith, rw (below-more, v .2, ← here (c .before), c .if1 .left) refl)
 
@@ -81,7 +75,7 @@ no-entry-names-spec =
     message-to-item-requires
     entry-names-requires
     returns
-    add-k
-    loop-less
+    (λ c. search needs)
+    (λ c. search needs)
     loop-again
     returns-2)

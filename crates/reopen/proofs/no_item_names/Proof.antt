@@ -52,12 +52,6 @@ returns c =
     let named : itemNames (a .t) (Table.item (a .table .now) (x + 1)) ≡ true = rw (c .before .before .item .ensures) at (sym (c .before .item-names .ensures) ∙ c .if1 .taken) in
     sym (every-false (Table.itemsOf (a .table .now)) (unnamed (a .t) (a .table .now)) (x + 1) (omega arith) (omega arith) (ap not named))
 
-add-x : tie.Need-add-x Inv-loop μ-loop
-add-x c = search needs
-
-loop-less : tie.Need-loop-less Inv-loop μ-loop
-loop-less c = search needs
-
 loop-again : tie.Need-loop-again Inv-loop μ-loop
 loop-again c =
     let a = c .before .before .before .before .before .before .before .args in
@@ -84,7 +78,7 @@ no-item-names-spec =
     item-requires
     item-names-requires
     returns
-    add-x
-    loop-less
+    (λ c. search needs)
+    (λ c. search needs)
     loop-again
     returns-2)

@@ -50,12 +50,6 @@ returns c =
     let named : storedNames (a .t) (Table.session (a .table .now) (k + 1)) ≡ true = rw (c .before .before .session .ensures) at (sym (c .before .stored-names .ensures) ∙ c .if1 .taken) in
     sym (every-false (Table.sessionsOf (a .table .now)) (unnamed (a .t) (a .table .now)) (k + 1) (omega arith) (omega arith) (ap not named))
 
-add-k : tie.Need-add-k Inv-loop μ-loop
-add-k c = search needs
-
-loop-less : tie.Need-loop-less Inv-loop μ-loop
-loop-less c = search needs
-
 loop-again : tie.Need-loop-again Inv-loop μ-loop
 loop-again c =
     let a = c .before .before .before .before .before .before .before .args in
@@ -82,7 +76,7 @@ no-probe-names-spec =
     session-requires
     stored-names-requires
     returns
-    add-k
-    loop-less
+    (λ c. search needs)
+    (λ c. search needs)
     loop-again
     returns-2)

@@ -19,9 +19,6 @@ abbrev μ-loop : tie.MeasureT-loop
 abbrev given : tie.Start Inv-loop μ-loop → Config
 given s = config (s .args .sessions) (s .args .items) (s .args .ranks .now)
 
-clear-requires : tie.Need-clear-requires Inv-loop μ-loop
-clear-requires c κs = search needs
-
 slice-write-t : tie.Need-slice-write-t Inv-loop μ-loop
 slice-write-t c = omega (arith, c .before .before .clear .kept .0)
 
@@ -33,32 +30,17 @@ loop-holds c =
     let start = c .before .before .before .before .before .before in
     (omega arith, rw (c .before .before .clear .ensures, start .pre .1) (begun-none (given start)))
 
-mul-t : tie.Need-mul-t Inv-loop μ-loop
-mul-t c = search needs
-
-add-t : tie.Need-add-t Inv-loop μ-loop
-add-t c = search needs
-
 slice-write-t-3 : tie.Need-slice-write-t-3 Inv-loop μ-loop
 slice-write-t-3 c =
     let l = c .before .loop in
     let start = c .before .before .before .before .before .before .before .before in
     omega (arith, ap length (l .inv .1), length-begun (given start) (l .k) (omega arith))
 
-add-k : tie.Need-add-k Inv-loop μ-loop
-add-k c = search needs
-
-loop-less : tie.Need-loop-less Inv-loop μ-loop
-loop-less c = search needs
-
 loop-again : tie.Need-loop-again Inv-loop μ-loop
 loop-again c =
     let l = c .before .loop in
     let start = c .before .before .before .before .before .before .before .before in
     (omega arith, rw (l .inv .1) (begun-more (given start) (l .k) (omega arith)))
-
-ranks-place-requires : tie.Need-ranks-place-requires Inv-loop μ-loop
-ranks-place-requires c κs = search needs
 
 put-bytes-requires : tie.Need-put-bytes-requires Inv-loop μ-loop
 put-bytes-requires c κs =
@@ -85,17 +67,17 @@ clear-spec =
     (tie.spec
     Inv-loop
     μ-loop
-    clear-requires
+    (λ c κs. search needs)
     slice-write-t
     slice-write-t-2
     loop-holds
-    mul-t
-    add-t
+    (λ c. search needs)
+    (λ c. search needs)
     slice-write-t-3
-    add-k
-    loop-less
+    (λ c. search needs)
+    (λ c. search needs)
     loop-again
-    ranks-place-requires
+    (λ c κs. search needs)
     put-bytes-requires
     same-length
     returns)

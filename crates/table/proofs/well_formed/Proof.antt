@@ -30,9 +30,6 @@ sessions-requires c κs = header-fits (c .before .args .t .now) (c .before .pre)
 items-requires : tie.Need-items-requires Inv-loop μ-loop Inv-loop2 μ-loop2
 items-requires c κs = header-fits (c .before .before .args .t .now) (c .before .before .pre)
 
-limits-requires : tie.Need-limits-requires Inv-loop μ-loop Inv-loop2 μ-loop2
-limits-requires c κs = search needs
-
 full-requires : tie.Need-full-requires Inv-loop μ-loop Inv-loop2 μ-loop2
 full-requires c κs = let f = sized-facts (c .before .before .before .before .args .t .now) (c .before .before .before .before .pre) in omega (arith, c .before .items .ensures)
 
@@ -45,21 +42,9 @@ loop-holds c =
     let start = c .before .before .before .before .before in
     (sized-facts (start .args .t .now) (start .pre), c .before .before .before .sessions .ensures, c .before .before .items .ensures, omega arith, refl)
 
-mul-session : tie.Need-mul-session Inv-loop μ-loop Inv-loop2 μ-loop2
-mul-session c = search needs
-
-add-session : tie.Need-add-session Inv-loop μ-loop Inv-loop2 μ-loop2
-add-session c = search needs
-
 session-requires : tie.Need-session-requires Inv-loop μ-loop Inv-loop2 μ-loop2
 session-requires c κs =
     (omega arith, omega arith, c .before .before .before .full .ensures, c .before .before .before .before .limits .ensures)
-
-add-k : tie.Need-add-k Inv-loop μ-loop Inv-loop2 μ-loop2
-add-k c = search needs
-
-loop-less : tie.Need-loop-less Inv-loop μ-loop Inv-loop2 μ-loop2
-loop-less c = search needs
 
 loop-again : tie.Need-loop-again Inv-loop μ-loop Inv-loop2 μ-loop2
 loop-again c =
@@ -81,12 +66,6 @@ returns c =
     let k = l .loop .k in
     sym (sessions-false t (suc k) (omega arith) (omega arith) (sym (session-here t k (v .1) (v .2)) ∙ sym (c .before .session .ensures) ∙ c .if1 .left))
 
-items-start-requires : tie.Need-items-start-requires Inv-loop μ-loop Inv-loop2 μ-loop2
-items-start-requires c κs = search needs
-
-cast-items : tie.Need-cast-items Inv-loop μ-loop Inv-loop2 μ-loop2
-cast-items c = search needs
-
 loop2-holds : tie.Need-loop2-holds Inv-loop μ-loop Inv-loop2 μ-loop2
 unfolding every
 loop2-holds c =
@@ -95,20 +74,8 @@ loop2-holds c =
     let all : l .k ≡ sessionsOf t = omega arith in
     (l .inv .0, l .inv .1, l .inv .2, c .items-start .ensures, omega arith, rw (all) at (l .inv .4), refl)
 
-mul-item : tie.Need-mul-item Inv-loop μ-loop Inv-loop2 μ-loop2
-mul-item c = search needs
-
-add-item : tie.Need-add-item Inv-loop μ-loop Inv-loop2 μ-loop2
-add-item c = search needs
-
 item-requires : tie.Need-item-requires Inv-loop μ-loop Inv-loop2 μ-loop2
 item-requires c κs = (omega arith, omega arith, c .before .before .before .before .before .before .before .limits .ensures)
-
-add-x : tie.Need-add-x Inv-loop μ-loop Inv-loop2 μ-loop2
-add-x c = search needs
-
-loop2-less : tie.Need-loop2-less Inv-loop μ-loop Inv-loop2 μ-loop2
-loop2-less c = search needs
 
 loop2-again : tie.Need-loop2-again Inv-loop μ-loop Inv-loop2 μ-loop2
 loop2-again c =
@@ -157,25 +124,25 @@ well-formed-spec =
     μ-loop2
     sessions-requires
     items-requires
-    limits-requires
+    (λ c κs. search needs)
     full-requires
     cast-sessions
     loop-holds
-    mul-session
-    add-session
+    (λ c. search needs)
+    (λ c. search needs)
     session-requires
-    add-k
-    loop-less
+    (λ c. search needs)
+    (λ c. search needs)
     loop-again
     returns
-    items-start-requires
-    cast-items
+    (λ c κs. search needs)
+    (λ c. search needs)
     loop2-holds
-    mul-item
-    add-item
+    (λ c. search needs)
+    (λ c. search needs)
     item-requires
-    add-x
-    loop2-less
+    (λ c. search needs)
+    (λ c. search needs)
     loop2-again
     returns-2
     ranks-requires

@@ -14,16 +14,10 @@ Inv-loop v n₀ left₀ n left = n + length (decimal left) ≡ length (decimal v
 abbrev μ-loop : tie.MeasureT-loop
 μ-loop v n₀ left₀ n left = left
 
-loop-holds : tie.Need-loop-holds Inv-loop μ-loop
-loop-holds c = omega arith
-
 add-n : tie.Need-add-n Inv-loop μ-loop
 add-n c =
     let v = c .before .before .args .v in
     let most = length-decimal 19 v (omega arith) in omega arith
-
-loop-less : tie.Need-loop-less Inv-loop μ-loop
-loop-less c = omega arith
 
 loop-again : tie.Need-loop-again Inv-loop μ-loop
 loop-again c = let l = c .before .loop in omega (arith, length-decimal-more (l .left) (omega arith), l .inv)
@@ -33,4 +27,4 @@ returns c = let l = c .before .loop in omega (arith, ap length (decimal-digit (l
 
 pub decimal-length-spec : {M : Type 1} → statement M
 decimal-length-spec =
-    tie.close (tie.spec Inv-loop μ-loop loop-holds add-n loop-less loop-again returns)
+    tie.close (tie.spec Inv-loop μ-loop (λ c. omega arith) add-n (λ c. omega arith) loop-again returns)

@@ -34,23 +34,11 @@ add-put-decimal c =
     let l = c .before .before .loop in
     let room = spaced-room (a .numbers .now) (l .i) (omega arith) in omega arith
 
-mul-put-decimal : tie.Need-mul-put-decimal Inv-loop μ-loop
-mul-put-decimal c = omega arith
-
-shared-slice-read-put-decimal : tie.Need-shared-slice-read-put-decimal Inv-loop μ-loop
-shared-slice-read-put-decimal c = omega arith
-
 put-decimal-requires : tie.Need-put-decimal-requires Inv-loop μ-loop
 put-decimal-requires c κs =
     let a = c .before .before .before .before .before .before .args in
     let l = c .before .before .before .loop in
     let room = spaced-room (a .numbers .now) (l .i) (omega arith) in simp length-set (omega arith)
-
-add-i : tie.Need-add-i Inv-loop μ-loop
-add-i c = omega arith
-
-loop-less : tie.Need-loop-less Inv-loop μ-loop
-loop-less c = omega arith
 
 loop-again : tie.Need-loop-again Inv-loop μ-loop
 loop-again c =
@@ -64,9 +52,6 @@ loop-again c =
       put .0,
       put .1,
     )
-
-same-length : tie.Need-same-length Inv-loop μ-loop
-same-length c = omega arith
 
 returns : tie.Need-returns Inv-loop μ-loop
 returns c =
@@ -84,11 +69,11 @@ put-spaced-spec =
     loop-holds
     slice-write-out
     add-put-decimal
-    mul-put-decimal
-    shared-slice-read-put-decimal
+    (λ c. omega arith)
+    (λ c. omega arith)
     put-decimal-requires
-    add-i
-    loop-less
+    (λ c. omega arith)
+    (λ c. omega arith)
     loop-again
-    same-length
+    (λ c. omega arith)
     returns)

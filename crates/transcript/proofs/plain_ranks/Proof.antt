@@ -23,21 +23,6 @@ loop-holds : tie.Need-loop-holds Inv-loop μ-loop
 unfolding plain tabulate
 loop-holds c = (omega arith, refl)
 
-add-ranks : tie.Need-add-ranks Inv-loop μ-loop
-add-ranks c = omega arith
-
-cast-ranks : tie.Need-cast-ranks Inv-loop μ-loop
-cast-ranks c = omega arith
-
-array-write-ranks : tie.Need-array-write-ranks Inv-loop μ-loop
-array-write-ranks c = omega arith
-
-add-k : tie.Need-add-k Inv-loop μ-loop
-add-k c = omega arith
-
-loop-less : tie.Need-loop-less Inv-loop μ-loop
-loop-less c = omega arith
-
 loop-again : tie.Need-loop-again Inv-loop μ-loop
 loop-again c =
     let l = c .before .loop in
@@ -59,10 +44,10 @@ plain-ranks-spec =
     Inv-loop
     μ-loop
     loop-holds
-    add-ranks
-    cast-ranks
-    array-write-ranks
-    add-k
-    loop-less
+    (λ c. omega arith)
+    (λ c. omega arith)
+    (λ c. omega arith)
+    (λ c. omega arith)
+    (λ c. omega arith)
     loop-again
     returns)

@@ -70,9 +70,6 @@ put-step-requires c κs =
     let p = l .loop .inv .2 in
     (omega (arith, steps (l .before)), room l)
 
-loop-less : tie.Need-loop-less Inv-loop μ-loop
-loop-less c = omega arith
-
 loop-again : tie.Need-loop-again Inv-loop μ-loop
 loop-again c =
     let r = c .before .before .before .before .before .before .before .before .before .before .before .before in
@@ -130,7 +127,7 @@ play-spec =
     tallied-step-requires
     add-k
     put-step-requires
-    loop-less
+    (λ c. omega arith)
     loop-again
     count-requires
     put-end-requires

@@ -82,9 +82,6 @@ element-write-at c = let s = here (c .before .before .before) in omega arith
 add-j : tie.Need-add-j Inv-loop μ-loop
 add-j c = let q = queue (c .before .before .before .before .before) in omega arith
 
-loop-less : tie.Need-loop-less Inv-loop μ-loop
-loop-less c = omega arith
-
 loop-again : tie.Need-loop-again Inv-loop μ-loop
 loop-again c =
     let d = c .before .before .before .before .before in
@@ -130,6 +127,6 @@ mark-spec =
     element-copy-out-if3
     element-write-at
     add-j
-    loop-less
+    (λ c. omega arith)
     loop-again
     returns-3)

@@ -39,9 +39,6 @@ add-x c =
     let s = begin (d .before .before) in
     omega (arith, sized-facts (s .args .t .now) (s .pre .sized) .max-items, here d .high)
 
-loop-less : tie.Need-loop-less Inv-loop μ-loop
-loop-less c = omega arith
-
 loop-again : tie.Need-loop-again Inv-loop μ-loop
 loop-again c =
     let l = c .before .before .before in
@@ -65,6 +62,6 @@ places-spec =
     loop-holds
     mark-requires
     add-x
-    loop-less
+    (λ c. omega arith)
     loop-again
     returns)

@@ -43,9 +43,6 @@ returns c =
 add-day : tie.Need-add-day Inv-loop μ-loop
 add-day c = let s = c .before .before .before .before .before .before in omega (arith, s .pre .few)
 
-loop-less : tie.Need-loop-less Inv-loop μ-loop
-loop-less c = omega arith
-
 loop-again : tie.Need-loop-again Inv-loop μ-loop
 unfolding every
 loop-again c =
@@ -78,6 +75,6 @@ consistent-spec =
     read-day-requires
     returns
     add-day
-    loop-less
+    (λ c. omega arith)
     loop-again
     returns-2)

@@ -35,9 +35,6 @@ loop-holds c = (0, refl, omega arith, refl, sym (splice-none (c .before .before 
 read-day-requires : tie.Need-read-day-requires Inv-loop μ-loop
 read-day-requires c κs = let l = c .before .loop in (c .before .before .before .before .pre .0, omega (arith, l .inv .1), omega arith)
 
-slice-aggregate-put-line : tie.Need-slice-aggregate-put-line Inv-loop μ-loop
-slice-aggregate-put-line c = search needs
-
 put-line-requires : tie.Need-put-line-requires Inv-loop μ-loop
 unfolding dayLine
 put-line-requires c κs =
@@ -48,9 +45,6 @@ put-line-requires c κs =
 
 add-day : tie.Need-add-day Inv-loop μ-loop
 add-day c = let s = c .before .before .before .before .before .before .before .before .before .before in omega (arith, s .pre .0 .few)
-
-loop-less : tie.Need-loop-less Inv-loop μ-loop
-loop-less c = omega arith
 
 loop-again : tie.Need-loop-again Inv-loop μ-loop
 unfolding appendUpTo dayLine
@@ -93,10 +87,10 @@ put-days-spec =
     μ-loop
     loop-holds
     read-day-requires
-    slice-aggregate-put-line
+    (λ c. search needs)
     put-line-requires
     add-day
-    loop-less
+    (λ c. omega arith)
     loop-again
     same-length
     returns)

@@ -39,9 +39,6 @@ add-rollbacks c =
 add-day : tie.Need-add-day Inv-loop μ-loop
 add-day c = omega (arith, c .before .before .before .before .before .before .pre .few)
 
-loop-less : tie.Need-loop-less Inv-loop μ-loop
-loop-less c = omega arith
-
 loop-again : tie.Need-loop-again Inv-loop μ-loop
 unfolding sumUpTo
 loop-again c =
@@ -76,6 +73,6 @@ sums-spec =
     add-sessions
     add-rollbacks
     add-day
-    loop-less
+    (λ c. omega arith)
     loop-again
     returns)

@@ -28,14 +28,8 @@ module _ (c : tie.Start Inv-loop μ-loop) where
   element : (i : ℕ) → i < c .args .self .waiting → getD (unpacked (c .args .self) .queue) i 0 ≡ getD (c .args .self .queue) i 0
   element i h = getD-take (c .args .self .waiting) (c .args .self .queue) i 0 h
 
-cast-n : tie.Need-cast-n Inv-loop μ-loop
-cast-n c = omega arith
-
 loop-holds : tie.Need-loop-holds Inv-loop μ-loop
 loop-holds c = (omega arith, omega arith)
-
-array-read-if1 : tie.Need-array-read-if1 Inv-loop μ-loop
-array-read-if1 c = omega arith
 
 returns : tie.Need-returns Inv-loop μ-loop
 returns c =
@@ -43,12 +37,6 @@ returns c =
     let l = c .before .before .loop in
     let found = eq-eqb _ _ (element s (l .i) (omega arith) ∙ c .if1 .taken) in
     omega (arith, findIndex-here (λ q. eqb q (s .args .t)) (unpacked (s .args .self) .queue) (l .i) 0 (omega (arith, full s)) found)
-
-add-i : tie.Need-add-i Inv-loop μ-loop
-add-i c = omega arith
-
-loop-less : tie.Need-loop-less Inv-loop μ-loop
-loop-less c = omega arith
 
 loop-again : tie.Need-loop-again Inv-loop μ-loop
 loop-again c =
@@ -72,11 +60,11 @@ place-spec =
     (tie.spec
     Inv-loop
     μ-loop
-    cast-n
+    (λ c. omega arith)
     loop-holds
-    array-read-if1
+    (λ c. omega arith)
     returns
-    add-i
-    loop-less
+    (λ c. omega arith)
+    (λ c. omega arith)
     loop-again
     returns-2)

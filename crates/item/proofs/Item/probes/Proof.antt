@@ -24,33 +24,9 @@ Inv-loop ranks holder queue count at₀ n₀ i₀ at n i =
 abbrev μ-loop : tie.MeasureT-loop
 μ-loop ranks holder queue count at₀ n₀ i₀ at n i = count - i
 
-cast-count : tie.Need-cast-count Inv-loop μ-loop
-cast-count c = omega arith
-
 loop-holds : tie.Need-loop-holds Inv-loop μ-loop
 unfolding probes filter
 loop-holds c = (omega arith, omega arith, λ l e. e ∙ ap outboxOf (sym (append-nil l)))
-
-array-read-r : tie.Need-array-read-r Inv-loop μ-loop
-array-read-r c = omega arith
-
-add-i : tie.Need-add-i Inv-loop μ-loop
-add-i c = omega arith
-
-senior-requires : tie.Need-senior-requires Inv-loop μ-loop
-senior-requires c κs = tt
-
-mul-at : tie.Need-mul-at Inv-loop μ-loop
-mul-at c = omega arith
-
-array-set-from-at : tie.Need-array-set-from-at Inv-loop μ-loop
-array-set-from-at c = omega arith
-
-add-n : tie.Need-add-n Inv-loop μ-loop
-add-n c = omega arith
-
-loop-less : tie.Need-loop-less Inv-loop μ-loop
-loop-less c = omega arith
 
 loop-again : tie.Need-loop-again Inv-loop μ-loop
 loop-again c =
@@ -66,9 +42,6 @@ loop-again c =
       λ l e.
           push-outbox (record { n = b .n; at = b .at }) l (probes (senior (s .args .ranks .now)) h (take (b .i) q)) _ m (omega arith) (b .inv .2 l e) t,
     )
-
-loop-less-2 : tie.Need-loop-less-2 Inv-loop μ-loop
-loop-less-2 c = omega arith
 
 loop-again-2 : tie.Need-loop-again-2 Inv-loop μ-loop
 loop-again-2 c =
@@ -91,16 +64,16 @@ probes-spec =
     (tie.spec
     Inv-loop
     μ-loop
-    cast-count
+    (λ c. omega arith)
     loop-holds
-    array-read-r
-    add-i
-    senior-requires
-    mul-at
-    array-set-from-at
-    add-n
-    loop-less
+    (λ c. omega arith)
+    (λ c. omega arith)
+    (λ _ _. tt)
+    (λ c. omega arith)
+    (λ c. omega arith)
+    (λ c. omega arith)
+    (λ c. omega arith)
     loop-again
-    loop-less-2
+    (λ c. omega arith)
     loop-again-2
     returns)

@@ -22,30 +22,9 @@ Inv-loop queue count at₀ n₀ i₀ at n i =
 abbrev μ-loop : tie.MeasureT-loop
 μ-loop queue count at₀ n₀ i₀ at n i = count - i
 
-cast-count : tie.Need-cast-count Inv-loop μ-loop
-cast-count c = omega arith
-
 loop-holds : tie.Need-loop-holds Inv-loop μ-loop
 unfolding resends
 loop-holds c = (omega arith, omega arith, λ l e. e ∙ ap outboxOf (sym (append-nil l)))
-
-array-read-t11 : tie.Need-array-read-t11 Inv-loop μ-loop
-array-read-t11 c = omega arith
-
-mul-at : tie.Need-mul-at Inv-loop μ-loop
-mul-at c = omega arith
-
-array-set-from-at : tie.Need-array-set-from-at Inv-loop μ-loop
-array-set-from-at c = omega arith
-
-add-n : tie.Need-add-n Inv-loop μ-loop
-add-n c = omega arith
-
-add-i : tie.Need-add-i Inv-loop μ-loop
-add-i c = omega arith
-
-loop-less : tie.Need-loop-less Inv-loop μ-loop
-loop-less c = omega arith
 
 loop-again : tie.Need-loop-again Inv-loop μ-loop
 loop-again c =
@@ -71,13 +50,13 @@ resends-spec =
     (tie.spec
     Inv-loop
     μ-loop
-    cast-count
+    (λ c. omega arith)
     loop-holds
-    array-read-t11
-    mul-at
-    array-set-from-at
-    add-n
-    add-i
-    loop-less
+    (λ c. omega arith)
+    (λ c. omega arith)
+    (λ c. omega arith)
+    (λ c. omega arith)
+    (λ c. omega arith)
+    (λ c. omega arith)
     loop-again
     returns)

@@ -19,9 +19,6 @@ Inv-loop self k n queue₀ i₀ queue i = (k ≤ i) × (i < n) × (queue ≡ shi
 abbrev μ-loop : tie.MeasureT-loop
 μ-loop self k n queue₀ i₀ queue i = n - i
 
-cast-n : tie.Need-cast-n Inv-loop μ-loop
-cast-n c = omega arith
-
 returns : tie.Need-returns Inv-loop μ-loop
 returns c =
     let a = c .before .before .args in
@@ -33,24 +30,6 @@ loop-holds : tie.Need-loop-holds Inv-loop μ-loop
 loop-holds c =
     let a = c .before .before .before .args in (omega arith, omega arith, shift-none (a .k) (a .self .queue))
 
-add-loop : tie.Need-add-loop Inv-loop μ-loop
-add-loop c = omega arith
-
-add-queue : tie.Need-add-queue Inv-loop μ-loop
-add-queue c = omega arith
-
-array-read-queue : tie.Need-array-read-queue Inv-loop μ-loop
-array-read-queue c = omega arith
-
-array-write-queue : tie.Need-array-write-queue Inv-loop μ-loop
-array-write-queue c = omega arith
-
-add-i : tie.Need-add-i Inv-loop μ-loop
-add-i c = omega arith
-
-loop-less : tie.Need-loop-less Inv-loop μ-loop
-loop-less c = omega arith
-
 loop-again : tie.Need-loop-again Inv-loop μ-loop
 loop-again c =
     let s = c .before .before .before .before .before in
@@ -61,18 +40,6 @@ loop-again c =
       omega arith,
       rw (l .inv .2) (shift-step (a .k) (l .i) (l .inv .0) (a .self .queue) (omega arith)),
     )
-
-sub-queue : tie.Need-sub-queue Inv-loop μ-loop
-sub-queue c = omega arith
-
-array-write-queue-2 : tie.Need-array-write-queue-2 Inv-loop μ-loop
-array-write-queue-2 c = omega arith
-
-sub-self : tie.Need-sub-self Inv-loop μ-loop
-sub-self c = omega arith
-
-cast-self : tie.Need-cast-self Inv-loop μ-loop
-cast-self c = omega arith
 
 returns-2 : tie.Need-returns-2 Inv-loop μ-loop
 returns-2 c =
@@ -92,18 +59,18 @@ without-spec =
     (tie.spec
     Inv-loop
     μ-loop
-    cast-n
+    (λ c. omega arith)
     returns
     loop-holds
-    add-loop
-    add-queue
-    array-read-queue
-    array-write-queue
-    add-i
-    loop-less
+    (λ c. omega arith)
+    (λ c. omega arith)
+    (λ c. omega arith)
+    (λ c. omega arith)
+    (λ c. omega arith)
+    (λ c. omega arith)
     loop-again
-    sub-queue
-    array-write-queue-2
-    sub-self
-    cast-self
+    (λ c. omega arith)
+    (λ c. omega arith)
+    (λ c. omega arith)
+    (λ c. omega arith)
     returns-2)

@@ -18,26 +18,8 @@ Inv-loop ranks n list place₀ best₀ i₀ place best i = (i ≤ n) × Leads (s
 abbrev μ-loop : tie.MeasureT-loop
 μ-loop ranks n list place₀ best₀ i₀ place best i = n - i
 
-array-read-rank : tie.Need-array-read-rank Inv-loop μ-loop
-array-read-rank c = omega arith
-
-rank-requires : tie.Need-rank-requires Inv-loop μ-loop
-rank-requires c κs = tt
-
 loop-holds : tie.Need-loop-holds Inv-loop μ-loop
 loop-holds c = (omega arith, leads-one (senior-weak _) _, c .rank .ensures)
-
-array-read-rank-2 : tie.Need-array-read-rank-2 Inv-loop μ-loop
-array-read-rank-2 c = omega arith
-
-rank-requires-2 : tie.Need-rank-requires-2 Inv-loop μ-loop
-rank-requires-2 c κs = tt
-
-add-i : tie.Need-add-i Inv-loop μ-loop
-add-i c = omega arith
-
-loop-less : tie.Need-loop-less Inv-loop μ-loop
-loop-less c = omega arith
 
 loop-again : tie.Need-loop-again Inv-loop μ-loop
 unfolding senior
@@ -75,12 +57,12 @@ most-senior-spec =
     (tie.spec
     Inv-loop
     μ-loop
-    array-read-rank
-    rank-requires
+    (λ c. omega arith)
+    (λ _ _. tt)
     loop-holds
-    array-read-rank-2
-    rank-requires-2
-    add-i
-    loop-less
+    (λ c. omega arith)
+    (λ _ _. tt)
+    (λ c. omega arith)
+    (λ c. omega arith)
     loop-again
     returns)

@@ -28,27 +28,6 @@ juniors-64 c = array-length (c .args .self .juniors) (c .good .0 .1 .1 .1 .1 .1 
 loop-holds : tie.Need-loop-holds Inv-loop μ-loop
 loop-holds c = (omega arith, omega arith, λ l e f. (l, e, f, refl))
 
-array-read-j : tie.Need-array-read-j Inv-loop μ-loop
-array-read-j c = omega arith
-
-add-i : tie.Need-add-i Inv-loop μ-loop
-add-i c = omega arith
-
-cast-t13 : tie.Need-cast-t13 Inv-loop μ-loop
-cast-t13 c = omega arith
-
-mul-at : tie.Need-mul-at Inv-loop μ-loop
-mul-at c = omega arith
-
-array-set-from-at : tie.Need-array-set-from-at Inv-loop μ-loop
-array-set-from-at c = omega arith
-
-add-n : tie.Need-add-n Inv-loop μ-loop
-add-n c = omega arith
-
-loop-less : tie.Need-loop-less Inv-loop μ-loop
-loop-less c = omega arith
-
 loop-again : tie.Need-loop-again Inv-loop μ-loop
 loop-again c =
     let a = c .before .before .before .before .before .args in
@@ -64,9 +43,6 @@ loop-again c =
             rw (append-assoc, ← probes-some (a .x) (a .self .juniors) (l .i) (omega (arith, juniors-64 (c .before .before .before .before .before))) (c .if1 .taken)) (r .3),
           ),
     )
-
-loop-less-2 : tie.Need-loop-less-2 Inv-loop μ-loop
-loop-less-2 c = omega arith
 
 loop-again-2 : tie.Need-loop-again-2 Inv-loop μ-loop
 loop-again-2 c =
@@ -101,14 +77,14 @@ stored-probes-spec =
     Inv-loop
     μ-loop
     loop-holds
-    array-read-j
-    add-i
-    cast-t13
-    mul-at
-    array-set-from-at
-    add-n
-    loop-less
+    (λ c. omega arith)
+    (λ c. omega arith)
+    (λ c. omega arith)
+    (λ c. omega arith)
+    (λ c. omega arith)
+    (λ c. omega arith)
+    (λ c. omega arith)
     loop-again
-    loop-less-2
+    (λ c. omega arith)
     loop-again-2
     returns)

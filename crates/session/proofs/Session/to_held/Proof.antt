@@ -25,9 +25,6 @@ fits c =
     let a = c .before .before .before .args in
     front-length 64 (c .loop .inv .0) _ (toHeld (a .kind) (a .but) (a .held)) (c .loop .inv .3) (toHeld-length (a .kind) (a .but) (a .held))
 
-empty-requires : tie.Need-empty-requires Inv-loop μ-loop
-empty-requires c κs = tt
-
 loop-holds : tie.Need-loop-holds Inv-loop μ-loop
 loop-holds c = ([], refl, ap (λ (o : Outbox). o .at) (c .before .empty .ensures), refl)
 
@@ -84,7 +81,7 @@ to-held-spec =
     (tie.spec
     Inv-loop
     μ-loop
-    empty-requires
+    (λ _ _. tt)
     loop-holds
     lowest-requires
     mul-at
