@@ -47,19 +47,4 @@ returns c =
 
 pub get64-spec : {M : Type 1} → statement M
 get64-spec =
-    tie.close
-    (tie.spec
-    (λ c κs. search needs)
-    (λ c. search needs)
-    (λ c κs. search needs)
-    mul-result
-    add-result
-    (λ c. search needs)
-    (λ c κs. search needs)
-    mul-result-2
-    add-result-2
-    (λ c. search needs)
-    (λ c κs. search needs)
-    mul-result-3
-    add-result-3
-    returns)
+    tie.close (tie.spec (λ c κs. search needs) (λ c. search needs) (λ c κs. search needs) mul-result add-result (λ c. search needs) (λ c κs. search needs) mul-result-2 add-result-2 (λ c. search needs) (λ c κs. search needs) mul-result-3 add-result-3 returns)

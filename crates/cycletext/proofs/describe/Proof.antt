@@ -89,17 +89,4 @@ returns-3 c =
 
 pub describe-spec : {M : Type 1} → statement M
 describe-spec =
-    tie.close
-    (tie.spec
-    (λ c κs. search needs)
-    (λ c κs. search needs)
-    (λ c κs. search needs)
-    returns
-    (λ c κs. search needs)
-    lines-length-requires
-    (λ c κs. search needs)
-    returns-2
-    put-lines-requires
-    cast-t20
-    (λ c. search needs)
-    returns-3)
+    tie.close (tie.spec (λ c κs. search needs) (λ c κs. search needs) (λ c κs. search needs) returns (λ c κs. search needs) lines-length-requires (λ c κs. search needs) returns-2 put-lines-requires cast-t20 (λ c. search needs) returns-3)

@@ -55,15 +55,4 @@ returns c =
 
 pub leader-spec : {M : Type 1} → statement M
 leader-spec =
-    tie.close
-    (tie.spec
-    Inv-loop
-    μ-loop
-    ranks-requires
-    loop-holds
-    next-requires
-    (λ _ _. tt)
-    (λ c. omega arith)
-    (λ c. omega arith)
-    loop-again
-    returns)
+    tie.close (tie.spec Inv-loop μ-loop ranks-requires loop-holds next-requires (λ _ _. tt) (λ c. omega arith) (λ c. omega arith) loop-again returns)

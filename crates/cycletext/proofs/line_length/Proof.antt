@@ -37,15 +37,4 @@ returns c =
 
 pub line-length-spec : {M : Type 1} → statement M
 line-length-spec =
-    tie.close
-    (tie.spec
-    (λ c. search needs)
-    (λ c κs. search needs)
-    add-result
-    (λ c. search needs)
-    (λ c κs. search needs)
-    add-result-2
-    (λ c. search needs)
-    (λ c κs. search needs)
-    add-result-3
-    returns)
+    tie.close (tie.spec (λ c. search needs) (λ c κs. search needs) add-result (λ c. search needs) (λ c κs. search needs) add-result-2 (λ c. search needs) (λ c κs. search needs) add-result-3 returns)

@@ -45,15 +45,4 @@ returns c =
 
 pub lines-length-spec : {M : Type 1} → statement M
 lines-length-spec =
-    tie.close
-    (tie.spec
-    Inv-loop
-    μ-loop
-    loop-holds
-    next-requires
-    (λ _ _. tt)
-    add-length
-    (λ c. omega arith)
-    (λ c. omega arith)
-    loop-again
-    returns)
+    tie.close (tie.spec Inv-loop μ-loop loop-holds next-requires (λ _ _. tt) add-length (λ c. omega arith) (λ c. omega arith) loop-again returns)

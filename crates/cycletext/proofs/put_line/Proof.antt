@@ -95,21 +95,4 @@ returns c = let w = wrote-7 (c .before .before) in (w .bytes, w .behind)
 
 pub put-line-spec : {M : Type 1} → statement M
 put-line-spec =
-    tie.close
-    (tie.spec
-    (λ c. search needs)
-    put-bytes-requires
-    (λ c. search needs)
-    put-decimal-requires
-    (λ c. search needs)
-    put-bytes-requires-2
-    (λ c. search needs)
-    put-decimal-requires-2
-    (λ c. search needs)
-    put-bytes-requires-3
-    (λ c. search needs)
-    put-decimal-requires-3
-    (λ c. search needs)
-    put-bytes-requires-4
-    same-length
-    returns)
+    tie.close (tie.spec (λ c. search needs) put-bytes-requires (λ c. search needs) put-decimal-requires (λ c. search needs) put-bytes-requires-2 (λ c. search needs) put-decimal-requires-2 (λ c. search needs) put-bytes-requires-3 (λ c. search needs) put-decimal-requires-3 (λ c. search needs) put-bytes-requires-4 same-length returns)

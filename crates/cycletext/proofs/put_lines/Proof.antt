@@ -80,19 +80,4 @@ returns c =
 
 pub put-lines-spec : {M : Type 1} → statement M
 put-lines-spec =
-    tie.close
-    (tie.spec
-    Inv-loop
-    μ-loop
-    loop-holds
-    next-requires
-    sub-put-line
-    part-put-line-start
-    (λ c. omega arith)
-    put-line-requires
-    add-free
-    (λ c. omega arith)
-    (λ c. omega arith)
-    loop-again
-    same-length
-    returns)
+    tie.close (tie.spec Inv-loop μ-loop loop-holds next-requires sub-put-line part-put-line-start (λ c. omega arith) put-line-requires add-free (λ c. omega arith) (λ c. omega arith) loop-again same-length returns)

@@ -32,14 +32,4 @@ returns-2 c =
 
 pub deliver-spec : {M : Type 1} → statement M
 deliver-spec =
-    tie.close
-    (tie.spec
-    (λ c κs. search needs)
-    deliver-to-item-requires
-    (λ c. search needs)
-    (λ c. search needs)
-    returns
-    deliver-to-session-requires
-    (λ c. search needs)
-    (λ c. search needs)
-    returns-2)
+    tie.close (tie.spec (λ c κs. search needs) deliver-to-item-requires (λ c. search needs) (λ c. search needs) returns deliver-to-session-requires (λ c. search needs) (λ c. search needs) returns-2)

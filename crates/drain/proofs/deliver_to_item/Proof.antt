@@ -46,15 +46,4 @@ returns-2 c =
 
 pub deliver-to-item-spec : {M : Type 1} → statement M
 deliver-to-item-spec =
-    tie.close
-    (tie.spec
-    item-receives-requires
-    (λ c κs. search needs)
-    (λ c. search needs)
-    (λ c. search needs)
-    returns
-    post-requires
-    put-item-requires
-    (λ c. search needs)
-    (λ c. search needs)
-    returns-2)
+    tie.close (tie.spec item-receives-requires (λ c κs. search needs) (λ c. search needs) (λ c. search needs) returns post-requires put-item-requires (λ c. search needs) (λ c. search needs) returns-2)

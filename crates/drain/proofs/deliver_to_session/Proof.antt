@@ -45,15 +45,4 @@ returns-2 c =
 
 pub deliver-to-session-spec : {M : Type 1} → statement M
 deliver-to-session-spec =
-    tie.close
-    (tie.spec
-    session-receives-requires
-    (λ c κs. search needs)
-    (λ c. search needs)
-    (λ c. search needs)
-    returns
-    post-requires
-    put-session-requires
-    (λ c. search needs)
-    (λ c. search needs)
-    returns-2)
+    tie.close (tie.spec session-receives-requires (λ c κs. search needs) (λ c. search needs) (λ c. search needs) returns post-requires put-session-requires (λ c. search needs) (λ c. search needs) returns-2)

@@ -19,5 +19,4 @@ returns c = let a = c .args in simp towards-suc (sets-splice (a .m .now) (a .at)
 
 pub put-spec : {M : Type 1} → statement M
 put-spec =
-    tie.close
-    (tie.spec (λ c. search needs) (λ c. search needs) slice-write-m-2 (λ c. search needs) slice-write-m-3 (λ c. search needs) returns)
+    tie.close (tie.spec (λ c. search needs) (λ c. search needs) slice-write-m-2 (λ c. search needs) slice-write-m-3 (λ c. search needs) returns)

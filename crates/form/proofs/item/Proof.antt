@@ -54,17 +54,4 @@ returns-4 c =
 
 pub item-spec : {M : Type 1} → statement M
 item-spec =
-    tie.close
-    (tie.spec
-    (λ c. search needs)
-    (λ c. search needs)
-    (λ c. search needs)
-    cast-n
-    returns
-    returns-2
-    (λ c. search needs)
-    (λ c κs. search needs)
-    (λ c. search needs)
-    queue-requires
-    returns-3
-    returns-4)
+    tie.close (tie.spec (λ c. search needs) (λ c. search needs) (λ c. search needs) cast-n returns returns-2 (λ c. search needs) (λ c κs. search needs) (λ c. search needs) queue-requires returns-3 returns-4)

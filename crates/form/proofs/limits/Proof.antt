@@ -28,5 +28,4 @@ returns c = let all : c .before .loop .k ≡ maxSessions = omega arith in rw (al
 
 pub limits-spec : {M : Type 1} → statement M
 limits-spec =
-    tie.close
-    (tie.spec Inv-loop μ-loop loop-holds (λ c. search needs) (λ c. search needs) (λ c. search needs) loop-again returns)
+    tie.close (tie.spec Inv-loop μ-loop loop-holds (λ c. search needs) (λ c. search needs) (λ c. search needs) loop-again returns)

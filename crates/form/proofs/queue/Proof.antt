@@ -68,19 +68,4 @@ returns-3 c =
 
 pub queue-spec : {M : Type 1} → statement M
 queue-spec =
-    tie.close
-    (tie.spec
-    Inv-loop
-    μ-loop
-    (λ c κs. search needs)
-    loop-holds
-    (λ c. search needs)
-    (λ c. search needs)
-    returns
-    contains-requires
-    returns-2
-    insert-requires
-    (λ c. search needs)
-    (λ c. search needs)
-    loop-again
-    returns-3)
+    tie.close (tie.spec Inv-loop μ-loop (λ c κs. search needs) loop-holds (λ c. search needs) (λ c. search needs) returns contains-requires returns-2 insert-requires (λ c. search needs) (λ c. search needs) loop-again returns-3)

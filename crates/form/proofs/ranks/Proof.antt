@@ -76,19 +76,4 @@ returns-3 c =
 
 pub ranks-spec : {M : Type 1} → statement M
 ranks-spec =
-    tie.close
-    (tie.spec
-    Inv-loop
-    μ-loop
-    loop-holds
-    (λ c. omega arith)
-    returns
-    cast-if2
-    returns-2
-    insert-requires
-    (λ c. omega arith)
-    (λ c. omega arith)
-    loop-again
-    cast-full
-    full-requires
-    returns-3)
+    tie.close (tie.spec Inv-loop μ-loop loop-holds (λ c. omega arith) returns cast-if2 returns-2 insert-requires (λ c. omega arith) (λ c. omega arith) loop-again cast-full full-requires returns-3)

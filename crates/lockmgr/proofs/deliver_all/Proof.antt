@@ -79,16 +79,4 @@ returns c =
 
 pub deliver-all-spec : {M : Type 1} → statement M
 deliver-all-spec =
-    tie.close
-    (tie.spec
-    Inv-loop
-    μ-loop
-    loop-holds
-    take-turn-requires
-    loop-less
-    loop-again
-    close-gap-requires
-    (λ c κs. search needs)
-    same-length
-    same-length-2
-    returns)
+    tie.close (tie.spec Inv-loop μ-loop loop-holds take-turn-requires loop-less loop-again close-gap-requires (λ c κs. search needs) same-length same-length-2 returns)

@@ -37,12 +37,4 @@ returns-2 c =
 
 pub lockmgr-cycle-text-spec : {M : Type 1} → statement M
 lockmgr-cycle-text-spec =
-    tie.close
-    (tie.spec
-    (λ c κs. search needs)
-    (λ c κs. search needs)
-    returns
-    cast-describe
-    describe-requires
-    (λ c. search needs)
-    returns-2)
+    tie.close (tie.spec (λ c κs. search needs) (λ c κs. search needs) returns cast-describe describe-requires (λ c. search needs) returns-2)

@@ -52,18 +52,4 @@ returns-4 c =
 
 pub lockmgr-reopen-spec : {M : Type 1} → statement M
 lockmgr-reopen-spec =
-    tie.close
-    (tie.spec
-    (λ c κs. search needs)
-    (λ c. search needs)
-    returns
-    (λ c. search needs)
-    returns-2
-    sessions-requires
-    (λ c. search needs)
-    (λ c. search needs)
-    returns-3
-    (λ c. search needs)
-    reopen-requires
-    (λ c. search needs)
-    returns-4)
+    tie.close (tie.spec (λ c κs. search needs) (λ c. search needs) returns (λ c. search needs) returns-2 sessions-requires (λ c. search needs) (λ c. search needs) returns-3 (λ c. search needs) reopen-requires (λ c. search needs) returns-4)

@@ -31,5 +31,4 @@ returns-2 c = rw (admitted (c .before), c .cycle-length .ensures) refl
 
 pub lockmgr-report-spec : {M : Type 1} → statement M
 lockmgr-report-spec =
-    tie.close
-    (tie.spec (λ c κs. search needs) returns cast-cycle-length cycle-length-requires returns-2)
+    tie.close (tie.spec (λ c κs. search needs) returns cast-cycle-length cycle-length-requires returns-2)

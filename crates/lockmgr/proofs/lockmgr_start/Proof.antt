@@ -53,16 +53,4 @@ returns-2 c = rw (admitted (c .before .before .before .before .before .before .b
 
 pub lockmgr-start-spec : {M : Type 1} → statement M
 lockmgr-start-spec =
-    tie.close
-    (tie.spec
-    (λ c κs. search needs)
-    (λ c. search needs)
-    (λ c. search needs)
-    returns
-    cast-clear
-    cast-clear-2
-    clear-requires
-    clear-requires-2
-    (λ c. search needs)
-    (λ c. search needs)
-    returns-2)
+    tie.close (tie.spec (λ c κs. search needs) (λ c. search needs) (λ c. search needs) returns cast-clear cast-clear-2 clear-requires clear-requires-2 (λ c. search needs) (λ c. search needs) returns-2)

@@ -40,16 +40,4 @@ returns-2 c =
 
 pub lockmgr-step-spec : {M : Type 1} → statement M
 lockmgr-step-spec =
-    tie.close
-    (tie.spec
-    (λ c κs. search needs)
-    (λ c κs. search needs)
-    (λ c. search needs)
-    (λ c. search needs)
-    returns
-    cast-act
-    cast-act-2
-    act-requires
-    (λ c. search needs)
-    (λ c. search needs)
-    returns-2)
+    tie.close (tie.spec (λ c κs. search needs) (λ c κs. search needs) (λ c. search needs) (λ c. search needs) returns cast-act cast-act-2 act-requires (λ c. search needs) (λ c. search needs) returns-2)

@@ -56,19 +56,4 @@ returns-4 c =
 
 pub take-turn-spec : {M : Type 1} → statement M
 take-turn-spec =
-    tie.close
-    (tie.spec
-    count-requires
-    (λ c. search needs)
-    returns
-    deliver-requires
-    (λ c. search needs)
-    (λ c. search needs)
-    returns-2
-    add-t17
-    (λ c. search needs)
-    (λ c. search needs)
-    returns-3
-    (λ c. search needs)
-    (λ c. search needs)
-    returns-4)
+    tie.close (tie.spec count-requires (λ c. search needs) returns deliver-requires (λ c. search needs) (λ c. search needs) returns-2 add-t17 (λ c. search needs) (λ c. search needs) returns-3 (λ c. search needs) (λ c. search needs) returns-4)

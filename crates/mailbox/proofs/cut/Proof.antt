@@ -40,20 +40,4 @@ returns c =
 
 pub cut-spec : {M : Type 1} → statement M
 cut-spec =
-    tie.close
-    (tie.spec
-    capacity-requires
-    count-requires
-    (λ c. search needs)
-    (λ c. search needs)
-    (λ c. search needs)
-    (λ c. search needs)
-    (λ c κs. search needs)
-    cut-requires
-    (λ c κs. search needs)
-    cut-requires-2
-    (λ c. search needs)
-    (λ c. search needs)
-    put16-requires
-    (λ c. search needs)
-    returns)
+    tie.close (tie.spec capacity-requires count-requires (λ c. search needs) (λ c. search needs) (λ c. search needs) (λ c. search needs) (λ c κs. search needs) cut-requires (λ c κs. search needs) cut-requires-2 (λ c. search needs) (λ c. search needs) put16-requires (λ c. search needs) returns)

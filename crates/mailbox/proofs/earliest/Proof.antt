@@ -19,8 +19,4 @@ returns c =
 
 pub earliest-spec : {M : Type 1} → statement M
 earliest-spec =
-    tie.close
-    (tie.spec
-    count-requires
-    first-requires
-    returns)
+    tie.close (tie.spec count-requires first-requires returns)

@@ -28,17 +28,4 @@ returns c = (λ e. c .new .ensures ∙ rw (e, c .before .before .before .before 
 
 pub message-spec : {M : Type 1} → statement M
 message-spec =
-    tie.close
-    (tie.spec
-    (λ c κs. search needs)
-    capacity-requires
-    (λ c κs. search needs)
-    (λ c. search needs)
-    shared-slice-read-new
-    shared-slice-read-new-2
-    (λ c. search needs)
-    shared-slice-read-new-3
-    (λ c. search needs)
-    shared-slice-read-new-4
-    (λ c κs. search needs)
-    returns)
+    tie.close (tie.spec (λ c κs. search needs) capacity-requires (λ c κs. search needs) (λ c. search needs) shared-slice-read-new shared-slice-read-new-2 (λ c. search needs) shared-slice-read-new-3 (λ c. search needs) shared-slice-read-new-4 (λ c κs. search needs) returns)

@@ -76,21 +76,4 @@ returns c =
 
 pub post-spec : {M : Type 1} → statement M
 post-spec =
-    tie.close
-    (tie.spec
-    Inv-loop
-    μ-loop
-    capacity-requires
-    count-requires
-    loop-holds
-    (λ c. omega arith)
-    (λ c. omega arith)
-    (λ c κs. omega arith)
-    (λ c κs. omega arith)
-    (λ c. omega arith)
-    add-requires
-    (λ c. omega arith)
-    (λ c. omega arith)
-    loop-again
-    same-length
-    returns)
+    tie.close (tie.spec Inv-loop μ-loop capacity-requires count-requires loop-holds (λ c. omega arith) (λ c. omega arith) (λ c κs. omega arith) (λ c κs. omega arith) (λ c. omega arith) add-requires (λ c. omega arith) (λ c. omega arith) loop-again same-length returns)

@@ -22,12 +22,4 @@ returns c = rw (c .before .before .before .route-place .ensures) refl
 
 pub route-of-spec : {M : Type 1} → statement M
 route-of-spec =
-    tie.close
-    (tie.spec
-    (λ c κs. search needs)
-    shared-slice-read-t5
-    (λ c. search needs)
-    shared-slice-read-t8
-    (λ c. search needs)
-    shared-slice-read-t11
-    returns)
+    tie.close (tie.spec (λ c κs. search needs) shared-slice-read-t5 (λ c. search needs) shared-slice-read-t8 (λ c. search needs) shared-slice-read-t11 returns)

@@ -24,9 +24,4 @@ returns-2 c = rw (c .size .ensures, c .before .capacity .ensures) refl
 
 pub sized-spec : {M : Type 1} → statement M
 sized-spec =
-    tie.close
-    (tie.spec
-    returns
-    (λ c κs. search needs)
-    size-requires
-    returns-2)
+    tie.close (tie.spec returns (λ c κs. search needs) size-requires returns-2)

@@ -61,17 +61,4 @@ returns-3 c =
 
 pub well-formed-spec : {M : Type 1} → statement M
 well-formed-spec =
-    tie.close
-    (tie.spec
-    capacity-requires
-    count-requires
-    mul-left
-    route-place-requires
-    well-formed-requires
-    route-place-requires-2
-    is-zero-requires
-    body-place-requires
-    is-zero-requires-2
-    returns
-    returns-2
-    returns-3)
+    tie.close (tie.spec capacity-requires count-requires mul-left route-place-requires well-formed-requires route-place-requires-2 is-zero-requires body-place-requires is-zero-requires-2 returns returns-2 returns-3)

@@ -70,14 +70,4 @@ returns-4 c =
 
 pub may-reopen-spec : {M : Type 1} → statement M
 may-reopen-spec =
-    tie.close
-    (tie.spec
-    session-requires
-    (λ _ _. tt)
-    returns
-    no-probe-names-requires
-    returns-2
-    no-item-names-requires
-    returns-3
-    no-entry-names-requires
-    returns-4)
+    tie.close (tie.spec session-requires (λ _ _. tt) returns no-probe-names-requires returns-2 no-item-names-requires returns-3 no-entry-names-requires returns-4)

@@ -66,16 +66,4 @@ returns-2 c =
 
 pub no-entry-names-spec : {M : Type 1} → statement M
 no-entry-names-spec =
-    tie.close
-    (tie.spec
-    Inv-loop
-    μ-loop
-    count-requires
-    loop-holds
-    message-to-item-requires
-    entry-names-requires
-    returns
-    (λ c. search needs)
-    (λ c. search needs)
-    loop-again
-    returns-2)
+    tie.close (tie.spec Inv-loop μ-loop count-requires loop-holds message-to-item-requires entry-names-requires returns (λ c. search needs) (λ c. search needs) loop-again returns-2)

@@ -68,17 +68,4 @@ returns-2 c =
 
 pub no-item-names-spec : {M : Type 1} → statement M
 no-item-names-spec =
-    tie.close
-    (tie.spec
-    Inv-loop
-    μ-loop
-    items-requires
-    loop-holds
-    add-item
-    item-requires
-    item-names-requires
-    returns
-    (λ c. search needs)
-    (λ c. search needs)
-    loop-again
-    returns-2)
+    tie.close (tie.spec Inv-loop μ-loop items-requires loop-holds add-item item-requires item-names-requires returns (λ c. search needs) (λ c. search needs) loop-again returns-2)

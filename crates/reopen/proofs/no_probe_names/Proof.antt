@@ -66,17 +66,4 @@ returns-2 c =
 
 pub no-probe-names-spec : {M : Type 1} → statement M
 no-probe-names-spec =
-    tie.close
-    (tie.spec
-    Inv-loop
-    μ-loop
-    sessions-requires
-    loop-holds
-    add-session
-    session-requires
-    stored-names-requires
-    returns
-    (λ c. search needs)
-    (λ c. search needs)
-    loop-again
-    returns-2)
+    tie.close (tie.spec Inv-loop μ-loop sessions-requires loop-holds add-session session-requires stored-names-requires returns (λ c. search needs) (λ c. search needs) loop-again returns-2)

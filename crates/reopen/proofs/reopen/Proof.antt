@@ -30,12 +30,4 @@ returns-2 c =
 
 pub reopen-spec : {M : Type 1} → statement M
 reopen-spec =
-    tie.close
-    (tie.spec
-    may-reopen-requires
-    (λ c. search needs)
-    returns
-    session-requires
-    put-session-requires
-    (λ c. search needs)
-    returns-2)
+    tie.close (tie.spec may-reopen-requires (λ c. search needs) returns session-requires put-session-requires (λ c. search needs) returns-2)

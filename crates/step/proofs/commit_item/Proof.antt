@@ -43,16 +43,4 @@ returns-2 c w e =
 
 pub commit-item-spec : {M : Type 1} → statement M
 commit-item-spec =
-    tie.close
-    (tie.spec
-    (λ c κs. search needs)
-    (λ c κs. search needs)
-    (λ c. search needs)
-    returns
-    post-requires
-    (λ c κs. search needs)
-    (λ c. search needs)
-    answer-of-requires
-    (λ c. search needs)
-    (λ c. search needs)
-    returns-2)
+    tie.close (tie.spec (λ c κs. search needs) (λ c κs. search needs) (λ c. search needs) returns post-requires (λ c κs. search needs) (λ c. search needs) answer-of-requires (λ c. search needs) (λ c. search needs) returns-2)

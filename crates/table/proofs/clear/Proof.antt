@@ -63,21 +63,4 @@ returns c =
 
 pub clear-spec : {M : Type 1} → statement M
 clear-spec =
-    tie.close
-    (tie.spec
-    Inv-loop
-    μ-loop
-    (λ c κs. search needs)
-    slice-write-t
-    slice-write-t-2
-    loop-holds
-    (λ c. search needs)
-    (λ c. search needs)
-    slice-write-t-3
-    (λ c. search needs)
-    (λ c. search needs)
-    loop-again
-    (λ c κs. search needs)
-    put-bytes-requires
-    same-length
-    returns)
+    tie.close (tie.spec Inv-loop μ-loop (λ c κs. search needs) slice-write-t slice-write-t-2 loop-holds (λ c. search needs) (λ c. search needs) slice-write-t-3 (λ c. search needs) (λ c. search needs) loop-again (λ c κs. search needs) put-bytes-requires same-length returns)

@@ -22,5 +22,4 @@ returns c = rw (c .before .item-place .ensures, c .before .before .sessions .ens
 
 pub holder-spec : {M : Type 1} → statement M
 holder-spec =
-    tie.close
-    (tie.spec sessions-requires (λ c κs. search needs) shared-slice-read-result returns)
+    tie.close (tie.spec sessions-requires (λ c κs. search needs) shared-slice-read-result returns)

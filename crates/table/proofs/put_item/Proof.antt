@@ -21,5 +21,4 @@ returns c = c .before .before .store .ensures ∙ rw (c .before .before .before 
 
 pub put-item-spec : {M : Type 1} → statement M
 put-item-spec =
-    tie.close
-    (tie.spec sessions-requires (λ c κs. search needs) store-requires (λ c. search needs) returns)
+    tie.close (tie.spec sessions-requires (λ c κs. search needs) store-requires (λ c. search needs) returns)

@@ -31,13 +31,4 @@ returns c =
 
 pub ranks-spec : {M : Type 1} → statement M
 ranks-spec =
-    tie.close
-    (tie.spec
-    sessions-requires
-    items-requires
-    (λ c κs. search needs)
-    (λ c κs. search needs)
-    (λ c. search needs)
-    (λ c. search needs)
-    part-result-end
-    returns)
+    tie.close (tie.spec sessions-requires items-requires (λ c κs. search needs) (λ c κs. search needs) (λ c. search needs) (λ c. search needs) part-result-end returns)

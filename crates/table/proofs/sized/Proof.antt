@@ -25,5 +25,4 @@ returns-2 c = rw (c .size .ensures, c .before .items .ensures, c .before .before
 
 pub sized-spec : {M : Type 1} → statement M
 sized-spec =
-    tie.close
-    (tie.spec returns (λ c κs. search needs) (λ c κs. search needs) (λ c. search needs) (λ c. search needs) (λ c κs. search needs) returns-2)
+    tie.close (tie.spec returns (λ c κs. search needs) (λ c κs. search needs) (λ c. search needs) (λ c. search needs) (λ c κs. search needs) returns-2)

@@ -28,5 +28,4 @@ returns c = rw (c .before .item-place .ensures, c .before .before .sessions .ens
 
 pub waiting-spec : {M : Type 1} → statement M
 waiting-spec =
-    tie.close
-    (tie.spec sessions-requires (λ c κs. search needs) add-result shared-slice-read-result returns)
+    tie.close (tie.spec sessions-requires (λ c κs. search needs) add-result shared-slice-read-result returns)

@@ -116,35 +116,4 @@ returns-3 c =
 
 pub well-formed-spec : {M : Type 1} → statement M
 well-formed-spec =
-    tie.close
-    (tie.spec
-    Inv-loop
-    μ-loop
-    Inv-loop2
-    μ-loop2
-    sessions-requires
-    items-requires
-    (λ c κs. search needs)
-    full-requires
-    cast-sessions
-    loop-holds
-    (λ c. search needs)
-    (λ c. search needs)
-    session-requires
-    (λ c. search needs)
-    (λ c. search needs)
-    loop-again
-    returns
-    (λ c κs. search needs)
-    (λ c. search needs)
-    loop2-holds
-    (λ c. search needs)
-    (λ c. search needs)
-    item-requires
-    (λ c. search needs)
-    (λ c. search needs)
-    loop2-again
-    returns-2
-    ranks-requires
-    ranks-requires-2
-    returns-3)
+    tie.close (tie.spec Inv-loop μ-loop Inv-loop2 μ-loop2 sessions-requires items-requires (λ c κs. search needs) full-requires cast-sessions loop-holds (λ c. search needs) (λ c. search needs) session-requires (λ c. search needs) (λ c. search needs) loop-again returns (λ c κs. search needs) (λ c. search needs) loop2-holds (λ c. search needs) (λ c. search needs) item-requires (λ c. search needs) (λ c. search needs) loop2-again returns-2 ranks-requires ranks-requires-2 returns-3)

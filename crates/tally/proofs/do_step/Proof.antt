@@ -22,15 +22,4 @@ returns c =
 
 pub do-step-spec : {M : Type 1} → statement M
 do-step-spec =
-    tie.close
-    (tie.spec
-    (λ c κs. search needs)
-    (λ c. search needs)
-    (λ c. search needs)
-    (λ c. search needs)
-    (λ c κs. search needs)
-    stage-requires-2
-    (λ c κs. search needs)
-    (λ c. search needs)
-    (λ c. search needs)
-    returns)
+    tie.close (tie.spec (λ c κs. search needs) (λ c. search needs) (λ c. search needs) (λ c. search needs) (λ c κs. search needs) stage-requires-2 (λ c κs. search needs) (λ c. search needs) (λ c. search needs) returns)

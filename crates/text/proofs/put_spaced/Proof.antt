@@ -62,18 +62,4 @@ returns c =
 
 pub put-spaced-spec : {M : Type 1} → statement M
 put-spaced-spec =
-    tie.close
-    (tie.spec
-    Inv-loop
-    μ-loop
-    loop-holds
-    slice-write-out
-    add-put-decimal
-    (λ c. omega arith)
-    (λ c. omega arith)
-    put-decimal-requires
-    (λ c. omega arith)
-    (λ c. omega arith)
-    loop-again
-    (λ c. omega arith)
-    returns)
+    tie.close (tie.spec Inv-loop μ-loop loop-holds slice-write-out add-put-decimal (λ c. omega arith) (λ c. omega arith) put-decimal-requires (λ c. omega arith) (λ c. omega arith) loop-again (λ c. omega arith) returns)

@@ -19,12 +19,4 @@ returns c = rw (← ranks (c .before .before .before .before .before .before .be
 
 pub begin-spec : {M : Type 1} → statement M
 begin-spec =
-    tie.close
-    (tie.spec
-    (λ c κs. search needs)
-    (λ c. search needs)
-    slice-aggregate-lockmgr-start
-    (λ c κs. search needs)
-    (λ c. search needs)
-    (λ c. search needs)
-    returns)
+    tie.close (tie.spec (λ c κs. search needs) (λ c. search needs) slice-aggregate-lockmgr-start (λ c κs. search needs) (λ c. search needs) (λ c. search needs) returns)

@@ -114,24 +114,4 @@ returns c =
 
 pub play-spec : {M : Type 1} → statement M
 play-spec =
-    tie.close
-    (tie.spec
-    Inv-loop
-    μ-loop
-    shared-slice-read-begin
-    shared-slice-read-begin-2
-    begin-requires
-    get16-requires
-    loop-holds
-    read-step-requires
-    tallied-step-requires
-    add-k
-    put-step-requires
-    (λ c. omega arith)
-    loop-again
-    count-requires
-    put-end-requires
-    same-length
-    same-length-2
-    same-length-3
-    returns)
+    tie.close (tie.spec Inv-loop μ-loop shared-slice-read-begin shared-slice-read-begin-2 begin-requires get16-requires loop-holds read-step-requires tallied-step-requires add-k put-step-requires (λ c. omega arith) loop-again count-requires put-end-requires same-length same-length-2 same-length-3 returns)

@@ -44,14 +44,4 @@ returns-2 c = rw (c .get16 .ensures) refl
 
 pub well-formed-spec : {M : Type 1} → statement M
 well-formed-spec =
-    tie.close
-    (tie.spec
-    returns
-    (λ c. search needs)
-    (λ c. search needs)
-    (λ c κs. search needs)
-    cast-result
-    cast-result-2
-    mul-result
-    add-result
-    returns-2)
+    tie.close (tie.spec returns (λ c. search needs) (λ c. search needs) (λ c κs. search needs) cast-result cast-result-2 mul-result add-result returns-2)

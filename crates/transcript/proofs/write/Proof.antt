@@ -80,20 +80,4 @@ returns-3 c =
 
 pub write-spec : {M : Type 1} → statement M
 write-spec =
-    tie.close
-    (tie.spec
-    returns
-    (λ c κs. search needs)
-    (λ c. search needs)
-    (λ c κs. search needs)
-    (λ c. search needs)
-    returns-2
-    shared-slice-read-size
-    shared-slice-read-size-2
-    (λ c κs. search needs)
-    array-borrow-prefix-table
-    slice-aggregate-play
-    (λ c. search needs)
-    play-requires
-    (λ c. search needs)
-    returns-3)
+    tie.close (tie.spec returns (λ c κs. search needs) (λ c. search needs) (λ c κs. search needs) (λ c. search needs) returns-2 shared-slice-read-size shared-slice-read-size-2 (λ c κs. search needs) array-borrow-prefix-table slice-aggregate-play (λ c. search needs) play-requires (λ c. search needs) returns-3)

@@ -110,23 +110,4 @@ returns-3 c =
 
 pub mark-spec : {M : Type 1} → statement M
 mark-spec =
-    tie.close
-    (tie.spec
-    Inv-loop
-    μ-loop
-    holder-requires
-    returns
-    waiting-requires
-    returns-2
-    item-requires
-    loop-holds
-    cast-loop
-    element-copy-out-k
-    cast-k
-    sub-k
-    element-copy-out-if3
-    element-write-at
-    add-j
-    (λ c. omega arith)
-    loop-again
-    returns-3)
+    tie.close (tie.spec Inv-loop μ-loop holder-requires returns waiting-requires returns-2 item-requires loop-holds cast-loop element-copy-out-k cast-k sub-k element-copy-out-if3 element-write-at add-j (λ c. omega arith) loop-again returns-3)

@@ -54,14 +54,4 @@ returns c =
 
 pub places-spec : {M : Type 1} → statement M
 places-spec =
-    tie.close
-    (tie.spec
-    Inv-loop
-    μ-loop
-    items-requires
-    loop-holds
-    mark-requires
-    add-x
-    (λ c. omega arith)
-    loop-again
-    returns)
+    tie.close (tie.spec Inv-loop μ-loop items-requires loop-holds mark-requires add-x (λ c. omega arith) loop-again returns)

@@ -67,14 +67,4 @@ returns-2 c =
 
 pub consistent-spec : {M : Type 1} → statement M
 consistent-spec =
-    tie.close
-    (tie.spec
-    Inv-loop
-    μ-loop
-    loop-holds
-    read-day-requires
-    returns
-    add-day
-    (λ c. omega arith)
-    loop-again
-    returns-2)
+    tie.close (tie.spec Inv-loop μ-loop loop-holds read-day-requires returns add-day (λ c. omega arith) loop-again returns-2)

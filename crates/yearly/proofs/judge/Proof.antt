@@ -56,13 +56,4 @@ returns-4 c =
 
 pub judge-spec : {M : Type 1} → statement M
 judge-spec =
-    tie.close
-    (tie.spec
-    (λ c κs. search needs)
-    returns
-    value-requires
-    consistent-requires
-    sums-requires
-    returns-2
-    returns-3
-    returns-4)
+    tie.close (tie.spec (λ c κs. search needs) returns value-requires consistent-requires sums-requires returns-2 returns-3 returns-4)

@@ -81,16 +81,4 @@ returns c =
 
 pub put-days-spec : {M : Type 1} → statement M
 put-days-spec =
-    tie.close
-    (tie.spec
-    Inv-loop
-    μ-loop
-    loop-holds
-    read-day-requires
-    (λ c. search needs)
-    put-line-requires
-    add-day
-    (λ c. omega arith)
-    loop-again
-    same-length
-    returns)
+    tie.close (tie.spec Inv-loop μ-loop loop-holds read-day-requires (λ c. search needs) put-line-requires add-day (λ c. omega arith) loop-again same-length returns)

@@ -87,13 +87,4 @@ returns c =
 
 pub put-statement-spec : {M : Type 1} → statement M
 put-statement-spec =
-    tie.close
-    (tie.spec
-    value-requires
-    sums-requires
-    put-days-requires
-    rate-requires
-    (λ c. search needs)
-    put-line-requires
-    (λ c. search needs)
-    returns)
+    tie.close (tie.spec value-requires sums-requires put-days-requires rate-requires (λ c. search needs) put-line-requires (λ c. search needs) returns)

@@ -47,15 +47,4 @@ returns-3 c = let s = c .before .before in omega (arith, is-rate s _ (at-half (1
 
 pub rate-spec : {M : Type 1} → statement M
 rate-spec =
-    tie.close
-    (tie.spec
-    (λ c. search needs)
-    (λ c. search needs)
-    (λ c. search needs)
-    mul-if1
-    returns
-    mul-if2
-    add-result
-    returns-2
-    add-result-2
-    returns-3)
+    tie.close (tie.spec (λ c. search needs) (λ c. search needs) (λ c. search needs) mul-if1 returns mul-if2 add-result returns-2 add-result-2 returns-3)

@@ -64,15 +64,4 @@ returns c =
 
 pub sums-spec : {M : Type 1} → statement M
 sums-spec =
-    tie.close
-    (tie.spec
-    Inv-loop
-    μ-loop
-    loop-holds
-    read-day-requires
-    add-sessions
-    add-rollbacks
-    add-day
-    (λ c. omega arith)
-    loop-again
-    returns)
+    tie.close (tie.spec Inv-loop μ-loop loop-holds read-day-requires add-sessions add-rollbacks add-day (λ c. omega arith) loop-again returns)

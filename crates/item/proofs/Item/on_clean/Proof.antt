@@ -53,13 +53,4 @@ returns-2 c =
 
 pub on-clean-spec : {M : Type 1} → statement M
 on-clean-spec =
-    tie.close
-    (tie.spec
-    (λ c κs. search needs)
-    returns
-    (λ c κs. search needs)
-    (λ c κs. search needs)
-    (λ c κs. search needs)
-    probes-requires
-    resends-requires
-    returns-2)
+    tie.close (tie.spec (λ c κs. search needs) returns (λ c κs. search needs) (λ c κs. search needs) (λ c κs. search needs) probes-requires resends-requires returns-2)

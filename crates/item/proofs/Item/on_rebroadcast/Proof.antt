@@ -33,5 +33,4 @@ returns-2 c =
 
 pub on-rebroadcast-spec : {M : Type 1} → statement M
 on-rebroadcast-spec =
-    tie.close
-    (tie.spec (λ c κs. search needs) returns (λ c κs. search needs) probes-requires resends-requires returns-2)
+    tie.close (tie.spec (λ c κs. search needs) returns (λ c κs. search needs) probes-requires resends-requires returns-2)

@@ -24,5 +24,4 @@ returns-3 c =
 
 pub on-request-spec : {M : Type 1} → statement M
 on-request-spec =
-    tie.close
-    (tie.spec (λ c κs. search needs) (λ c κs. search needs) returns (λ c κs. search needs) returns-2 joined-requires returns-3)
+    tie.close (tie.spec (λ c κs. search needs) (λ c κs. search needs) returns (λ c κs. search needs) returns-2 joined-requires returns-3)

@@ -26,5 +26,4 @@ returns c =
 
 pub store-spec : {M : Type 1} → statement M
 store-spec =
-    tie.close
-    (tie.spec (λ c. search needs) (λ c. search needs) slice-write-t-2 (λ c. search needs) put-row-requires same-length returns)
+    tie.close (tie.spec (λ c. search needs) (λ c. search needs) slice-write-t-2 (λ c. search needs) put-row-requires same-length returns)

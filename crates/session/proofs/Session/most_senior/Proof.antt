@@ -53,16 +53,4 @@ returns c =
 
 pub most-senior-spec : {M : Type 1} → statement M
 most-senior-spec =
-    tie.close
-    (tie.spec
-    Inv-loop
-    μ-loop
-    (λ c. omega arith)
-    (λ _ _. tt)
-    loop-holds
-    (λ c. omega arith)
-    (λ _ _. tt)
-    (λ c. omega arith)
-    (λ c. omega arith)
-    loop-again
-    returns)
+    tie.close (tie.spec Inv-loop μ-loop (λ c. omega arith) (λ _ _. tt) loop-holds (λ c. omega arith) (λ _ _. tt) (λ c. omega arith) (λ c. omega arith) loop-again returns)

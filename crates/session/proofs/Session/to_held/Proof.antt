@@ -77,18 +77,4 @@ returns c =
 
 pub to-held-spec : {M : Type 1} → statement M
 to-held-spec =
-    tie.close
-    (tie.spec
-    Inv-loop
-    μ-loop
-    (λ _ _. tt)
-    loop-holds
-    lowest-requires
-    mul-at
-    array-set-from-at
-    add-n
-    loop-less
-    loop-again
-    loop-less-2
-    loop-again-2
-    returns)
+    tie.close (tie.spec Inv-loop μ-loop (λ _ _. tt) loop-holds lowest-requires mul-at array-set-from-at add-n loop-less loop-again loop-less-2 loop-again-2 returns)
