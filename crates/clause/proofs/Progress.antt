@@ -35,9 +35,9 @@ use Rattle.room.proofs.Theorem.{orderly, theorem}
 use Rattle.agreement.specs.Reading.{directionOf}
 use Rattle.agreement.proofs.MailboxAgrees.{length-readEntries}
 use Rattle.agreement.proofs.MoveAgrees.{placeOf}
-use Rattle.clause.specs.Statement.{opened}
+use Rattle.clause.specs.Statement.{opened, EmptyMail}
 use Rattle.clause.specs.Drains.{isAccepted, isDelivered, AllDelivered, DrainEnds, drainOf}
-use Rattle.clause.specs.Progress.{deliveryAt, EmptyMail, KeepsRule, RuleKept, Progress, Progresses}
+use Rattle.clause.specs.Progress.{deliveryAt, KeepsRule, RuleKept, Progress, Progresses}
 use Rattle.clause.proofs.State
 use Rattle.clause.proofs.State.{machineOf, machine-laws, stateOf, Good}
 use Rattle.clause.proofs.Moves.{Moved}

@@ -33,6 +33,7 @@ use Rattle.agreement.specs.Reading.{readSession, readSessions, readState, rules
 use Rattle.item.proofs.WellFormed.{unpacked-lock, packed-lock}
 use Rattle.agreement.proofs.MoveAgrees.{Replaced, StateWellFormed}
 use Rattle.agreement.proofs.RulesLaws.{rules-laws}
+use Rattle.clause.specs.Statement.{IsSession}
 
 -- the seniority of a lock manager, its next holder, and the machine with both
 abbrev pub seniorOf : Config → ℕ → ℕ → Bool
@@ -89,7 +90,7 @@ module _ (conf : Config) (table : List ℕ) (l : List Entry) (g : Good conf tabl
     mail-formed = rw (sessions-of g, items-of g) (MailLaws.wellFormed-mail (conf .capacity) l (g .low) (g .high) (g .room) (conf .table .sessions) (conf .table .items) (g .entries));
   }
 
-  session-known : (t : ℕ) → between 1 (conf .table .sessions) t ≡ true → (1 ≤ t) × (t ≤ Table.sessionsOf table)
+  session-known : (t : ℕ) → between 1 (conf .table .sessions) t ≡ true → IsSession (Table.sessionsOf table) t
   session-known t r = (within 1 (conf .table .sessions) t r .0, omega (arith, within 1 (conf .table .sessions) t r .1, sessions-of g))
 
   item-known : (x : ℕ) → between 1 (conf .table .items) x ≡ true → (1 ≤ x) × (x ≤ Table.itemsOf table)

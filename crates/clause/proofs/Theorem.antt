@@ -27,7 +27,7 @@ use Rattle.agreement.specs.Reading.{readEntries}
 use Rattle.agreement.proofs.MoveAgrees.{start-agrees}
 use Rattle.lockmgr.specs.Run.{Buffers, buffers}
 use Rattle.lockmgr.specs.History.{Call, after, steps}
-use Rattle.clause.specs.Statement.{opened, Settled, WellFormed, Holds, Clause}
+use Rattle.clause.specs.Statement.{opened, EmptyMail, IsSession, Settled, WellFormed, Holds, Clause}
 use Rattle.clause.proofs.State
 use Rattle.clause.proofs.State.{seniorOf, nextOf, machineOf, stateOf, Good, sessions-of, items-of, ranks-of}
 use Rattle.clause.proofs.Cycles.{on-cycle-of}
@@ -90,29 +90,29 @@ module _ (conf : Config) (b : Buffers) (calls : List Call) (h : Followed conf (M
         capacity = rw (h .mail) (MailLaws.capacity-mail (conf .capacity) (h .entries) (g .low) (g .high) (g .room));
       }
 
-  module _ (empty : Mail.countOf (after b calls .mail) ≡ 0) where
+  module _ (empty : EmptyMail (after b calls)) where
     no-mail : ran conf (Machine.start (machineOf conf)) (h .run) .state .mailbox ≡ []
     no-mail =
         let g = h .good in
         let n : length (h .entries) ≡ 0 = sym (MailLaws.count-mail (conf .capacity) (h .entries) (g .low) (g .high) (g .room)) ∙ ap Mail.countOf (sym (h .mail)) ∙ empty in
         ap (λ (s : Machine.State). s .mailbox) (h .state) ∙ none-read (h .entries) (no-entries (h .entries) n)
 
-    off-cycle : (t : ℕ) → 1 ≤ t → t ≤ conf .table .sessions → not (eqb (cycleLength table-left t) 0) ≡ false
-    off-cycle t lo hi =
+    off-cycle : (t : ℕ) → IsSession (conf .table .sessions) t → not (eqb (cycleLength table-left t) 0) ≡ false
+    off-cycle t known =
         sym (on-cycle-of conf table-left (h .entries) (h .good) t)
         ∙ ap (λ (s : Machine.State). Machine.onCycle (machineOf conf) s t) (sym (h .state))
-        ∙ guaranteed conf table-left (h .entries) (h .good) .settled-free (h .run) no-mail t lo hi
+        ∙ guaranteed conf table-left (h .entries) (h .good) .settled-free (h .run) no-mail t (known .0) (known .1)
 
-    no-cycle : (t : ℕ) → 1 ≤ t → t ≤ conf .table .sessions → cycleLength table-left t ≡ 0
-    no-cycle t lo hi = eqb-true (cycleLength table-left t) 0 (not-false (eqb (cycleLength table-left t) 0) (off-cycle t lo hi))
+    no-cycle : (t : ℕ) → IsSession (conf .table .sessions) t → cycleLength table-left t ≡ 0
+    no-cycle t known = eqb-true (cycleLength table-left t) 0 (not-false (eqb (cycleLength table-left t) 0) (off-cycle t known))
 
     settled : Settled (conf .table .sessions) b calls
     unfolding Calls.report Waits.onCycle
     settled = record {
       counts = omega (arith, h .closes, h .rolls, guaranteed conf table-left (h .entries) (h .good) .counts-agree (h .run) no-mail);
-      none-stands = cycles-none (waitsFor table-left) (Table.sessionsOf table-left) (Table.senior table-left) (λ t lo hi. off-cycle t lo (rw (sessions-of (h .good)) at hi));
-      reports = λ t lo hi. let high : t ≤ Table.sessionsOf table-left = rw (sessions-of (h .good)) hi in
-          rw (report-none t table-left (h .good .sized) (h .good .formed) lo high, no-cycle t lo hi) refl;
+      none-stands = cycles-none (waitsFor table-left) (Table.sessionsOf table-left) (Table.senior table-left) (λ t lo hi. off-cycle t (lo, rw (sessions-of (h .good)) at hi));
+      reports = λ t known. let high : t ≤ Table.sessionsOf table-left = rw (sessions-of (h .good)) (known .1) in
+          rw (report-none t table-left (h .good .sized) (h .good .formed) (known .0) high, no-cycle t known) refl;
     }
 
 -- every list of calls from a start that is not refused is followed by such a run

@@ -14,13 +14,10 @@ use Rattle.lockmgr.specs.Drain.{delivery, empty, full}
 use Rattle.lockmgr.specs.History.{Call, step, report, drain, reopen, leaves, after}
 use Rattle.bound.specs.Formula.{deliveryBound}
 use Rattle.room.specs.Capacity.{capacityBound}
-use Rattle.clause.specs.Statement.{opened}
+use Rattle.clause.specs.Statement.{opened, EmptyMail}
 use Rattle.clause.specs.Drains.{isDelivered, AllDelivered, drainOf}
 
 -- ---- the rule for callers
-abbrev pub EmptyMail : Buffers → Type 0
-EmptyMail b = Mail.countOf (b .mail) ≡ 0
-
 -- a request, a release or a reopening that is not refused finds the mail empty; deliveries, drains, reports and refused calls may come at any time
 abbrev pub KeepsRule : Buffers → Call → Type 0
 KeepsRule b (step verb t x) = isDelivery verb ≡ false → Calls.step verb t x (b .table) (b .mail) .answer .refusal ≡ 0 → EmptyMail b

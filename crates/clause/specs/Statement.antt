@@ -20,6 +20,14 @@ use Rattle.lockmgr.specs.History.{Call, after, steps}
 unfoldable pub opened : Config → List ℕ → List ℕ → Buffers
 opened c table mail = let r = Calls.start c table mail in buffers (r .table) (r .mail)
 
+-- no message is on its way
+abbrev pub EmptyMail : Buffers → Type 0
+EmptyMail b = Mail.countOf (b .mail) ≡ 0
+
+-- t is one of S sessions
+abbrev pub IsSession : ℕ → ℕ → Type 0
+IsSession S t = (1 ≤ t) × (t ≤ S)
+
 -- cycles closed, the sum of the closed fields: RULES 9.3
 unfoldable pub closed : List Done → ℕ
 closed [] = 0
@@ -39,7 +47,7 @@ reached table n t = Waits.reached (waitsFor table) n t
 
 -- initiator i lies on a cycle of the table, no member of it is senior to i, v is a member, and no member is junior to v, all by rank
 pub record TrueDeclaration (table : List ℕ) (v i : ℕ) : Type 0 where
-  pub known : (1 ≤ i) × (i ≤ Table.sessionsOf table)
+  pub known : IsSession (Table.sessionsOf table) i
   pub on-cycle : cycleLength table i ≢ 0
   pub most-senior : (n : ℕ) → Table.senior table (reached table n i) i ≡ false
   pub member : (n : ℕ) × (reached table n i ≡ v)
@@ -58,7 +66,7 @@ DeclarationsTrue (d ∷ l) = DeclaresTruly d × DeclarationsTrue l
 pub record Settled (S : ℕ) (b : Buffers) (calls : List Call) : Type 0 where
   pub counts : closed (steps b calls) ≡ rolledBack (steps b calls)
   pub none-stands : cycles (after b calls .table) ≡ 0
-  pub reports : (t : ℕ) → 1 ≤ t → t ≤ S → Calls.report t (after b calls .table) ≡ record { refusal = 0; length = 0 }
+  pub reports : (t : ℕ) → IsSession S t → Calls.report t (after b calls .table) ≡ record { refusal = 0; length = 0 }
 
 -- both buffers are well-formed, so that 3 and 4 are never answered, and what start was given stands in them
 pub record WellFormed (c : Config) (b : Buffers) : Type 0 where
@@ -67,7 +75,7 @@ pub record WellFormed (c : Config) (b : Buffers) : Type 0 where
   pub capacity : Mail.capacityOf (b .mail) ≡ c .capacity
 
 pub record Holds (c : Config) (b : Buffers) (calls : List Call) : Type 0 where
-  pub settled : Mail.countOf (after b calls .mail) ≡ 0 → Settled (c .table .sessions) b calls
+  pub settled : EmptyMail (after b calls) → Settled (c .table .sessions) b calls
   pub declarations : DeclarationsTrue (steps b calls)
   pub formed : WellFormed c (after b calls)
 
