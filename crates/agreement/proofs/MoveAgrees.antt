@@ -90,13 +90,25 @@ pub record StateWellFormed (S M : ℕ) (sessions : ℕ → Session) (locks : ℕ
   pub lock : (x : ℕ) → between 1 M x ≡ true → LockWellFormed S (locks x)
   pub entries : allOf (Entry.wellFormed S M) l ≡ true
 
+-- what is given: at most 64 sessions and items, a choice of the next holder that stays in the queue, and well-formed records and entries
+pub record Given (senior : ℕ → ℕ → Bool) (next : List ℕ → ℕ) (S M : ℕ) (sessions : ℕ → Session) (locks : ℕ → Lock) (l : List Entry) : Type 0 where
+  pub few-sessions : S ≤ 64
+  pub few-items : M ≤ 64
+  pub inside-queue : (q : List ℕ) → 0 < length q → next q < length q
+  pub formed : StateWellFormed S M sessions locks l
+
+-- the parties of a step: session t and item x are there
+pub record Parties (S M t x : ℕ) : Type 0 where
+  pub session : between 1 S t ≡ true
+  pub item : between 1 M x ≡ true
+
 -- session t of the machine
 pub session-at : (S : ℕ) (sessions : ℕ → Session) (t : ℕ) → between 1 S t ≡ true → readSessions S sessions t ≡ readSession (sessions t)
 unfolding readSessions
 session-at S sessions t r = rw (r) refl
 
 -- what session t does
-module _ (S M : ℕ) (sessions : ℕ → Session) (locks : ℕ → Lock) (l : List Entry) (w : StateWellFormed S M sessions locks l) (t : ℕ) (t-range : between 1 S t ≡ true) where
+module _ {S M : ℕ} {sessions : ℕ → Session} {locks : ℕ → Lock} {l : List Entry} (w : StateWellFormed S M sessions locks l) (t : ℕ) (t-range : between 1 S t ≡ true) where
   -- the state after it
   pub session-state : (rest : List Entry) (r : SessionRules.After) (g : ℕ → Session) → Replaced S sessions g t (r .session)
       → readState S M g locks (rest ++ map (fromSession t) (r .sends)) ≡ Machine.afterSession (readState S M sessions locks l) t (readEntries rest) (readSessionStep r)
@@ -116,21 +128,23 @@ module _ (S M : ℕ) (sessions : ℕ → Session) (locks : ℕ → Lock) (l : Li
       at j f true q = rw (← eqb-true t j q, h .here) (k .session, k .juniors)
       at j f false q = rw (h .elsewhere j f (eqb-false t j q)) (w .session j f, w .juniors j f)
 
-module _ (senior : ℕ → ℕ → Bool) (next : List ℕ → ℕ) (S M : ℕ) (few-sessions : S ≤ 64) (few-items : M ≤ 64)
-    (sessions : ℕ → Session) (locks : ℕ → Lock) (l : List Entry) (w : StateWellFormed S M sessions locks l)
-    (t x : ℕ) (t-range : between 1 S t ≡ true) (x-range : between 1 M x ≡ true) where
+module _ {senior : ℕ → ℕ → Bool} {next : List ℕ → ℕ} {S M : ℕ} {sessions : ℕ → Session} {locks : ℕ → Lock} {l : List Entry} (given : Given senior next S M sessions locks l)
+    {t x : ℕ} (p : Parties S M t x) where
+  w : StateWellFormed S M sessions locks l
+  w = given .formed
+
   abbrev R : Machine.Rules
   R = rules S M senior next
 
   pub item-at : readItems M locks x ≡ readItem (locks x)
   unfolding readItems
-  item-at = rw (x-range) refl
+  item-at = rw (p .item) refl
 
   -- an item's step
   item-state : (rest : List Entry) (r : ItemRules.After) (g : ℕ → Lock) → Replaced M locks g x (r .lock)
       → readState S M sessions g (rest ++ map (fromItem x) (r .sends)) ≡ Machine.afterItem (readState S M sessions locks l) x (readEntries rest) (readItemStep r)
   unfolding Machine.afterItem
-  item-state rest r g h = rw (items-replaced M locks g x (r .lock) x-range h, readEntries-append rest (map (fromItem x) (r .sends)), from-item x (r .sends)) refl
+  item-state rest r g h = rw (items-replaced M locks g x (r .lock) (p .item) h, readEntries-append rest (map (fromItem x) (r .sends)), from-item x (r .sends)) refl
 
   item-state-kept : (rest : List Entry) → allOf (Entry.wellFormed S M) rest ≡ true → (r : ItemRules.After) → ItemKept S M x r → (g : ℕ → Lock) → Replaced M locks g x (r .lock)
       → StateWellFormed S M sessions g (rest ++ map (fromItem x) (r .sends))
@@ -150,36 +164,36 @@ module _ (senior : ℕ → ℕ → Bool) (next : List ℕ → ℕ) (S M : ℕ) (
 
   -- what the mask says of item x
   held-at : readHeld (sessions t .held) x ≡ has x (sessions t .held)
-  held-at = held-read (sessions t .held) x (within 1 M x x-range .0) (omega (arith, within 1 M x x-range .1))
+  held-at = held-read (sessions t .held) x (within 1 M x (p .item) .0) (omega (arith, within 1 M x (p .item) .1, given .few-items))
 
   -- ---- the calls
   request-answer : Machine.onRequestCall R x (readSession (sessions t)) (readSession (sessions t) .stage)
       ≡ cond (eqb (sessions t .stage) Stage.growing && not (has x (sessions t .held))) (Machine.accepted (readSessionStep (SessionRules.requested x (sessions t)))) Machine.refused
-  request-answer = rw (← held-at) (request-agrees senior next S M few-sessions few-items (sessions t) (w .session t t-range) (w .juniors t t-range) x)
+  request-answer = rw (← held-at) (request-agrees senior next S M (given .few-sessions) (given .few-items) (sessions t) (w .session t (p .session)) (w .juniors t (p .session)) x)
 
   release-answer : Machine.onReleaseCall R x (readSession (sessions t)) (readSession (sessions t) .stage)
       ≡ cond ((eqb (sessions t .stage) Stage.growing || eqb (sessions t .stage) Stage.shrinking) && has x (sessions t .held)) (Machine.accepted (readSessionStep (SessionRules.released x (sessions t)))) Machine.refused
-  release-answer = rw (← held-at) (release-agrees senior next S M few-sessions few-items (sessions t) (w .session t t-range) (w .juniors t t-range) x (within 1 M x x-range .0) (within 1 M x x-range .1))
+  release-answer = rw (← held-at) (release-agrees senior next S M (given .few-sessions) (given .few-items) (sessions t) (w .session t (p .session)) (w .juniors t (p .session)) x (within 1 M x (p .item) .0) (within 1 M x (p .item) .1))
 
   -- a request in stage 1 for an item not held
   pub request-move : eqb (sessions t .stage) Stage.growing && not (has x (sessions t .held)) ≡ true → (g : ℕ → Session) → Replaced S sessions g t (SessionRules.requested x (sessions t) .session)
       → readState S M g locks (l ++ map (fromSession t) (SessionRules.requested x (sessions t) .sends)) ≡ Machine.move R before (Machine.requestCall t x)
   unfolding Machine.move Machine.afterAnswer
-  request-move e g h = rw (session-at S sessions t t-range, request-answer, e) (session-state S M sessions locks l w t t-range l (SessionRules.requested x (sessions t)) g h)
+  request-move e g h = rw (session-at S sessions t (p .session), request-answer, e) (session-state w t (p .session) l (SessionRules.requested x (sessions t)) g h)
 
   -- a release in stage 1 or 3 of an item held
   pub release-move : (eqb (sessions t .stage) Stage.growing || eqb (sessions t .stage) Stage.shrinking) && has x (sessions t .held) ≡ true → (g : ℕ → Session) → Replaced S sessions g t (SessionRules.released x (sessions t) .session)
       → readState S M g locks (l ++ map (fromSession t) (SessionRules.released x (sessions t) .sends)) ≡ Machine.move R before (Machine.releaseCall t x)
   unfolding Machine.move Machine.afterAnswer
-  release-move e g h = rw (session-at S sessions t t-range, release-answer, e) (session-state S M sessions locks l w t t-range l (SessionRules.released x (sessions t)) g h)
+  release-move e g h = rw (session-at S sessions t (p .session), release-answer, e) (session-state w t (p .session) l (SessionRules.released x (sessions t)) g h)
 
   pub request-move-kept : (g : ℕ → Session) → Replaced S sessions g t (SessionRules.requested x (sessions t) .session)
       → StateWellFormed S M g locks (l ++ map (fromSession t) (SessionRules.requested x (sessions t) .sends))
-  request-move-kept g h = session-state-kept S M sessions locks l w t t-range l (w .entries) (SessionRules.requested x (sessions t)) (request-kept S M t x t-range x-range (sessions t) (w .session t t-range) (w .juniors t t-range)) g h
+  request-move-kept g h = session-state-kept w t (p .session) l (w .entries) (SessionRules.requested x (sessions t)) (request-kept S M t x (p .session) (p .item) (sessions t) (w .session t (p .session)) (w .juniors t (p .session))) g h
 
   pub release-move-kept : eqb (sessions t .stage) Stage.growing || eqb (sessions t .stage) Stage.shrinking ≡ true → (g : ℕ → Session) → Replaced S sessions g t (SessionRules.released x (sessions t) .session)
       → StateWellFormed S M g locks (l ++ map (fromSession t) (SessionRules.released x (sessions t) .sends))
-  release-move-kept e g h = session-state-kept S M sessions locks l w t t-range l (w .entries) (SessionRules.released x (sessions t)) (release-kept S M t x t-range x-range (sessions t) (w .session t t-range) (w .juniors t t-range) e) g h
+  release-move-kept e g h = session-state-kept w t (p .session) l (w .entries) (SessionRules.released x (sessions t)) (release-kept S M t x (p .session) (p .item) (sessions t) (w .session t (p .session)) (w .juniors t (p .session)) e) g h
 
   -- ---- the deliveries
   module _ (d : Bool) (found : eqb (placeOf t x l d) (length l) ≡ false) where
@@ -211,12 +225,12 @@ module _ (senior : ℕ → ℕ → Bool) (next : List ℕ → ℕ) (S M : ℕ) (
     kind-range = let f = entry-facts S M (entryOf t x l d) entry-formed .kinds in (f .low, f .high)
 
   -- the earliest entry to item x
-  module _ (found : eqb (placeOf t x l true) (length l) ≡ false) (inside-queue : (q : List ℕ) → 0 < length q → next q < length q) where
+  module _ (found : eqb (placeOf t x l true) (length l) ≡ false) where
     pub item-step-agrees : readItemStep (itemStep senior next locks t x l) ≡ Machine.itemReceives R t (readItem (locks x)) (readMessage (entryOf t x l true .kind) (entryOf t x l true .a) (entryOf t x l true .b))
     item-step-agrees =
         let kind = kind-range true found in
-        let low : 1 ≤ entryOf t x l true .session = rw (entry-session true found) (within 1 S t t-range .0) in
-        item-agrees senior next S M (locks x) (seenByItem (entryOf t x l true)) low (kind .0) (kind .1) (w .lock x x-range) (inside-queue (locks x .queue))
+        let low : 1 ≤ entryOf t x l true .session = rw (entry-session true found) (within 1 S t (p .session) .0) in
+        item-agrees senior next S M (locks x) (seenByItem (entryOf t x l true)) low (kind .0) (kind .1) (w .lock x (p .item)) (given .inside-queue (locks x .queue))
         ∙ ap (λ (n : ℕ). Machine.itemReceives R n (readItem (locks x)) (readMessage (entryOf t x l true .kind) (entryOf t x l true .a) (entryOf t x l true .b))) (entry-session true found)
 
     pub item-move : (g : ℕ → Lock) → Replaced M locks g x (itemStep senior next locks t x l .lock)
@@ -227,7 +241,7 @@ module _ (senior : ℕ → ℕ → Bool) (next : List ℕ → ℕ) (S M : ℕ) (
     pub item-move-kept : (g : ℕ → Lock) → Replaced M locks g x (itemStep senior next locks t x l .lock) → StateWellFormed S M sessions g (othersOf t x l true ++ map (fromItem x) (itemStep senior next locks t x l .sends))
     item-move-kept g h =
         item-state-kept (othersOf t x l true) (others-formed true found) (itemStep senior next locks t x l)
-        (rw (entry-item true found) at (item-kept senior next S M (entryOf t x l true) (entry-formed true found) (locks x) (w .lock x x-range) (inside-queue (locks x .queue)))) g h
+        (rw (entry-item true found) at (item-kept senior next S M (entryOf t x l true) (entry-formed true found) (locks x) (w .lock x (p .item)) (given .inside-queue (locks x .queue)))) g h
 
   -- the earliest entry to session t
   module _ (found : eqb (placeOf t x l false) (length l) ≡ false) where
@@ -237,18 +251,18 @@ module _ (senior : ℕ → ℕ → Bool) (next : List ℕ → ℕ) (S M : ℕ) (
         let kind = kind-range false found in
         let facts = entry-facts S M e (entry-formed false found) in
         let first : e .kind ≡ Kind.probe → (1 ≤ e .a) × (e .a ≤ S) = λ q. (facts .a-low (ap Kind.carries q), facts .a-high) in
-        session-agrees senior next S M few-sessions few-items (sessions t) (w .session t t-range) (w .juniors t t-range) t (seenBySession e) (facts .item-low) (facts .item-high) (kind .0) (kind .1) first
+        session-agrees senior next S M (given .few-sessions) (given .few-items) (sessions t) (w .session t (p .session)) (w .juniors t (p .session)) t (seenBySession e) (facts .item-low) (facts .item-high) (kind .0) (kind .1) first
         ∙ ap (λ (n : ℕ). Machine.sessionReceives R t n (readSession (sessions t)) (readMessage (e .kind) (e .a) (e .b))) (entry-item false found)
 
     pub session-move : (g : ℕ → Session) → Replaced S sessions g t (sessionStep senior sessions t x l .session)
         → readState S M g locks (othersOf t x l false ++ map (fromSession t) (sessionStep senior sessions t x l .sends)) ≡ Machine.move R before (Machine.deliverToSession t x)
     unfolding Machine.move Machine.sessionTakes
-    session-move g h = rw (taken-eq false found, session-at S sessions t t-range, ← session-step-agrees) (session-state S M sessions locks l w t t-range (othersOf t x l false) (sessionStep senior sessions t x l) g h)
+    session-move g h = rw (taken-eq false found, session-at S sessions t (p .session), ← session-step-agrees) (session-state w t (p .session) (othersOf t x l false) (sessionStep senior sessions t x l) g h)
 
     pub session-move-kept : (g : ℕ → Session) → Replaced S sessions g t (sessionStep senior sessions t x l .session) → StateWellFormed S M g locks (othersOf t x l false ++ map (fromSession t) (sessionStep senior sessions t x l .sends))
     session-move-kept g h =
-        session-state-kept S M sessions locks l w t t-range (othersOf t x l false) (others-formed false found) (sessionStep senior sessions t x l)
-        (rw (entry-session false found) at (session-kept senior S M (entryOf t x l false) (entry-formed false found) (sessions t) (w .session t t-range) (w .juniors t t-range))) g h
+        session-state-kept w t (p .session) (othersOf t x l false) (others-formed false found) (sessionStep senior sessions t x l)
+        (rw (entry-session false found) at (session-kept senior S M (entryOf t x l false) (entry-formed false found) (sessions t) (w .session t (p .session)) (w .juniors t (p .session)))) g h
 
 -- a lock manager that was just started
 module _ (S M : ℕ) (sessions : ℕ → Session) (locks : ℕ → Lock) (fresh : (t : ℕ) → between 1 S t ≡ true → sessions t ≡ SessionRecord.fresh)

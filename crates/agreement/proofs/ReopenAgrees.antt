@@ -20,7 +20,7 @@ use Rattle.session.proofs.WellFormed.{fresh-formed}
 use Rattle.deadlock.specs.Machine
 use Rattle.agreement.specs.Reading.{readStage, readHolder, readSession, readItem, readSends, readSessions, readEntries, readItems, readState, rules}
 use Rattle.agreement.proofs.ReadingSession.{fresh-read}
-use Rattle.agreement.proofs.MoveAgrees.{Replaced, StateWellFormed, session-at, session-state, session-state-kept}
+use Rattle.agreement.proofs.MoveAgrees.{Replaced, StateWellFormed, Given, session-at, session-state, session-state-kept}
 
 -- the record begins anew, and nothing is sent
 abbrev pub reopened : SessionRules.After
@@ -55,8 +55,8 @@ item-read t k h =
     let holder : Machine.heldBy (readHolder (k .holder)) t ≡ false = by-test (λ o. Machine.heldBy o t ≡ false) (eqb (k .holder) 0) (λ _. refl) (λ _. n .0) in
     rw (holder, n .1) refl
 
-module _ (senior : ℕ → ℕ → Bool) (next : List ℕ → ℕ) (S M : ℕ)
-    (sessions : ℕ → Session) (locks : ℕ → Lock) (l : List Entry) (w : StateWellFormed S M sessions locks l) (t : ℕ) (t-range : between 1 S t ≡ true) where
+module _ {senior : ℕ → ℕ → Bool} {next : List ℕ → ℕ} {S M : ℕ} {sessions : ℕ → Session} {locks : ℕ → Lock} {l : List Entry} (given : Given senior next S M sessions locks l)
+    (t : ℕ) (t-range : between 1 S t ≡ true) where
   abbrev R : Machine.Rules
   R = rules S M senior next
 
@@ -78,8 +78,8 @@ module _ (senior : ℕ → ℕ → Bool) (next : List ℕ → ℕ) (S M : ℕ)
       → (g : ℕ → Session) → Replaced S sessions g t SessionRecord.fresh
       → readState S M g locks (l ++ map (fromSession t) (reopened .sends)) ≡ Machine.move R before (Machine.reopen t)
   unfolding Machine.move Machine.afterAnswer Machine.onReopenCall readSends
-  reopen-move over entries items g h = rw (allowed over entries items, ← fresh-read) (session-state S M sessions locks l w t t-range l reopened g h)
+  reopen-move over entries items g h = rw (allowed over entries items, ← fresh-read) (session-state (given .formed) t t-range l reopened g h)
 
   pub reopen-move-kept : (g : ℕ → Session) → Replaced S sessions g t SessionRecord.fresh → StateWellFormed S M g locks (l ++ map (fromSession t) (reopened .sends))
   reopen-move-kept g h =
-      session-state-kept S M sessions locks l w t t-range l (w .entries) reopened (record { session = fresh-formed S M; juniors = refl; sends = all-none _ }) g h
+      session-state-kept (given .formed) t t-range l (given .formed .entries) reopened (record { session = fresh-formed S M; juniors = refl; sends = all-none _ }) g h

@@ -13,7 +13,7 @@ use Rattle.agreement.proofs.WaitsAgree.{reached-agrees, on-cycle-agrees}
 use Rattle.lockmgr.specs.Calls.{Config}
 use Rattle.clause.proofs.State.{seniorOf, nextOf, machineOf, stateOf, Good, sessions-of, items-of}
 
-module _ (conf : Config) (table : List ℕ) (l : List Entry) (g : Good conf table l) where
+module _ {conf : Config} {table : List ℕ} {l : List Entry} (g : Good conf table l) where
   waits-same : waitsFor table ≡ Waits.waitsFor (conf .table .items) (locks table)
   waits-same = ap (λ (n : ℕ). Waits.waitsFor n (locks table)) (items-of g)
 

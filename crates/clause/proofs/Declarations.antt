@@ -27,18 +27,18 @@ use Rattle.clause.proofs.Reopening.{by-reopen}
 use Rattle.clause.proofs.Follow.{anything, ran, step-is}
 
 -- what is guaranteed of the machine with the lock manager's seniority and next holder
-pub guaranteed : (conf : Config) (table : List ℕ) (l : List Entry) → Good conf table l → MachineStatement.Guarantees (machineOf conf) anything
-guaranteed conf table l g = MachineTheorem.theorem (machineOf conf) (machine-laws conf table l g) anything
+pub guaranteed : {conf : Config} {table : List ℕ} {l : List Entry} → Good conf table l → MachineStatement.Guarantees (machineOf conf) anything
+guaranteed {conf} g = MachineTheorem.theorem (machineOf conf) (machine-laws g) anything
 
 -- a declaration that is true in the state is true in the table that says it
 true-in-table : (conf : Config) (table : List ℕ) (l : List Entry) → Good conf table l → (v i : ℕ)
     → MachineStatement.TrueDeclaration (machineOf conf) (stateOf conf table l) v i → TrueDeclaration table v i
 true-in-table conf table l g v i d =
-    let at : (n : ℕ) → Machine.reached (machineOf conf) (stateOf conf table l) n i ≡ Waits.reached (waitsFor table) n i = λ n. reached-of conf table l g n i in
+    let at : (n : ℕ) → Machine.reached (machineOf conf) (stateOf conf table l) n i ≡ Waits.reached (waitsFor table) n i = λ n. reached-of g n i in
     let by-rank = ranks-of g in
     record {
       known = (d .low, rw (sessions-of g) (d .high));
-      on-cycle = eqb-false (cycleLength table i) 0 (not-true (eqb (cycleLength table i) 0) (sym (on-cycle-of conf table l g i) ∙ d .on-cycle));
+      on-cycle = eqb-false (cycleLength table i) 0 (not-true (eqb (cycleLength table i) 0) (sym (on-cycle-of g i) ∙ d .on-cycle));
       most-senior = λ n. rw (by-rank) (rw (at n) at (d .most-senior n));
       member = (d .victim-member .0, sym (at (d .victim-member .0)) ∙ d .victim-member .1);
       most-junior = λ n. rw (by-rank) (rw (at n) at (d .most-junior n));
@@ -66,7 +66,7 @@ module _ (conf : Config) where
 
     declared-truly : (v i : ℕ) → m .event .declared ≡ some (record { victim = v; initiator = i }) → TrueDeclaration (b .table) v i
     declared-truly v i declared =
-        let told = guaranteed conf (b .table) (m .entries) (m .good) .declarations-true cs (m .call) (record { victim = v; initiator = i }) (ap (λ (s : Machine.Stepped). s .event .declared) stepped-to ∙ declared) in
+        let told = guaranteed (m .good) .declarations-true cs (m .call) (record { victim = v; initiator = i }) (ap (λ (s : Machine.Stepped). s .event .declared) stepped-to ∙ declared) in
         true-in-table conf (b .table) (m .entries) (m .good) v i (rw (stepped-to) at told)
 
   -- every declaration of what is done from a table and entries that a run leads to
@@ -78,7 +78,7 @@ module _ (conf : Config) where
   true-step : (more : Buffers → List Done) → ((table : List ℕ) (l : List Entry) → Good conf table l → TrueFrom more table l)
       → (c : Step) (table : List ℕ) (l : List Entry) → Good conf table l → TrueFrom (λ b. let d = doneOn b c in d ∷ more (leftBy d)) table l
   true-step more then c table l g cs e =
-      by-step conf table l g (c .verb) (c .session) (c .item)
+      by-step g (c .verb) (c .session) (c .item)
       (λ (r : Stepped). (r .answer .victim ≢ 0 → r .answer .initiator ≢ 0 → TrueDeclaration (r .table) (r .answer .victim) (r .answer .initiator))
       × DeclarationsTrue (more (buffers (r .table) (r .mail))))
       (λ n _. ((λ v. absurd (v refl)), then table l g cs e))
@@ -101,6 +101,6 @@ module _ (conf : Config) where
   declarations (report t ∷ calls) table l g = declarations calls table l g
   declarations (drain limit ∷ calls) table l g = true-steps (λ b. steps b calls) (declarations calls) (stepsOf (buffers table (Mail.mailBytes (conf .capacity) l)) (drain limit)) table l g
   declarations (reopen t ∷ calls) table l g = λ cs e.
-      by-reopen conf table l g t (λ (r : Reopened). DeclarationsTrue (steps (buffers (r .table) (Mail.mailBytes (conf .capacity) l)) calls))
+      by-reopen g t (λ (r : Reopened). DeclarationsTrue (steps (buffers (r .table) (Mail.mailBytes (conf .capacity) l)) calls))
       (λ _. declarations calls table l g cs e)
       (λ m. rw (m .moved .mail) (declarations calls _ (m .moved .entries) (m .moved .good) (cs ++ (m .moved .call ∷ [])) (run-on table l _ (m .moved) cs e)))

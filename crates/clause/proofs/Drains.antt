@@ -99,10 +99,10 @@ module _ (conf : Config) where
     m = s .moved
 
     kept : Invariant R (stateOf conf (r .table) (m .entries))
-    kept = rw (m .moves) (invariant-move R (machine-laws conf (r .table) (m .entries) (m .good)) (stateOf conf table l) k (m .call) (m .of-machine))
+    kept = rw (m .moves) (invariant-move R (machine-laws (m .good)) (stateOf conf table l) k (m .call) (m .of-machine))
 
     falls : Step.isDelivery verb ≡ true → potential R (stateOf conf (r .table) (m .entries)) < potential R (stateOf conf table l)
-    falls d = rw (m .moves) (omega (arith, BoundTheorem.theorem R (machine-laws conf (r .table) (m .entries) (m .good)) .falls (stateOf conf table l) k (m .call) (m .of-machine) (s .delivers d)))
+    falls d = rw (m .moves) (omega (arith, BoundTheorem.theorem R (machine-laws (m .good)) .falls (stateOf conf table l) k (m .call) (m .of-machine) (s .delivers d)))
 
   -- any list of deliveries, none of them refused
   few : (steps : List Run.Step) (table : List ℕ) (l : List Entry) → Good conf table l → Invariant R (stateOf conf table l)
@@ -114,7 +114,7 @@ module _ (conf : Config) where
       let d = doneOn b c in
       let both = and-both (isDelivered d) (allOf isDelivered (done (leftBy d) steps)) h in
       let first = and-both (Step.isDelivery (c .verb)) (isAccepted d) (both .0) in
-      by-step conf table l g (c .verb) (c .session) (c .item)
+      by-step g (c .verb) (c .session) (c .item)
       (λ (r : Stepped). r .answer .refusal ≡ 0 → AllDelivered (buffers (r .table) (r .mail)) steps → length (c ∷ steps) ≤ potential R (stateOf conf table l))
       (λ i other z. absurd (other z))
       (λ r m _ more. omega (
@@ -132,15 +132,15 @@ module _ (conf : Config) where
     pub steps-bounded : (steps : List Run.Step) → AllDelivered at steps → length steps ≤ deliveryBound (conf .table .sessions) (conf .table .items) (countOf (Mail.mailBytes (conf .capacity) l))
     steps-bounded steps h =
         let c : countOf (Mail.mailBytes (conf .capacity) l) ≡ length (readEntries l) = MailLaws.count-mail (conf .capacity) l (g .low) (g .high) (g .room) ∙ sym (length-readEntries l) in
-        rw (c) (omega (arith, few steps table l g k h, BoundTheorem.theorem R (machine-laws conf table l g) .bounded (stateOf conf table l)))
+        rw (c) (omega (arith, few steps table l g k h, BoundTheorem.theorem R (machine-laws g) .bounded (stateOf conf table l)))
 
     bound-of : (n : ℕ) → length (deliveries n at) ≤ deliveryBound (conf .table .sessions) (conf .table .items) (countOf (Mail.mailBytes (conf .capacity) l))
-    bound-of n = steps-bounded (deliveries n at) (all-delivered n at (State.buffers-formed conf table l g))
+    bound-of n = steps-bounded (deliveries n at) (all-delivered n at (State.buffers-formed g))
 
     pub drain-ends : (limit : ℕ) → DrainEnds conf at limit
     unfolding drain drainSteps
     drain-ends limit =
-        let z : drainRefusal at ≡ 0 = formed-zero table (Mail.mailBytes (conf .capacity) l) (State.buffers-formed conf table l g) in
+        let z : drainRefusal at ≡ 0 = formed-zero table (Mail.mailBytes (conf .capacity) l) (State.buffers-formed g) in
         record {
           bounded = rw (z) (bound-of limit);
           ends = λ h. rw (z) (λ q. omega (arith, bound-of limit, h, all-made limit at q));
@@ -150,7 +150,7 @@ pub drains-end : DrainsEnd
 drains-end c table mail e calls limit =
     let b = after (opened c table mail) calls in
     let h = followed c table mail e calls in
-    let k : Invariant (machineOf c) (stateOf c (b .table) (h .entries)) = rw (← h .state) (invariant (machineOf c) (machine-laws c (b .table) (h .entries) (h .good)) anything (h .run)) in
+    let k : Invariant (machineOf c) (stateOf c (b .table) (h .entries)) = rw (← h .state) (invariant (machineOf c) (machine-laws (h .good)) anything (h .run)) in
     subst (λ (m : List ℕ). DrainEnds c (buffers (b .table) m) limit) (sym (h .mail)) (drain-ends c (b .table) (h .entries) (h .good) k limit)
 
 pub bound-small : BoundSmall

@@ -120,7 +120,7 @@ module _ (conf : Config) (end : Buffers → Buffers) (more : Buffers → List Do
   unfolding closed rolledBack
   follow-step then c table l g =
       let h =
-      by-step conf table l g (c .verb) (c .session) (c .item) (After (c .verb) (c .session) table l)
+      by-step g (c .verb) (c .session) (c .item) (After (c .verb) (c .session) table l)
       (λ n _. refused-after (c .verb) (c .session) table l (then table l g) n)
       (λ r m. moved-after (c .verb) (c .session) table l r m (then (r .table) (m .moved .entries) (m .moved .good))) in
       record { run = h .run; entries = h .entries; mail = h .mail; good = h .good; state = h .state; closes = omega (arith, h .closes); rolls = omega (arith, h .rolls) }
@@ -145,7 +145,7 @@ follow conf (report t ∷ calls) table l g = follow conf calls table l g
 follow conf (drain limit ∷ calls) table l g = follow-steps conf (λ b. after b calls) (λ b. steps b calls) (follow conf calls) (stepsOf (buffers table (Mail.mailBytes (conf .capacity) l)) (drain limit)) table l g
 follow conf (reopen t ∷ calls) table l g =
     let mail = Mail.mailBytes (conf .capacity) l in
-    by-reopen conf table l g t (λ (r : Reopened). let b = buffers (r .table) mail in Followed conf (stateOf conf table l) (after b calls) (steps b calls) 0 0)
+    by-reopen g t (λ (r : Reopened). let b = buffers (r .table) mail in Followed conf (stateOf conf table l) (after b calls) (steps b calls) 0 0)
     (λ _. follow conf calls table l g)
     (λ m. let b = buffers (Table.withSession table t SessionRecord.fresh) mail in
     moved-on conf table l b (m .moved) (after b calls) (steps b calls) 0 0 (rw (m .nothing) refl) (rw (m .nothing) refl)

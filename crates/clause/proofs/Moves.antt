@@ -66,7 +66,7 @@ pub never-both : (b : Bool) → not b && b ≡ false
 never-both true = refl
 never-both false = refl
 
-module _ (conf : Config) (table : List ℕ) (l : List Entry) (g : Good conf table l) (t : ℕ) (t-range : between 1 (conf .table .sessions) t ≡ true) where
+module _ {conf : Config} {table : List ℕ} {l : List Entry} (g : Good conf table l) (t : ℕ) (t-range : between 1 (conf .table .sessions) t ≡ true) where
   abbrev before : Machine.State
   before = stateOf conf table l
 
@@ -87,10 +87,10 @@ module _ (conf : Config) (table : List ℕ) (l : List Entry) (g : Good conf tabl
       table-after = Table.withSession table t (r .session)
 
       put : Put (Table.session table-after)
-      put = State.session-replaced conf table l g t t-range (r .session) sent fits kept
+      put = State.session-replaced g t t-range (r .session) sent fits kept
 
       state : stateOf conf table-after sent ≡ readState (conf .table .sessions) (conf .table .items) (Table.session table-after) (locks table) sent
-      state = State.session-state conf table l g t t-range (r .session) sent fits kept
+      state = State.session-state g t t-range (r .session) sent fits kept
 
       pub session-moved : Moved conf table l (buffers table-after (Mail.mailBytes (conf .capacity) sent))
       session-moved = record {
@@ -98,7 +98,7 @@ module _ (conf : Config) (table : List ℕ) (l : List Entry) (g : Good conf tabl
         of-machine = of-machine;
         entries = sent;
         mail = refl;
-        good = State.session-good conf table l g t t-range (r .session) sent fits kept;
+        good = State.session-good g t t-range (r .session) sent fits kept;
         moves = state ∙ moves (Table.session table-after) put;
         event = record { closed = false; declared = none; rolledBack = rollsBack t table table-after };
         happens = ap (Machine.eventOf (machineOf conf) before call) state ∙ happens (Table.session table-after) put (kept (Table.session table-after) put);
@@ -142,18 +142,18 @@ module _ (conf : Config) (table : List ℕ) (l : List Entry) (g : Good conf tabl
       item-after = Table.withItem table x (packed (r .lock))
 
       put-lock : PutLock (locks item-after)
-      put-lock = State.lock-replaced conf table l g x x-range (r .lock) answered fits kept
+      put-lock = State.lock-replaced g x x-range (r .lock) answered fits kept
 
       good : Good conf item-after answered
-      good = State.item-good conf table l g x x-range (r .lock) answered fits kept
+      good = State.item-good g x x-range (r .lock) answered fits kept
 
       same-stage : rollsBack t table item-after ≡ false
-      same-stage = rw (State.session-same conf table l g x x-range (r .lock) answered fits kept t t-range) (never-both (eqb (Table.session table t .stage) Stage.rolledBack))
+      same-stage = rw (State.session-same g x x-range (r .lock) answered fits kept t t-range) (never-both (eqb (Table.session table t .stage) Stage.rolledBack))
 
       closes : (e : Event) → Step.closed t item-after e ≡ bit (Machine.itemEvent e (Machine.onCycle (machineOf conf) (stateOf conf item-after answered) t) .closed)
       unfolding Machine.itemEvent
       closes Nothing = one-is-bit false
-      closes Joined = rw (on-cycle-of conf item-after answered good t) (one-is-bit (not (eqb (cycleLength item-after t) 0)))
+      closes Joined = rw (on-cycle-of good t) (one-is-bit (not (eqb (cycleLength item-after t) 0)))
       closes (Declared v i) = one-is-bit false
 
       declares : (e : Event) (b : Bool) → Item.victim e ≢ 0 → Machine.itemEvent e b .declared ≡ some (record { victim = Item.victim e; initiator = Item.initiator e })
@@ -177,7 +177,7 @@ module _ (conf : Config) (table : List ℕ) (l : List Entry) (g : Good conf tabl
           entries = answered;
           mail = refl;
           good = good;
-          moves = State.item-state conf table l g x x-range (r .lock) answered fits kept ∙ moves (locks item-after) put-lock;
+          moves = State.item-state g x x-range (r .lock) answered fits kept ∙ moves (locks item-after) put-lock;
           event = Machine.itemEvent (r .event) (Machine.onCycle (machineOf conf) (stateOf conf item-after answered) t);
           happens = happens (stateOf conf item-after answered);
         };

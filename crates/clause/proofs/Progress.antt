@@ -8,7 +8,7 @@ use native.Mathlib.Omega.{arith}
 use lib.Dec.{eqb}
 use lib.ListN.{length, getD}
 use borrow.Author.Tests.{eq-eqb, ne-eqb, eqb-true, eqb-false}
-use Rattle.lists.specs.Lists.{allOf, between}
+use Rattle.lists.specs.Lists.{allOf}
 use Rattle.lists.proofs.Laws.{all-getD, findIndex-le}
 use Rattle.lists.proofs.Tests.{and-both, and-intro, between-intro, by-answer, by-test, eqb-self}
 use Rattle.mailbox.specs.Entry.{Entry, onRoute, toItem, unused, wellFormed}
@@ -34,7 +34,7 @@ use Rattle.room.specs.Statement.{Reached, starts, calls, goesOn}
 use Rattle.room.proofs.Theorem.{orderly, theorem}
 use Rattle.agreement.specs.Reading.{directionOf}
 use Rattle.agreement.proofs.MailboxAgrees.{length-readEntries}
-use Rattle.agreement.proofs.MoveAgrees.{placeOf}
+use Rattle.agreement.proofs.MoveAgrees.{Parties, placeOf}
 use Rattle.clause.specs.Statement.{opened, EmptyMail}
 use Rattle.clause.specs.Drains.{isAccepted, isDelivered, AllDelivered, DrainEnds, drainOf}
 use Rattle.clause.specs.Progress.{deliveryAt, KeepsRule, RuleKept, Progress, Progresses}
@@ -72,7 +72,7 @@ module _ (conf : Config) where
     -- a step
     step-keeps : (c : Run.Step) → (Step.isDelivery (c .verb) ≡ false → doneOn (at table l) c .result .answer .refusal ≡ 0 → EmptyMail (at table l)) → Kept conf (leftBy (doneOn (at table l) c))
     step-keeps c =
-        by-step conf table l g (c .verb) (c .session) (c .item)
+        by-step g (c .verb) (c .session) (c .item)
         (λ (o : Stepped). (Step.isDelivery (c .verb) ≡ false → o .answer .refusal ≡ 0 → EmptyMail (at table l)) → Kept conf (buffers (o .table) (o .mail)))
         (λ _ _ _. here)
         (λ o m rule. by-answer (Step.isDelivery (c .verb))
@@ -87,7 +87,7 @@ module _ (conf : Config) where
     reopen-keeps : (t : ℕ) → (Calls.reopen t table (Mail.mailBytes (conf .capacity) l) .refusal ≡ 0 → EmptyMail (at table l))
         → Kept conf (buffers (Calls.reopen t table (Mail.mailBytes (conf .capacity) l) .table) (Mail.mailBytes (conf .capacity) l))
     reopen-keeps t =
-        by-reopen conf table l g t
+        by-reopen g t
         (λ (o : Reopened). (o .refusal ≡ 0 → EmptyMail (at table l)) → Kept conf (buffers (o .table) (Mail.mailBytes (conf .capacity) l)))
         (λ _ _. here) (λ m rule. called _ (m .moved) (rule refl))
 
@@ -132,7 +132,7 @@ module _ (conf : Config) (enough : capacityBound (conf .table .sessions) (conf .
     count-is = MailLaws.count-mail (conf .capacity) l (g .low) (g .high) (g .room)
 
     few-messages : Mail.countOf mail ≤ capacityBound (conf .table .sessions) (conf .table .items)
-    few-messages = omega (arith, count-is, length-readEntries l, theorem (machineOf conf) (machine-laws conf table l g) (stateOf conf table l) r)
+    few-messages = omega (arith, count-is, length-readEntries l, theorem (machineOf conf) (machine-laws g) (stateOf conf table l) r)
 
     -- each message that is there can be delivered
     module _ (k : ℕ) (inside : k < length l) where
@@ -142,11 +142,11 @@ module _ (conf : Config) (enough : capacityBound (conf .table .sessions) (conf .
       facts : EntryFacts (conf .table .sessions) (conf .table .items) entry
       facts = entry-facts (conf .table .sessions) (conf .table .items) entry (all-getD (wellFormed (conf .table .sessions) (conf .table .items)) l k unused (g .entries) inside)
 
-      t-range : between 1 (conf .table .sessions) (entry .session) ≡ true
-      t-range = between-intro 1 (conf .table .sessions) (entry .session) (facts .session-low) (facts .session-high)
-
-      x-range : between 1 (conf .table .items) (entry .item) ≡ true
-      x-range = between-intro 1 (conf .table .items) (entry .item) (facts .item-low) (facts .item-high)
+      parties : Parties (conf .table .sessions) (conf .table .items) (entry .session) (entry .item)
+      parties = record {
+        session = between-intro 1 (conf .table .sessions) (entry .session) (facts .session-low) (facts .session-high);
+        item = between-intro 1 (conf .table .items) (entry .item) (facts .item-low) (facts .item-high);
+      }
 
       found : (d : Bool) → entry .direction ≡ directionOf d → eqb (placeOf (entry .session) (entry .item) l d) (length l) ≡ false
       found d e =
@@ -155,12 +155,11 @@ module _ (conf : Config) (enough : capacityBound (conf .table .sessions) (conf .
           let n = findIndex-le (onRoute (directionOf d) (entry .session) (entry .item)) l unused k inside on-route in
           ne-eqb (placeOf (entry .session) (entry .item) l d) (length l) (λ q. absurd (omega (arith, q, n)))
 
-      goes : (d : Bool) → entry .direction ≡ directionOf d → Calls.step (deliveryVerb conf table l g (entry .session) (entry .item) t-range x-range d) (entry .session) (entry .item) table mail .answer .refusal ≡ 0
+      goes : (d : Bool) → entry .direction ≡ directionOf d → Calls.step (deliveryVerb d) (entry .session) (entry .item) table mail .answer .refusal ≡ 0
       goes d e =
-          let c = deliveryCall conf table l g (entry .session) (entry .item) t-range x-range d in
-          let after = goesOn r c (call-in-range conf table l g (entry .session) (entry .item) t-range x-range d) (found-delivers conf table l g (entry .session) (entry .item) t-range x-range d (found d e)) in
-          fits-accepted conf table l g (entry .session) (entry .item) t-range x-range d (found d e)
-          (omega (arith, enough, theorem (machineOf conf) (machine-laws conf table l g) _ after))
+          let after = goesOn r (deliveryCall (entry .session) (entry .item) d) (call-in-range g parties d) (found-delivers g parties d (found d e)) in
+          fits-accepted g parties d (found d e)
+          (omega (arith, enough, theorem (machineOf conf) (machine-laws g) _ after))
 
       entry-accepted : Calls.step (verbOf entry) (entry .session) (entry .item) table mail .answer .refusal ≡ 0
       entry-accepted = ⊎-elim (λ e. rw (eq-eqb (entry .direction) toItem e) (goes true e)) (λ e. rw (ne-eqb (entry .direction) toItem (λ q. absurd (omega (arith, e, q)))) (goes false e)) (facts .kinds .direction)
@@ -199,13 +198,13 @@ module _ (conf : Config) (enough : capacityBound (conf .table .sessions) (conf .
     deliveries-bounded : (l : List Run.Step) → AllDelivered b l → length l ≤ bound
     deliveries-bounded l =
         by-kept conf b k (λ (a : Buffers). AllDelivered a l → length l ≤ deliveryBound (conf .table .sessions) (conf .table .items) (Mail.countOf (a .mail)))
-        (λ table entries g r. steps-bounded conf table entries g (orderly (machineOf conf) (machine-laws conf table entries g) r .invariant) l)
+        (λ table entries g r. steps-bounded conf table entries g (orderly (machineOf conf) (machine-laws g) r .invariant) l)
 
     module _ (limit : ℕ) where
       drain-ends-well : Ends (drainOf limit b .answer .ending)
       unfolding drainCall
       drain-ends-well =
-          let judged : drainRefusal b ≡ 0 = by-kept conf b k (λ (a : Buffers). drainRefusal a ≡ 0) (λ table l g r. formed-zero table _ (State.buffers-formed conf table l g)) in
+          let judged : drainRefusal b ≡ 0 = by-kept conf b k (λ (a : Buffers). drainRefusal a ≡ 0) (λ table l g r. formed-zero table _ (State.buffers-formed g)) in
           rw (judged) (never-stuck (left b (drainSteps limit b)) (deliveries-keep conf (drainSteps limit b) b k (drain-delivers limit b)))
 
       drain-never-full : drainOf limit b .answer .ending ≢ full
@@ -214,7 +213,7 @@ module _ (conf : Config) (enough : capacityBound (conf .table .sessions) (conf .
       drain-empties : bound < limit → drainOf limit b .answer .ending ≡ empty
       drain-empties h =
           let ends : DrainEnds conf b limit = by-kept conf b k (λ (a : Buffers). DrainEnds conf a limit)
-          (λ table l g r. drain-ends conf table l g (orderly (machineOf conf) (machine-laws conf table l g) r .invariant) limit) in
+          (λ table l g r. drain-ends conf table l g (orderly (machineOf conf) (machine-laws g) r .invariant) limit) in
           ⊎-elim (λ q. q) (λ q. absurd (ends .ends h q)) drain-ends-well
 
   progress : (b : Buffers) → Kept conf b → Progress conf b

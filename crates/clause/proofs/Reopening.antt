@@ -26,8 +26,7 @@ use Rattle.deadlock.specs.Machine
 use Rattle.agreement.specs.Reading.{readState}
 use Rattle.agreement.proofs.MoveAgrees.{Replaced, StateWellFormed}
 use Rattle.agreement.proofs.ReopenAgrees as Agrees
-use Rattle.clause.proofs.State
-use Rattle.clause.proofs.State.{seniorOf, nextOf, machineOf, stateOf, Good, sessions-of, items-of}
+use Rattle.clause.proofs.State.{machineOf, stateOf, Good, given, sessions-of, items-of}
 use Rattle.clause.proofs.Moves.{Moved, session-moved, session-call}
 use Rattle.clause.proofs.Step.{quiet}
 
@@ -45,7 +44,7 @@ reopenable t table mail e =
     let first = and-both (isOver (Table.session table t)) (noProbeNames t table) (third .0) in
     record { over = first .0; items = every-at (Table.itemsOf table) _ (third .1); entries = last .1 }
 
-module _ (conf : Config) (table : List ℕ) (l : List Entry) (g : Good conf table l) (t : ℕ) where
+module _ {conf : Config} {table : List ℕ} {l : List Entry} (g : Good conf table l) (t : ℕ) where
   abbrev mail : List ℕ
   mail = Mail.mailBytes (conf .capacity) l
 
@@ -77,10 +76,10 @@ module _ (conf : Config) (table : List ℕ) (l : List Entry) (g : Good conf tabl
     fits = rw (append-nil l) (g .room)
 
     kept : (f : ℕ → Session) → Put f → StateWellFormed (conf .table .sessions) (conf .table .items) f (locks table) sent
-    kept = Agrees.reopen-move-kept (seniorOf conf) (nextOf conf) (conf .table .sessions) (conf .table .items) (Table.session table) (locks table) l (State.all-formed conf table l g) t r
+    kept = Agrees.reopen-move-kept (given g) t r
 
     moves : (f : ℕ → Session) → Put f → readState (conf .table .sessions) (conf .table .items) f (locks table) sent ≡ Machine.move (machineOf conf) (stateOf conf table l) (Machine.reopen t)
-    moves = Agrees.reopen-move (seniorOf conf) (nextOf conf) (conf .table .sessions) (conf .table .items) (Table.session table) (locks table) l (State.all-formed conf table l g) t r (p .over) entries items
+    moves = Agrees.reopen-move (given g) t r (p .over) entries items
 
     happens : (f : ℕ → Session) → Put f → StateWellFormed (conf .table .sessions) (conf .table .items) f (locks table) sent
         → Machine.eventOf (machineOf conf) (stateOf conf table l) (Machine.reopen t) (readState (conf .table .sessions) (conf .table .items) f (locks table) sent)
@@ -91,8 +90,8 @@ module _ (conf : Config) (table : List ℕ) (l : List Entry) (g : Good conf tabl
     done : ReopenMoved sent
     unfolding Machine.ofMachine Machine.eventOf
     done =
-        let m = session-moved conf table l g t r (Machine.reopen t) r l Agrees.reopened fits kept moves happens in
-        let call = session-call conf table l g t r (Machine.reopen t) r l Agrees.reopened fits kept moves happens in
+        let m = session-moved g t r (Machine.reopen t) r l Agrees.reopened fits kept moves happens in
+        let call = session-call g t r (Machine.reopen t) r l Agrees.reopened fits kept moves happens in
         record { moved = m; nothing = sym (m .happens) ∙ ap (λ (c : Machine.Call). Machine.eventOf (machineOf conf) (stateOf conf table l) c (stateOf conf after (m .entries))) call }
 
   -- whatever holds of a refused reopening, and of one that is a move of the machine, holds of a reopening

@@ -34,7 +34,7 @@ record Next (conf : Config) (verb t : ℕ) (table : List ℕ) (r : Stepped) : Ty
 next : (conf : Config) (table mail : List ℕ) (l : List Entry) → Good conf table l → mail ≡ Mail.mailBytes (conf .capacity) l
     → (verb t x : ℕ) → Next conf verb t table (Calls.step verb t x table mail)
 next conf table mail l g e verb t x =
-    rw (e) (by-step conf table l g verb t x (Next conf verb t table)
+    rw (e) (by-step g verb t x (Next conf verb t table)
     (λ n _. record {
       delivered = rw (never-both (eqb (Table.session table t .stage) Stage.rolledBack)) (and-false (Step.isDelivery verb));
       entries = l;

@@ -11,13 +11,14 @@ use Rattle.lists.specs.Lists.{between, allOf}
 use Rattle.lists.proofs.Searches.{distinct-length}
 use Rattle.lists.proofs.Tests.{within}
 use Rattle.session.specs.Seniority.{senior}
-use Rattle.session.proofs.Seniority.{senior-order}
+use Rattle.session.proofs.Seniority.{senior-order, senior-weak}
 use Rattle.session.proofs.WellFormed.{held-fits}
 use Rattle.session.specs.declared.Session.{Session}
 use Rattle.session.specs.Record as SessionRecord
 use Rattle.item.specs.NextHolder.{nextHolder}
 use Rattle.item.specs.Record.{Lock, packed, unpacked}
 use Rattle.item.proofs.Laws.{unpacked-packed, length-packed}
+use Rattle.item.proofs.NextHolder.{next-inside}
 use Rattle.mailbox.specs.Entry as Entry
 use Rattle.mailbox.specs.Entry.{Entry}
 use Rattle.mailbox.specs.Layout as Mail
@@ -31,7 +32,7 @@ use Rattle.deadlock.specs.Machine
 use Rattle.item.proofs.WellFormed.{LockWellFormed}
 use Rattle.agreement.specs.Reading.{readSession, readSessions, readState, rules}
 use Rattle.item.proofs.WellFormed.{unpacked-lock, packed-lock}
-use Rattle.agreement.proofs.MoveAgrees.{Replaced, StateWellFormed}
+use Rattle.agreement.proofs.MoveAgrees.{Replaced, StateWellFormed, Given}
 use Rattle.agreement.proofs.RulesLaws.{rules-laws}
 use Rattle.clause.specs.Statement.{IsSession}
 
@@ -70,7 +71,7 @@ module _ {conf : Config} {table : List ℕ} {l : List Entry} (g : Good conf tabl
   pub ranks-of : Table.ranks table ≡ conf .table .ranks
   ranks-of = ap (λ (c : Table.Config). c .ranks) (g .config)
 
-module _ (conf : Config) (table : List ℕ) (l : List Entry) (g : Good conf table l) where
+module _ {conf : Config} {table : List ℕ} {l : List Entry} (g : Good conf table l) where
   pub few-sessions : conf .table .sessions ≤ 64
   few-sessions = omega (arith, TableLaws.sized-facts table (g .sized) .max-sessions, sessions-of g)
 
@@ -107,6 +108,10 @@ module _ (conf : Config) (table : List ℕ) (l : List Entry) (g : Good conf tabl
         unpacked-lock (conf .table .sessions) (Table.item table x) (rw (sessions-of g) at (TableLaws.well-formed-item table (g .formed) x (k .0) (k .1)));
     entries = g .entries;
   }
+
+  -- so the agreement holds of it
+  pub given : Given (seniorOf conf) (nextOf conf) (conf .table .sessions) (conf .table .items) (Table.session table) (locks table) l
+  given = record { few-sessions = few-sessions; few-items = few-items; inside-queue = next-inside (senior-weak (conf .table .ranks)); formed = all-formed }
 
   -- the record of session t replaced by one that keeps the state well-formed
   module _ (t : ℕ) (r : between 1 (conf .table .sessions) t ≡ true) (s : Session) (k : List Entry) (fits : length k ≤ conf .capacity)

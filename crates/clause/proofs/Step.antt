@@ -9,15 +9,12 @@ use native.Mathlib.Omega.{arith}
 use lib.Dec.{eqb}
 use lib.ListN.{length}
 use borrow.Author.Tests.{le-ltb, not-false}
-use Rattle.lists.specs.Lists.{between}
 use Rattle.lists.proofs.Tests.{and-intro, between-intro, or-neither, within}
 use Rattle.bitset.specs.Bitset.{has}
 use Rattle.session.specs.Stage
 use Rattle.session.specs.Seniority.{senior}
-use Rattle.session.proofs.Seniority.{senior-weak}
 use Rattle.session.specs.Rules as Session
 use Rattle.item.specs.NextHolder.{nextHolder}
-use Rattle.item.proofs.NextHolder.{next-inside}
 use Rattle.mailbox.specs.Entry.{Entry}
 use Rattle.mailbox.specs.Layout as Mail
 use Rattle.mailbox.proofs.Laws as MailLaws
@@ -25,7 +22,7 @@ use Rattle.table.specs.Layout as Table
 use Rattle.waits.specs.OnTable.{locks}
 use Rattle.step.specs.Step as Step
 use Rattle.step.specs.Step.{Plan, Stepped, stepCauses, stepped, refusedAnswer, delivered, sessionActs, sessionPlan, itemPlan, overfull, plan, committed}
-use Rattle.step.specs.Parts.{Unhindered}
+use Rattle.step.specs.Parts.{Judged, Unhindered}
 use Rattle.lockmgr.specs.Calls.{Config, step}
 use Rattle.refusal.specs.Refusal.{first}
 use Rattle.lockmgr.proofs.Judging.{by-call, formed-zero, judged-none, step-acts}
@@ -37,9 +34,10 @@ use Rattle.bound.specs.Statement as Bound
 use Rattle.agreement.specs.Reading.{readEntries}
 use Rattle.agreement.proofs.MailboxAgrees.{length-readEntries}
 use Rattle.agreement.proofs.MoveAgrees as Agrees
+use Rattle.agreement.proofs.MoveAgrees.{Parties}
 use Rattle.agreement.proofs.EventAgrees as Events
 use Rattle.clause.proofs.State
-use Rattle.clause.proofs.State.{seniorOf, nextOf, machineOf, Good, sessions-of, items-of, ranks-of}
+use Rattle.clause.proofs.State.{seniorOf, nextOf, machineOf, Good, given, sessions-of, items-of, ranks-of}
 use Rattle.clause.proofs.Moves.{StepMoved, session-stepped, item-stepped}
 
 -- nothing happens, for no test and another is passed
@@ -47,7 +45,14 @@ pub quiet : (b : Bool) → Machine.nothing ≡ record { closed = false; declared
 quiet true = refl
 quiet false = refl
 
-module _ (conf : Config) (table : List ℕ) (l : List Entry) (g : Good conf table l) where
+-- a delivery to the item (true) or to the session (false)
+abbrev pub deliveryVerb : Bool → ℕ
+deliveryVerb d = cond d Step.deliverToItem Step.deliverToSession
+
+abbrev pub deliveryCall : ℕ → ℕ → Bool → Machine.Call
+deliveryCall t x d = cond d (Machine.deliverToItem t x) (Machine.deliverToSession t x)
+
+module _ {conf : Config} {table : List ℕ} {l : List Entry} (g : Good conf table l) where
   abbrev mail : List ℕ
   mail = Mail.mailBytes (conf .capacity) l
 
@@ -57,10 +62,17 @@ module _ (conf : Config) (table : List ℕ) (l : List Entry) (g : Good conf tabl
   entries-are : Mail.entriesOf mail ≡ l
   entries-are = MailLaws.entries-mail (conf .capacity) l (g .low) (g .high) (g .room)
 
-  module _ (t x : ℕ) (t-range : between 1 (conf .table .sessions) t ≡ true) (x-range : between 1 (conf .table .items) x ≡ true) where
+  -- the session and the item of a step that was judged
+  parties : (t x : ℕ) → Judged t x table mail → Parties (conf .table .sessions) (conf .table .items) t x
+  parties t x j = record {
+    session = between-intro 1 (conf .table .sessions) t (j .session-low) (omega (arith, j .session-high, sessions-of g));
+    item = between-intro 1 (conf .table .items) x (j .item-low) (omega (arith, j .item-high, items-of g));
+  }
+
+  module _ {t x : ℕ} (p : Parties (conf .table .sessions) (conf .table .items) t x) where
     in-range : Machine.inRange (machineOf conf) t x ≡ true
     unfolding Machine.inRange
-    in-range = and-intro t-range x-range
+    in-range = and-intro (p .session) (p .item)
 
     abbrev planned : ℕ → Plan
     planned verb = plan (Table.senior table) verb t x table l
@@ -68,18 +80,9 @@ module _ (conf : Config) (table : List ℕ) (l : List Entry) (g : Good conf tabl
     abbrev Done : ℕ → Type 0
     Done verb = Unhindered verb t x table l → length (planned verb .entries) ≤ conf .capacity → StepMoved conf table l verb t (committed t (conf .capacity) (planned verb))
 
-    few-sessions : conf .table .sessions ≤ 64
-    few-sessions = State.few-sessions conf table l g
-
-    few-items : conf .table .items ≤ 64
-    few-items = State.few-items conf table l g
-
-    formed : Agrees.StateWellFormed (conf .table .sessions) (conf .table .items) (Table.session table) (locks table) l
-    formed = State.all-formed conf table l g
-
     -- where an entry is found the machine takes it
     taken : (d : Bool) → eqb (Agrees.placeOf t x l d) (length l) ≡ false → Bound.isTaken (Machine.takeFirst d t x (readEntries l)) ≡ true
-    taken d found = ap Bound.isTaken (Agrees.taken-eq (seniorOf conf) (nextOf conf) (conf .table .sessions) (conf .table .items) few-sessions few-items (Table.session table) (locks table) l formed t x t-range x-range d found)
+    taken d found = ap Bound.isTaken (Agrees.taken-eq (given g) p d found)
 
     request-done : Done Step.request
     unfolding Machine.ofMachine Machine.eventOf Session.requested
@@ -89,10 +92,10 @@ module _ (conf : Config) (table : List ℕ) (l : List Entry) (g : Good conf tabl
         let mask = or-neither (has x (s .held)) _ (u .mask) .0 in
         let allowed : eqb (s .stage) Stage.growing && not (has x (s .held)) ≡ true = and-intro (not-false (eqb (s .stage) Stage.growing) stage) (rw (mask) refl) in
         rw (request-plan (Table.senior table) t x table l)
-        (session-stepped conf table l g t t-range (Machine.requestCall t x) in-range l (Session.requested x s)
+        (session-stepped g t (p .session) (Machine.requestCall t x) in-range l (Session.requested x s)
         (rw (request-plan (Table.senior table) t x table l) at room)
-        (λ f h. Agrees.request-move-kept (seniorOf conf) (nextOf conf) (conf .table .sessions) (conf .table .items) few-sessions few-items (Table.session table) (locks table) l formed t x t-range x-range f h)
-        (λ f h. Agrees.request-move (seniorOf conf) (nextOf conf) (conf .table .sessions) (conf .table .items) few-sessions few-items (Table.session table) (locks table) l formed t x t-range x-range allowed f h)
+        (Agrees.request-move-kept (given g) p)
+        (Agrees.request-move (given g) p allowed)
         (λ f h _. rw (h .here) (quiet (not (eqb (s .stage) Stage.rolledBack))))
         Step.request refl (λ e. absurd (false≢true e)))
 
@@ -103,10 +106,10 @@ module _ (conf : Config) (table : List ℕ) (l : List Entry) (g : Good conf tabl
         let stage : eqb (s .stage) Stage.growing || eqb (s .stage) Stage.shrinking ≡ true = not-false (eqb (s .stage) Stage.growing || eqb (s .stage) Stage.shrinking) (u .stage) in
         let allowed : (eqb (s .stage) Stage.growing || eqb (s .stage) Stage.shrinking) && has x (s .held) ≡ true = and-intro stage (not-false (has x (s .held)) (u .mask)) in
         rw (release-plan (Table.senior table) t x table l)
-        (session-stepped conf table l g t t-range (Machine.releaseCall t x) in-range l (Session.released x s)
+        (session-stepped g t (p .session) (Machine.releaseCall t x) in-range l (Session.released x s)
         (rw (release-plan (Table.senior table) t x table l) at room)
-        (λ f h. Agrees.release-move-kept (seniorOf conf) (nextOf conf) (conf .table .sessions) (conf .table .items) few-sessions few-items (Table.session table) (locks table) l formed t x t-range x-range stage f h)
-        (λ f h. Agrees.release-move (seniorOf conf) (nextOf conf) (conf .table .sessions) (conf .table .items) few-sessions few-items (Table.session table) (locks table) l formed t x t-range x-range allowed f h)
+        (Agrees.release-move-kept (given g) p stage)
+        (Agrees.release-move (given g) p allowed)
         (λ f h _. rw (h .here) (quiet (not (eqb (s .stage) Stage.rolledBack))))
         Step.release refl (λ e. absurd (false≢true e)))
 
@@ -126,11 +129,11 @@ module _ (conf : Config) (table : List ℕ) (l : List Entry) (g : Good conf tabl
     item-done u room =
         let found : eqb (Agrees.placeOf t x l true) (length l) ≡ false = u .route in
         rw (item-plan)
-        (item-stepped conf table l g t t-range x x-range (Machine.deliverToItem t x) in-range (Agrees.othersOf t x l true) (Agrees.itemStep (seniorOf conf) (nextOf conf) (locks table) t x l)
+        (item-stepped g t (p .session) x (p .item) (Machine.deliverToItem t x) in-range (Agrees.othersOf t x l true) (Agrees.itemStep (seniorOf conf) (nextOf conf) (locks table) t x l)
         (rw (item-plan) at room)
-        (λ f h. Agrees.item-move-kept (seniorOf conf) (nextOf conf) (conf .table .sessions) (conf .table .items) few-sessions few-items (Table.session table) (locks table) l formed t x t-range x-range found (next-inside (senior-weak (conf .table .ranks))) f h)
-        (λ f h. Agrees.item-move (seniorOf conf) (nextOf conf) (conf .table .sessions) (conf .table .items) few-sessions few-items (Table.session table) (locks table) l formed t x t-range x-range found (next-inside (senior-weak (conf .table .ranks))) f h)
-        (λ after. Events.item-move-event (seniorOf conf) (nextOf conf) (conf .table .sessions) (conf .table .items) few-sessions few-items (Table.session table) (locks table) l formed t x t-range x-range found (next-inside (senior-weak (conf .table .ranks))) after)
+        (Agrees.item-move-kept (given g) p found)
+        (Agrees.item-move (given g) p found)
+        (Events.item-move-event (given g) p found)
         (taken true found) Step.deliverToItem)
 
     session-done : Done Step.deliverToSession
@@ -138,36 +141,30 @@ module _ (conf : Config) (table : List ℕ) (l : List Entry) (g : Good conf tabl
     session-done u room =
         let found : eqb (Agrees.placeOf t x l false) (length l) ≡ false = u .route in
         rw (session-plan)
-        (session-stepped conf table l g t t-range (Machine.deliverToSession t x) in-range (Agrees.othersOf t x l false) (Agrees.sessionStep (seniorOf conf) (Table.session table) t x l)
+        (session-stepped g t (p .session) (Machine.deliverToSession t x) in-range (Agrees.othersOf t x l false) (Agrees.sessionStep (seniorOf conf) (Table.session table) t x l)
         (rw (session-plan) at room)
-        (λ f h. Agrees.session-move-kept (seniorOf conf) (nextOf conf) (conf .table .sessions) (conf .table .items) few-sessions few-items (Table.session table) (locks table) l formed t x t-range x-range found f h)
-        (λ f h. Agrees.session-move (seniorOf conf) (nextOf conf) (conf .table .sessions) (conf .table .items) few-sessions few-items (Table.session table) (locks table) l formed t x t-range x-range found f h)
-        (λ f h v. Events.session-move-event (seniorOf conf) (nextOf conf) (conf .table .sessions) (conf .table .items) few-sessions few-items (Table.session table) (locks table) l formed t x t-range x-range f _ v)
+        (Agrees.session-move-kept (given g) p found)
+        (Agrees.session-move (given g) p found)
+        (λ f h v. Events.session-move-event (given g) p f _ v)
         Step.deliverToSession refl (λ _. taken false found))
 
-    -- ---- a delivery that finds its entry, to the item (true) or to the session (false): how many entries it leaves, and that only room can hinder it
-    abbrev pub deliveryVerb : Bool → ℕ
-    deliveryVerb d = cond d Step.deliverToItem Step.deliverToSession
-
-    abbrev pub deliveryCall : Bool → Machine.Call
-    deliveryCall d = cond d (Machine.deliverToItem t x) (Machine.deliverToSession t x)
-
+    -- ---- a delivery that finds its entry: how many entries it leaves, and that only room can hinder it
     -- as many as the machine
     same-count : (d : Bool) → eqb (Agrees.placeOf t x l d) (length l) ≡ false
-        → length (planned (deliveryVerb d) .entries) ≡ length (Machine.move (machineOf conf) (State.stateOf conf table l) (deliveryCall d) .mailbox)
+        → length (planned (deliveryVerb d) .entries) ≡ length (Machine.move (machineOf conf) (State.stateOf conf table l) (deliveryCall t x d) .mailbox)
     same-count true found =
         let r = Agrees.itemStep (seniorOf conf) (nextOf conf) (locks table) t x l in
         ap (λ (p : Plan). length (p .entries)) item-plan
         ∙ sym (length-readEntries _)
         ∙ ap (λ (s : Machine.State). length (s .mailbox))
-        (Agrees.item-move (seniorOf conf) (nextOf conf) (conf .table .sessions) (conf .table .items) few-sessions few-items (Table.session table) (locks table) l formed t x t-range x-range found (next-inside (senior-weak (conf .table .ranks)))
+        (Agrees.item-move (given g) p found
         (updated (locks table) x (r .lock)) (record { here = updated-same (locks table) x (r .lock); elsewhere = λ j _ n. updated-other (locks table) x (r .lock) j n }))
     same-count false found =
         let r = Agrees.sessionStep (seniorOf conf) (Table.session table) t x l in
         ap (λ (p : Plan). length (p .entries)) session-plan
         ∙ sym (length-readEntries _)
         ∙ ap (λ (s : Machine.State). length (s .mailbox))
-        (Agrees.session-move (seniorOf conf) (nextOf conf) (conf .table .sessions) (conf .table .items) few-sessions few-items (Table.session table) (locks table) l formed t x t-range x-range found
+        (Agrees.session-move (given g) p found
         (updated (Table.session table) t (r .session)) (record { here = updated-same (Table.session table) t (r .session); elsewhere = λ j _ n. updated-other (Table.session table) t (r .session) j n }))
 
     only-room : (d : Bool) → eqb (Agrees.placeOf t x l d) (length l) ≡ false → first (stepCauses (deliveryVerb d) t x table (Mail.entriesOf mail)) ≡ 0
@@ -181,11 +178,11 @@ module _ (conf : Config) (table : List ℕ) (l : List Entry) (g : Good conf tabl
 
     -- where what the machine leaves fits, the step is accepted
     pub fits-accepted : (d : Bool) → eqb (Agrees.placeOf t x l d) (length l) ≡ false
-        → length (Machine.move (machineOf conf) (State.stateOf conf table l) (deliveryCall d) .mailbox) ≤ conf .capacity → step (deliveryVerb d) t x table mail .answer .refusal ≡ 0
+        → length (Machine.move (machineOf conf) (State.stateOf conf table l) (deliveryCall t x d) .mailbox) ≤ conf .capacity → step (deliveryVerb d) t x table mail .answer .refusal ≡ 0
     fits-accepted d found fits =
-        let f = State.buffers-formed conf table l g in
-        let rt = within 1 (conf .table .sessions) t t-range in
-        let rx = within 1 (conf .table .items) x x-range in
+        let f = State.buffers-formed g in
+        let rt = within 1 (conf .table .sessions) t (p .session) in
+        let rx = within 1 (conf .table .items) x (p .item) in
         let v = is-verb d in
         let j = judged-none (deliveryVerb d) t x table mail (v .0) (v .1) (formed-zero table mail f) (rt .0) (omega (arith, rt .1, sessions-of g)) (rx .0) (omega (arith, rx .1, items-of g)) in
         let room : overfull (Mail.capacityOf mail) (plan (Table.senior table) (deliveryVerb d) t x table (Mail.entriesOf mail) .entries) ≡ false =
@@ -193,12 +190,12 @@ module _ (conf : Config) (table : List ℕ) (l : List Entry) (g : Good conf tabl
         rw (step-acts (deliveryVerb d) t x table mail j, acted-concluded (Table.senior table) (deliveryVerb d) t x table mail (only-room d found), room) refl
 
     -- where an entry is found, the machine delivers it
-    pub found-delivers : (d : Bool) → eqb (Agrees.placeOf t x l d) (length l) ≡ false → Bound.delivers (State.stateOf conf table l) (deliveryCall d) ≡ true
+    pub found-delivers : (d : Bool) → eqb (Agrees.placeOf t x l d) (length l) ≡ false → Bound.delivers (State.stateOf conf table l) (deliveryCall t x d) ≡ true
     unfolding Bound.delivers
     found-delivers true found = taken true found
     found-delivers false found = taken false found
 
-    pub call-in-range : (d : Bool) → Machine.ofMachine (machineOf conf) (deliveryCall d) ≡ true
+    pub call-in-range : (d : Bool) → Machine.ofMachine (machineOf conf) (deliveryCall t x d) ≡ true
     unfolding Machine.ofMachine
     call-in-range true = in-range
     call-in-range false = in-range
@@ -208,8 +205,7 @@ module _ (conf : Config) (table : List ℕ) (l : List Entry) (g : Good conf tabl
       → ((r : Stepped) → StepMoved conf table l verb t r → P r) → P (step verb t x table mail)
   by-step verb t x P refused moved =
       by-call verb t x table mail P refused (λ low high j u room.
-      let t-range = between-intro 1 (conf .table .sessions) t (j .session-low) (omega (arith, j .session-high, sessions-of g)) in
-      let x-range = between-intro 1 (conf .table .items) x (j .item-low) (omega (arith, j .item-high, items-of g)) in
+      let p = parties t x j in
       rw (capacity-is, entries-are)
-      (moved (committed t (conf .capacity) (planned t x t-range x-range verb))
-      (by-verb (Done t x t-range x-range) (request-done t x t-range x-range) (release-done t x t-range x-range) (item-done t x t-range x-range) (session-done t x t-range x-range) verb low high (rw (entries-are) at u) (rw (capacity-is, entries-are) at room))))
+      (moved (committed t (conf .capacity) (planned p verb))
+      (by-verb (Done p) (request-done p) (release-done p) (item-done p) (session-done p) verb low high (rw (entries-are) at u) (rw (capacity-is, entries-are) at room))))

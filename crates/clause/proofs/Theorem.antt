@@ -29,7 +29,7 @@ use Rattle.lockmgr.specs.Run.{Buffers, buffers}
 use Rattle.lockmgr.specs.History.{Call, after, steps}
 use Rattle.clause.specs.Statement.{opened, EmptyMail, IsSession, Settled, WellFormed, Holds, Clause}
 use Rattle.clause.proofs.State
-use Rattle.clause.proofs.State.{seniorOf, nextOf, machineOf, stateOf, Good, sessions-of, items-of, ranks-of}
+use Rattle.clause.proofs.State.{seniorOf, nextOf, machineOf, stateOf, Good, sessions-of}
 use Rattle.clause.proofs.Cycles.{on-cycle-of}
 use Rattle.clause.proofs.Follow.{ran, Followed, follow}
 use Rattle.clause.proofs.Declarations.{guaranteed, declarations}
@@ -85,7 +85,7 @@ module _ (conf : Config) (b : Buffers) (calls : List Call) (h : Followed conf (M
   well-formed : WellFormed conf (after b calls)
   well-formed =
       let g = h .good in record {
-        formed = rw (h .mail) (State.buffers-formed conf table-left (h .entries) g);
+        formed = rw (h .mail) (State.buffers-formed g);
         config = g .config;
         capacity = rw (h .mail) (MailLaws.capacity-mail (conf .capacity) (h .entries) (g .low) (g .high) (g .room));
       }
@@ -99,9 +99,9 @@ module _ (conf : Config) (b : Buffers) (calls : List Call) (h : Followed conf (M
 
     off-cycle : (t : ℕ) → IsSession (conf .table .sessions) t → not (eqb (cycleLength table-left t) 0) ≡ false
     off-cycle t known =
-        sym (on-cycle-of conf table-left (h .entries) (h .good) t)
+        sym (on-cycle-of (h .good) t)
         ∙ ap (λ (s : Machine.State). Machine.onCycle (machineOf conf) s t) (sym (h .state))
-        ∙ guaranteed conf table-left (h .entries) (h .good) .settled-free (h .run) no-mail t (known .0) (known .1)
+        ∙ guaranteed (h .good) .settled-free (h .run) no-mail t (known .0) (known .1)
 
     no-cycle : (t : ℕ) → IsSession (conf .table .sessions) t → cycleLength table-left t ≡ 0
     no-cycle t known = eqb-true (cycleLength table-left t) 0 (not-false (eqb (cycleLength table-left t) 0) (off-cycle t known))
@@ -109,7 +109,7 @@ module _ (conf : Config) (b : Buffers) (calls : List Call) (h : Followed conf (M
     settled : Settled (conf .table .sessions) b calls
     unfolding Calls.report Waits.onCycle
     settled = record {
-      counts = omega (arith, h .closes, h .rolls, guaranteed conf table-left (h .entries) (h .good) .counts-agree (h .run) no-mail);
+      counts = omega (arith, h .closes, h .rolls, guaranteed (h .good) .counts-agree (h .run) no-mail);
       none-stands = cycles-none (waitsFor table-left) (Table.sessionsOf table-left) (Table.senior table-left) (λ t lo hi. off-cycle t (lo, rw (sessions-of (h .good)) at hi));
       reports = λ t known. let high : t ≤ Table.sessionsOf table-left = rw (sessions-of (h .good)) (known .1) in
           rw (report-none t table-left (h .good .sized) (h .good .formed) (known .0) high, no-cycle t known) refl;
