@@ -9,12 +9,13 @@ use lib.ListN.{length}
 use Rattle.mailbox.specs.Entry.{Entry}
 use Rattle.session.specs.Stage
 use Rattle.session.specs.declared.Session.{Session}
+use Rattle.session.specs.Record as SessionRecord
 use Rattle.item.specs.Record.{Lock}
 use Rattle.deadlock.specs.Machine
 use Rattle.agreement.specs.Reading.{readStage, readState, rules}
 use Rattle.agreement.proofs.SessionAgrees.{by-stage}
 use Rattle.session.proofs.WellFormed.{session-facts}
-use Rattle.agreement.proofs.MoveAgrees.{StateWellFormed, Given, Parties, placeOf, itemStep, session-at, item-at, item-step-agrees, taken-eq}
+use Rattle.agreement.proofs.MoveAgrees.{Given, Parties, placeOf, itemStep, session-at, item-at, item-step-agrees, taken-eq}
 
 -- stage 6 is read as rolled back, and no other stage
 pub rolledBack-agrees : (y n : ℕ) → 1 ≤ n → n ≤ 6 → Machine.isRolledBack (readStage n y) ≡ eqb n Stage.rolledBack
@@ -38,11 +39,11 @@ module _ {senior : ℕ → ℕ → Bool} {next : List ℕ → ℕ} {S M : ℕ} {
       (ap (λ (o : Machine.ItemStep). Machine.itemEvent (o .event) (Machine.onCycle R after t)) (sym (item-step-agrees given p found)))
 
   -- a delivery to session t
-  pub session-move-event : (g : ℕ → Session) (k : List Entry) → StateWellFormed S M g locks k
+  pub session-move-event : (g : ℕ → Session) (k : List Entry) → SessionRecord.wellFormed S M (g t) ≡ true
       → Machine.eventOf R before (Machine.deliverToSession t x) (readState S M g locks k)
       ≡ record { closed = false; declared = none; rolledBack = not (eqb (sessions t .stage) Stage.rolledBack) && eqb (g t .stage) Stage.rolledBack }
   unfolding Machine.eventOf Machine.sessionEvent
   session-move-event g k v =
-      let f = session-facts S M (sessions t) (given .formed .session t (p .session)) in
-      let h = session-facts S M (g t) (v .session t (p .session)) in
+      let f = session-facts S M (sessions t) (given .session t (p .session)) in
+      let h = session-facts S M (g t) v in
       rw (session-at S sessions t (p .session), session-at S g t (p .session), rolledBack-agrees (sessions t .awaited) (sessions t .stage) (f .stage-low) (f .stage-high), rolledBack-agrees (g t .awaited) (g t .stage) (h .stage-low) (h .stage-high)) refl

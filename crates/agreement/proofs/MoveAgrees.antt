@@ -1,4 +1,4 @@
--- A step of the lock manager's records, where it is allowed, is the machine's move, and keeps the state well-formed.
+-- A step of the lock manager's records, where it is allowed, is the machine's move.
 use mathlib.Core.Path.{_≡_, refl, ap, _∙_, fun-ext}
 use mathlib.Core.Bool.{Bool, true, false, cond, not, _&&_, _||_}
 use mathlib.Core.List.{List, [], _++_, map}
@@ -9,7 +9,7 @@ use lib.Dec.{eqb}
 use lib.ListN.{length, getD}
 use borrow.Author.Tests.{eqb-true, eqb-false}
 use Rattle.lists.specs.Lists.{between, allOf, removeAt}
-use Rattle.lists.proofs.Laws.{all-getD, all-join, all-map, all-removeAt, findIndex-found, findIndex-length}
+use Rattle.lists.proofs.Laws.{all-getD, findIndex-found, findIndex-length}
 use Rattle.lists.proofs.Tests.{and-both, within}
 use Rattle.bitset.specs.Bitset.{has}
 use Rattle.message.specs.Kind
@@ -29,9 +29,7 @@ use Rattle.agreement.specs.Reading.{readStage, readHolder, readHeld, rea
 use Rattle.agreement.proofs.ReadingSession.{fresh-read}
 use Rattle.mailbox.proofs.EntryLaws.{entry-facts}
 use Rattle.agreement.proofs.ItemAgrees.{item-agrees}
-use Rattle.wellformed.proofs.Items.{ItemKept, item-kept}
 use Rattle.agreement.proofs.SessionAgrees.{session-agrees, request-agrees, release-agrees, held-read}
-use Rattle.wellformed.proofs.Sessions.{SessionKept, session-kept, request-kept, release-kept}
 use Rattle.agreement.proofs.MailboxAgrees.{takenAt, take-agrees, readEntries-append, from-session, from-item}
 
 -- of the records 1 to n, the one at k is now a, and the others are as they were
@@ -83,19 +81,15 @@ itemStep senior next locks t x l = ItemRules.received senior next (locks x) (see
 abbrev pub sessionStep : (ℕ → ℕ → Bool) → (ℕ → Session) → ℕ → ℕ → List Entry → SessionRules.After
 sessionStep senior sessions t x l = SessionRules.received senior t (sessions t) (seenBySession (entryOf t x l false))
 
--- every record and every entry is well-formed
-pub record StateWellFormed (S M : ℕ) (sessions : ℕ → Session) (locks : ℕ → Lock) (l : List Entry) : Type 0 where
-  pub session : (t : ℕ) → between 1 S t ≡ true → SessionRecord.wellFormed S M (sessions t) ≡ true
-  pub juniors : (t : ℕ) → between 1 S t ≡ true → length (sessions t .juniors) ≡ 64
-  pub lock : (x : ℕ) → between 1 M x ≡ true → LockWellFormed S (locks x)
-  pub entries : allOf (Entry.wellFormed S M) l ≡ true
-
 -- what is given: at most 64 sessions and items, a choice of the next holder that stays in the queue, and well-formed records and entries
 pub record Given (senior : ℕ → ℕ → Bool) (next : List ℕ → ℕ) (S M : ℕ) (sessions : ℕ → Session) (locks : ℕ → Lock) (l : List Entry) : Type 0 where
   pub few-sessions : S ≤ 64
   pub few-items : M ≤ 64
   pub inside-queue : (q : List ℕ) → 0 < length q → next q < length q
-  pub formed : StateWellFormed S M sessions locks l
+  pub session : (t : ℕ) → between 1 S t ≡ true → SessionRecord.wellFormed S M (sessions t) ≡ true
+  pub juniors : (t : ℕ) → between 1 S t ≡ true → length (sessions t .juniors) ≡ 64
+  pub lock : (x : ℕ) → between 1 M x ≡ true → LockWellFormed S (locks x)
+  pub entries : allOf (Entry.wellFormed S M) l ≡ true
 
 -- the parties of a step: session t and item x are there
 pub record Parties (S M t x : ℕ) : Type 0 where
@@ -107,32 +101,15 @@ pub session-at : (S : ℕ) (sessions : ℕ → Session) (t : ℕ) → between 1 
 unfolding readSessions
 session-at S sessions t r = rw (r) refl
 
--- what session t does
-module _ {S M : ℕ} {sessions : ℕ → Session} {locks : ℕ → Lock} {l : List Entry} (w : StateWellFormed S M sessions locks l) (t : ℕ) (t-range : between 1 S t ≡ true) where
-  -- the state after it
-  pub session-state : (rest : List Entry) (r : SessionRules.After) (g : ℕ → Session) → Replaced S sessions g t (r .session)
+-- the state after what session t does
+module _ {senior : ℕ → ℕ → Bool} {next : List ℕ → ℕ} {S M : ℕ} {sessions : ℕ → Session} {locks : ℕ → Lock} {l : List Entry} (given : Given senior next S M sessions locks l) where
+  pub session-state : (t : ℕ) → between 1 S t ≡ true → (rest : List Entry) (r : SessionRules.After) (g : ℕ → Session) → Replaced S sessions g t (r .session)
       → readState S M g locks (rest ++ map (fromSession t) (r .sends)) ≡ Machine.afterSession (readState S M sessions locks l) t (readEntries rest) (readSessionStep r)
   unfolding Machine.afterSession
-  session-state rest r g h = rw (sessions-replaced S sessions g t (r .session) t-range h, readEntries-append rest (map (fromSession t) (r .sends)), from-session t (r .sends)) refl
-
-  pub session-state-kept : (rest : List Entry) → allOf (Entry.wellFormed S M) rest ≡ true → (r : SessionRules.After) → SessionKept S M t r → (g : ℕ → Session) → Replaced S sessions g t (r .session)
-      → StateWellFormed S M g locks (rest ++ map (fromSession t) (r .sends))
-  session-state-kept rest e r k g h = record {
-    session = λ j f. at j f (eqb t j) refl .0;
-    juniors = λ j f. at j f (eqb t j) refl .1;
-    lock = w .lock;
-    entries = all-join (Entry.wellFormed S M) rest _ e (all-map (Entry.wellFormed S M) (fromSession t) (r .sends) (k .sends));
-  }
-    where
-      at : (j : ℕ) → between 1 S j ≡ true → (b : Bool) → eqb t j ≡ b → (SessionRecord.wellFormed S M (g j) ≡ true) × (length (g j .juniors) ≡ 64)
-      at j f true q = rw (← eqb-true t j q, h .here) (k .session, k .juniors)
-      at j f false q = rw (h .elsewhere j f (eqb-false t j q)) (w .session j f, w .juniors j f)
+  session-state t t-range rest r g h = rw (sessions-replaced S sessions g t (r .session) t-range h, readEntries-append rest (map (fromSession t) (r .sends)), from-session t (r .sends)) refl
 
 module _ {senior : ℕ → ℕ → Bool} {next : List ℕ → ℕ} {S M : ℕ} {sessions : ℕ → Session} {locks : ℕ → Lock} {l : List Entry} (given : Given senior next S M sessions locks l)
     {t x : ℕ} (p : Parties S M t x) where
-  w : StateWellFormed S M sessions locks l
-  w = given .formed
-
   abbrev R : Machine.Rules
   R = rules S M senior next
 
@@ -146,19 +123,6 @@ module _ {senior : ℕ → ℕ → Bool} {next : List ℕ → ℕ} {S M : ℕ} {
   unfolding Machine.afterItem
   item-state rest r g h = rw (items-replaced M locks g x (r .lock) (p .item) h, readEntries-append rest (map (fromItem x) (r .sends)), from-item x (r .sends)) refl
 
-  item-state-kept : (rest : List Entry) → allOf (Entry.wellFormed S M) rest ≡ true → (r : ItemRules.After) → ItemKept S M x r → (g : ℕ → Lock) → Replaced M locks g x (r .lock)
-      → StateWellFormed S M sessions g (rest ++ map (fromItem x) (r .sends))
-  item-state-kept rest e r k g h = record {
-    session = w .session;
-    juniors = w .juniors;
-    lock = λ j f. at j f (eqb x j) refl;
-    entries = all-join (Entry.wellFormed S M) rest _ e (all-map (Entry.wellFormed S M) (fromItem x) (r .sends) (k .sends));
-  }
-    where
-      at : (j : ℕ) → between 1 M j ≡ true → (b : Bool) → eqb x j ≡ b → LockWellFormed S (g j)
-      at j f true q = rw (← eqb-true x j q, h .here) (k .lock)
-      at j f false q = rw (h .elsewhere j f (eqb-false x j q)) (w .lock j f)
-
   abbrev before : Machine.State
   before = readState S M sessions locks l
 
@@ -169,31 +133,23 @@ module _ {senior : ℕ → ℕ → Bool} {next : List ℕ → ℕ} {S M : ℕ} {
   -- ---- the calls
   request-answer : Machine.onRequestCall R x (readSession (sessions t)) (readSession (sessions t) .stage)
       ≡ cond (eqb (sessions t .stage) Stage.growing && not (has x (sessions t .held))) (Machine.accepted (readSessionStep (SessionRules.requested x (sessions t)))) Machine.refused
-  request-answer = rw (← held-at) (request-agrees senior next S M (given .few-sessions) (given .few-items) (sessions t) (w .session t (p .session)) (w .juniors t (p .session)) x)
+  request-answer = rw (← held-at) (request-agrees senior next S M (given .few-sessions) (given .few-items) (sessions t) (given .session t (p .session)) (given .juniors t (p .session)) x)
 
   release-answer : Machine.onReleaseCall R x (readSession (sessions t)) (readSession (sessions t) .stage)
       ≡ cond ((eqb (sessions t .stage) Stage.growing || eqb (sessions t .stage) Stage.shrinking) && has x (sessions t .held)) (Machine.accepted (readSessionStep (SessionRules.released x (sessions t)))) Machine.refused
-  release-answer = rw (← held-at) (release-agrees senior next S M (given .few-sessions) (given .few-items) (sessions t) (w .session t (p .session)) (w .juniors t (p .session)) x (within 1 M x (p .item) .0) (within 1 M x (p .item) .1))
+  release-answer = rw (← held-at) (release-agrees senior next S M (given .few-sessions) (given .few-items) (sessions t) (given .session t (p .session)) (given .juniors t (p .session)) x (within 1 M x (p .item) .0) (within 1 M x (p .item) .1))
 
   -- a request in stage 1 for an item not held
   pub request-move : eqb (sessions t .stage) Stage.growing && not (has x (sessions t .held)) ≡ true → (g : ℕ → Session) → Replaced S sessions g t (SessionRules.requested x (sessions t) .session)
       → readState S M g locks (l ++ map (fromSession t) (SessionRules.requested x (sessions t) .sends)) ≡ Machine.move R before (Machine.requestCall t x)
   unfolding Machine.move Machine.afterAnswer
-  request-move e g h = rw (session-at S sessions t (p .session), request-answer, e) (session-state w t (p .session) l (SessionRules.requested x (sessions t)) g h)
+  request-move e g h = rw (session-at S sessions t (p .session), request-answer, e) (session-state given t (p .session) l (SessionRules.requested x (sessions t)) g h)
 
   -- a release in stage 1 or 3 of an item held
   pub release-move : (eqb (sessions t .stage) Stage.growing || eqb (sessions t .stage) Stage.shrinking) && has x (sessions t .held) ≡ true → (g : ℕ → Session) → Replaced S sessions g t (SessionRules.released x (sessions t) .session)
       → readState S M g locks (l ++ map (fromSession t) (SessionRules.released x (sessions t) .sends)) ≡ Machine.move R before (Machine.releaseCall t x)
   unfolding Machine.move Machine.afterAnswer
-  release-move e g h = rw (session-at S sessions t (p .session), release-answer, e) (session-state w t (p .session) l (SessionRules.released x (sessions t)) g h)
-
-  pub request-move-kept : (g : ℕ → Session) → Replaced S sessions g t (SessionRules.requested x (sessions t) .session)
-      → StateWellFormed S M g locks (l ++ map (fromSession t) (SessionRules.requested x (sessions t) .sends))
-  request-move-kept g h = session-state-kept w t (p .session) l (w .entries) (SessionRules.requested x (sessions t)) (request-kept S M t x (p .session) (p .item) (sessions t) (w .session t (p .session)) (w .juniors t (p .session))) g h
-
-  pub release-move-kept : eqb (sessions t .stage) Stage.growing || eqb (sessions t .stage) Stage.shrinking ≡ true → (g : ℕ → Session) → Replaced S sessions g t (SessionRules.released x (sessions t) .session)
-      → StateWellFormed S M g locks (l ++ map (fromSession t) (SessionRules.released x (sessions t) .sends))
-  release-move-kept e g h = session-state-kept w t (p .session) l (w .entries) (SessionRules.released x (sessions t)) (release-kept S M t x (p .session) (p .item) (sessions t) (w .session t (p .session)) (w .juniors t (p .session)) e) g h
+  release-move e g h = rw (session-at S sessions t (p .session), release-answer, e) (session-state given t (p .session) l (SessionRules.released x (sessions t)) g h)
 
   -- ---- the deliveries
   module _ (d : Bool) (found : eqb (placeOf t x l d) (length l) ≡ false) where
@@ -201,7 +157,7 @@ module _ {senior : ℕ → ℕ → Bool} {next : List ℕ → ℕ} {S M : ℕ} {
     inside = omega (arith, findIndex-length (onRoute (directionOf d) t x) l, eqb-false (placeOf t x l d) (length l) found)
 
     pub entry-formed : Entry.wellFormed S M (entryOf t x l d) ≡ true
-    entry-formed = all-getD (Entry.wellFormed S M) l (placeOf t x l d) unused (w .entries) inside
+    entry-formed = all-getD (Entry.wellFormed S M) l (placeOf t x l d) unused (given .entries) inside
 
     on-route : onRoute (directionOf d) t x (entryOf t x l d) ≡ true
     on-route = findIndex-found (onRoute (directionOf d) t x) l unused inside
@@ -214,12 +170,9 @@ module _ {senior : ℕ → ℕ → Bool} {next : List ℕ → ℕ} {S M : ℕ} {
     entry-item : entryOf t x l d .item ≡ x
     entry-item = eqb-true (entryOf t x l d .item) x (and-both (eqb (entryOf t x l d .direction) (directionOf d) && eqb (entryOf t x l d .session) t) (eqb (entryOf t x l d .item) x) on-route .1)
 
-    others-formed : allOf (Entry.wellFormed S M) (othersOf t x l d) ≡ true
-    others-formed = all-removeAt (Entry.wellFormed S M) (placeOf t x l d) l (w .entries)
-
     pub taken-eq : Machine.takeFirst d t x (readEntries l) ≡ Machine.taken (readMessage (entryOf t x l d .kind) (entryOf t x l d .a) (entryOf t x l d .b)) (readEntries (othersOf t x l d))
     unfolding takenAt
-    taken-eq = take-agrees S M d t x l (w .entries) ∙ rw (found) refl
+    taken-eq = take-agrees S M d t x l (given .entries) ∙ rw (found) refl
 
     pub kind-range : (1 ≤ entryOf t x l d .kind) × (entryOf t x l d .kind ≤ 10)
     kind-range = let f = entry-facts S M (entryOf t x l d) entry-formed .kinds in (f .low, f .high)
@@ -230,18 +183,13 @@ module _ {senior : ℕ → ℕ → Bool} {next : List ℕ → ℕ} {S M : ℕ} {
     item-step-agrees =
         let kind = kind-range true found in
         let low : 1 ≤ entryOf t x l true .session = rw (entry-session true found) (within 1 S t (p .session) .0) in
-        item-agrees senior next S M (locks x) (seenByItem (entryOf t x l true)) low (kind .0) (kind .1) (w .lock x (p .item)) (given .inside-queue (locks x .queue))
+        item-agrees senior next S M (locks x) (seenByItem (entryOf t x l true)) low (kind .0) (kind .1) (given .lock x (p .item)) (given .inside-queue (locks x .queue))
         ∙ ap (λ (n : ℕ). Machine.itemReceives R n (readItem (locks x)) (readMessage (entryOf t x l true .kind) (entryOf t x l true .a) (entryOf t x l true .b))) (entry-session true found)
 
     pub item-move : (g : ℕ → Lock) → Replaced M locks g x (itemStep senior next locks t x l .lock)
         → readState S M sessions g (othersOf t x l true ++ map (fromItem x) (itemStep senior next locks t x l .sends)) ≡ Machine.move R before (Machine.deliverToItem t x)
     unfolding Machine.move Machine.itemTakes
     item-move g h = rw (taken-eq true found, item-at, ← item-step-agrees) (item-state (othersOf t x l true) (itemStep senior next locks t x l) g h)
-
-    pub item-move-kept : (g : ℕ → Lock) → Replaced M locks g x (itemStep senior next locks t x l .lock) → StateWellFormed S M sessions g (othersOf t x l true ++ map (fromItem x) (itemStep senior next locks t x l .sends))
-    item-move-kept g h =
-        item-state-kept (othersOf t x l true) (others-formed true found) (itemStep senior next locks t x l)
-        (rw (entry-item true found) at (item-kept senior next S M (entryOf t x l true) (entry-formed true found) (locks x) (w .lock x (p .item)) (given .inside-queue (locks x .queue)))) g h
 
   -- the earliest entry to session t
   module _ (found : eqb (placeOf t x l false) (length l) ≡ false) where
@@ -251,18 +199,13 @@ module _ {senior : ℕ → ℕ → Bool} {next : List ℕ → ℕ} {S M : ℕ} {
         let kind = kind-range false found in
         let facts = entry-facts S M e (entry-formed false found) in
         let first : e .kind ≡ Kind.probe → (1 ≤ e .a) × (e .a ≤ S) = λ q. (facts .a-low (ap Kind.carries q), facts .a-high) in
-        session-agrees senior next S M (given .few-sessions) (given .few-items) (sessions t) (w .session t (p .session)) (w .juniors t (p .session)) t (seenBySession e) (facts .item-low) (facts .item-high) (kind .0) (kind .1) first
+        session-agrees senior next S M (given .few-sessions) (given .few-items) (sessions t) (given .session t (p .session)) (given .juniors t (p .session)) t (seenBySession e) (facts .item-low) (facts .item-high) (kind .0) (kind .1) first
         ∙ ap (λ (n : ℕ). Machine.sessionReceives R t n (readSession (sessions t)) (readMessage (e .kind) (e .a) (e .b))) (entry-item false found)
 
     pub session-move : (g : ℕ → Session) → Replaced S sessions g t (sessionStep senior sessions t x l .session)
         → readState S M g locks (othersOf t x l false ++ map (fromSession t) (sessionStep senior sessions t x l .sends)) ≡ Machine.move R before (Machine.deliverToSession t x)
     unfolding Machine.move Machine.sessionTakes
-    session-move g h = rw (taken-eq false found, session-at S sessions t (p .session), ← session-step-agrees) (session-state w t (p .session) (othersOf t x l false) (sessionStep senior sessions t x l) g h)
-
-    pub session-move-kept : (g : ℕ → Session) → Replaced S sessions g t (sessionStep senior sessions t x l .session) → StateWellFormed S M g locks (othersOf t x l false ++ map (fromSession t) (sessionStep senior sessions t x l .sends))
-    session-move-kept g h =
-        session-state-kept w t (p .session) (othersOf t x l false) (others-formed false found) (sessionStep senior sessions t x l)
-        (rw (entry-session false found) at (session-kept senior S M (entryOf t x l false) (entry-formed false found) (sessions t) (w .session t (p .session)) (w .juniors t (p .session)))) g h
+    session-move g h = rw (taken-eq false found, session-at S sessions t (p .session), ← session-step-agrees) (session-state given t (p .session) (othersOf t x l false) (sessionStep senior sessions t x l) g h)
 
 -- a lock manager that was just started
 module _ (S M : ℕ) (sessions : ℕ → Session) (locks : ℕ → Lock) (fresh : (t : ℕ) → between 1 S t ≡ true → sessions t ≡ SessionRecord.fresh)

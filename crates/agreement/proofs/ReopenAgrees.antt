@@ -1,4 +1,4 @@
--- Reopening a session of the lock manager's records, where it is allowed, is the machine's move, and keeps the state well-formed.
+-- Reopening a session of the lock manager's records, where it is allowed, is the machine's move.
 use mathlib.Core.Path.{_≡_, refl, sym, ap, _∙_}
 use mathlib.Core.Bool.{Bool, true, false, not, _&&_, _||_, or-false}
 use mathlib.Core.List.{List, [], _∷_, _++_, map}
@@ -6,25 +6,19 @@ use Prim.Native.Nat.{ℕ, _≤_}
 use lib.Dec.{eqb}
 use borrow.Author.Tests.{eqb-true, eqb-false, ne-eqb, not-true}
 use Rattle.lists.specs.Lists.{between, allOf, every, member}
-use Rattle.lists.proofs.Laws.{all-none}
 use Rattle.lists.proofs.Searches.{every-intro}
 use Rattle.lists.proofs.Tests.{and-both, and-intro, between-intro, by-test, or-neither}
 use Rattle.mailbox.specs.Entry.{Entry, fromSession}
 use Rattle.session.specs.Stage
 use Rattle.session.specs.declared.Session.{Session}
 use Rattle.session.specs.Record as SessionRecord
-use Rattle.session.specs.Rules as SessionRules
 use Rattle.item.specs.Record.{Lock}
 use Rattle.reopen.specs.Reopening.{isOver, entryNames, noEntryNames}
-use Rattle.session.proofs.WellFormed.{fresh-formed}
+use Rattle.reopen.proofs.Form.{anew}
 use Rattle.deadlock.specs.Machine
 use Rattle.agreement.specs.Reading.{readStage, readHolder, readSession, readItem, readSends, readSessions, readEntries, readItems, readState, rules}
 use Rattle.agreement.proofs.ReadingSession.{fresh-read}
-use Rattle.agreement.proofs.MoveAgrees.{Replaced, StateWellFormed, Given, session-at, session-state, session-state-kept}
-
--- the record begins anew, and nothing is sent
-abbrev pub reopened : SessionRules.After
-reopened = SessionRules.after SessionRecord.fresh []
+use Rattle.agreement.proofs.MoveAgrees.{Replaced, Given, session-at, session-state}
 
 over-read : (s : Session) → isOver s ≡ true → Machine.isOver (readSession s .stage) ≡ true
 unfolding isOver readStage
@@ -76,10 +70,6 @@ module _ {senior : ℕ → ℕ → Bool} {next : List ℕ → ℕ} {S M : ℕ} {
 
   pub reopen-move : isOver (sessions t) ≡ true → noEntryNames t l ≡ true → ((x : ℕ) → 1 ≤ x → x ≤ M → Unnamed t (locks x))
       → (g : ℕ → Session) → Replaced S sessions g t SessionRecord.fresh
-      → readState S M g locks (l ++ map (fromSession t) (reopened .sends)) ≡ Machine.move R before (Machine.reopen t)
+      → readState S M g locks (l ++ map (fromSession t) (anew .sends)) ≡ Machine.move R before (Machine.reopen t)
   unfolding Machine.move Machine.afterAnswer Machine.onReopenCall readSends
-  reopen-move over entries items g h = rw (allowed over entries items, ← fresh-read) (session-state (given .formed) t t-range l reopened g h)
-
-  pub reopen-move-kept : (g : ℕ → Session) → Replaced S sessions g t SessionRecord.fresh → StateWellFormed S M g locks (l ++ map (fromSession t) (reopened .sends))
-  reopen-move-kept g h =
-      session-state-kept (given .formed) t t-range l (given .formed .entries) reopened (record { session = fresh-formed S M; juniors = refl; sends = all-none _ }) g h
+  reopen-move over entries items g h = rw (allowed over entries items, ← fresh-read) (session-state given t t-range l anew g h)

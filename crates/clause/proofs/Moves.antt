@@ -4,12 +4,12 @@ use mathlib.Core.Bool.{Bool, true, false, cond, not, _&&_, and-false}
 use mathlib.Core.List.{List, _++_, map}
 use mathlib.Core.Logic.{_≢_}
 use mathlib.Core.Option.{none, some}
-use Prim.Native.Nat.{ℕ, _≤_}
+use Prim.Native.Nat.{ℕ}
 use lib.Dec.{eqb}
-use lib.ListN.{length}
 use Rattle.lists.specs.Lists.{between}
 use Rattle.session.specs.Stage
 use Rattle.session.specs.declared.Session.{Session}
+use Rattle.session.specs.Record as SessionRecord
 use Rattle.session.specs.Rules as Session
 use Rattle.item.specs.Record.{Lock, packed}
 use Rattle.item.specs.Rules as Item
@@ -19,6 +19,8 @@ use Rattle.mailbox.specs.Entry.{Entry, fromSession, fromItem}
 use Rattle.mailbox.specs.Layout as Mail
 use Rattle.table.specs.Layout as Table
 use Rattle.waits.specs.OnTable.{locks, cycleLength}
+use Rattle.wellformed.proofs.Sessions.{SessionKept}
+use Rattle.wellformed.proofs.Items.{ItemKept}
 use Rattle.step.specs.Step as Step
 use Rattle.step.specs.Step.{Stepped, committed, sessionPlan, itemPlan}
 use Rattle.lockmgr.specs.Calls.{Config}
@@ -27,9 +29,9 @@ use Rattle.deadlock.specs.Lists.{bit}
 use Rattle.deadlock.specs.Machine
 use Rattle.bound.specs.Statement as Bound
 use Rattle.agreement.specs.Reading.{readState}
-use Rattle.agreement.proofs.MoveAgrees.{Replaced, StateWellFormed}
+use Rattle.agreement.proofs.MoveAgrees.{Replaced}
 use Rattle.clause.proofs.State
-use Rattle.clause.proofs.State.{machineOf, stateOf, Good}
+use Rattle.clause.proofs.State.{machineOf, stateOf, Good, given}
 use Rattle.clause.proofs.Cycles.{on-cycle-of}
 
 -- from a table and entries to other buffers: a call of the machine, with what happens at it
@@ -78,19 +80,19 @@ module _ {conf : Config} {table : List ℕ} {l : List Entry} (g : Good conf tabl
     abbrev Put : (ℕ → Session) → Type 0
     Put f = Replaced (conf .table .sessions) (Table.session table) f t (r .session)
 
-    module _ (fits : length sent ≤ conf .capacity) (kept : (f : ℕ → Session) → Put f → StateWellFormed (conf .table .sessions) (conf .table .items) f (locks table) sent)
+    module _ (kept : SessionKept (Table.sessionsOf table) (Table.itemsOf table) t r) (good : Good conf (Table.withSession table t (r .session)) sent)
         (moves : (f : ℕ → Session) → Put f → readState (conf .table .sessions) (conf .table .items) f (locks table) sent ≡ Machine.move (machineOf conf) before call)
-        (happens : (f : ℕ → Session) → Put f → StateWellFormed (conf .table .sessions) (conf .table .items) f (locks table) sent
+        (happens : (f : ℕ → Session) → Put f → SessionRecord.wellFormed (conf .table .sessions) (conf .table .items) (f t) ≡ true
         → Machine.eventOf (machineOf conf) before call (readState (conf .table .sessions) (conf .table .items) f (locks table) sent)
         ≡ record { closed = false; declared = none; rolledBack = not (eqb (Table.session table t .stage) Stage.rolledBack) && eqb (f t .stage) Stage.rolledBack }) where
       abbrev table-after : List ℕ
       table-after = Table.withSession table t (r .session)
 
       put : Put (Table.session table-after)
-      put = State.session-replaced g t t-range (r .session) sent fits kept
+      put = State.session-replaced g t t-range kept
 
       state : stateOf conf table-after sent ≡ readState (conf .table .sessions) (conf .table .items) (Table.session table-after) (locks table) sent
-      state = State.session-state g t t-range (r .session) sent fits kept
+      state = State.session-state g t t-range kept sent
 
       pub session-moved : Moved conf table l (buffers table-after (Mail.mailBytes (conf .capacity) sent))
       session-moved = record {
@@ -98,10 +100,10 @@ module _ {conf : Config} {table : List ℕ} {l : List Entry} (g : Good conf tabl
         of-machine = of-machine;
         entries = sent;
         mail = refl;
-        good = State.session-good g t t-range (r .session) sent fits kept;
+        good = good;
         moves = state ∙ moves (Table.session table-after) put;
         event = record { closed = false; declared = none; rolledBack = rollsBack t table table-after };
-        happens = ap (Machine.eventOf (machineOf conf) before call) state ∙ happens (Table.session table-after) put (kept (Table.session table-after) put);
+        happens = ap (Machine.eventOf (machineOf conf) before call) state ∙ happens (Table.session table-after) put (given good .session t t-range);
       }
 
       pub session-call : session-moved .call ≡ call
@@ -134,7 +136,7 @@ module _ {conf : Config} {table : List ℕ} {l : List Entry} (g : Good conf tabl
     abbrev PutLock : (ℕ → Lock) → Type 0
     PutLock f = Replaced (conf .table .items) (locks table) f x (r .lock)
 
-    module _ (fits : length answered ≤ conf .capacity) (kept : (f : ℕ → Lock) → PutLock f → StateWellFormed (conf .table .sessions) (conf .table .items) (Table.session table) f answered)
+    module _ (kept : ItemKept (Table.sessionsOf table) (Table.itemsOf table) x r) (good : Good conf (Table.withItem table x (packed (r .lock))) answered)
         (moves : (f : ℕ → Lock) → PutLock f → readState (conf .table .sessions) (conf .table .items) (Table.session table) f answered ≡ Machine.move (machineOf conf) before call)
         (happens : (after : Machine.State) → Machine.eventOf (machineOf conf) before call after ≡ Machine.itemEvent (r .event) (Machine.onCycle (machineOf conf) after t))
         (delivers : Bound.delivers before call ≡ true) where
@@ -142,13 +144,10 @@ module _ {conf : Config} {table : List ℕ} {l : List Entry} (g : Good conf tabl
       item-after = Table.withItem table x (packed (r .lock))
 
       put-lock : PutLock (locks item-after)
-      put-lock = State.lock-replaced g x x-range (r .lock) answered fits kept
-
-      good : Good conf item-after answered
-      good = State.item-good g x x-range (r .lock) answered fits kept
+      put-lock = State.lock-replaced g x x-range kept
 
       same-stage : rollsBack t table item-after ≡ false
-      same-stage = rw (State.session-same g x x-range (r .lock) answered fits kept t t-range) (never-both (eqb (Table.session table t .stage) Stage.rolledBack))
+      same-stage = rw (State.session-same g x x-range kept t t-range) (never-both (eqb (Table.session table t .stage) Stage.rolledBack))
 
       closes : (e : Event) → Step.closed t item-after e ≡ bit (Machine.itemEvent e (Machine.onCycle (machineOf conf) (stateOf conf item-after answered) t) .closed)
       unfolding Machine.itemEvent
@@ -177,7 +176,7 @@ module _ {conf : Config} {table : List ℕ} {l : List Entry} (g : Good conf tabl
           entries = answered;
           mail = refl;
           good = good;
-          moves = State.item-state g x x-range (r .lock) answered fits kept ∙ moves (locks item-after) put-lock;
+          moves = State.item-state g x x-range kept answered ∙ moves (locks item-after) put-lock;
           event = Machine.itemEvent (r .event) (Machine.onCycle (machineOf conf) (stateOf conf item-after answered) t);
           happens = happens (stateOf conf item-after answered);
         };

@@ -10,13 +10,14 @@ use lib.ListN.{length, getD}
 use borrow.Author.Tests.{eq-eqb, ne-eqb, eqb-true, eqb-false}
 use Rattle.lists.specs.Lists.{allOf}
 use Rattle.lists.proofs.Laws.{all-getD, findIndex-le}
-use Rattle.lists.proofs.Tests.{and-both, and-intro, between-intro, by-answer, by-test, eqb-self}
+use Rattle.lists.proofs.Tests.{and-both, and-intro, by-answer, by-test, eqb-self}
 use Rattle.mailbox.specs.Entry.{Entry, onRoute, toItem, unused, wellFormed}
 use Rattle.mailbox.specs.Layout as Mail
 use Rattle.mailbox.proofs.Laws as MailLaws
 use Rattle.mailbox.proofs.EntryLaws.{EntryFacts, entry-facts}
 use Rattle.step.specs.Step as Step
 use Rattle.step.specs.Step.{Stepped}
+use Rattle.step.specs.Parts.{Judged}
 use Rattle.reopen.specs.Reopening.{Reopened}
 use Rattle.lockmgr.specs.Calls as Calls
 use Rattle.lockmgr.specs.Calls.{Config}
@@ -34,12 +35,12 @@ use Rattle.room.specs.Statement.{Reached, starts, calls, goesOn}
 use Rattle.room.proofs.Theorem.{orderly, theorem}
 use Rattle.agreement.specs.Reading.{directionOf}
 use Rattle.agreement.proofs.MailboxAgrees.{length-readEntries}
-use Rattle.agreement.proofs.MoveAgrees.{Parties, placeOf}
+use Rattle.agreement.proofs.MoveAgrees.{placeOf}
 use Rattle.clause.specs.Statement.{opened, EmptyMail}
 use Rattle.clause.specs.Drains.{isAccepted, isDelivered, AllDelivered, DrainEnds, drainOf}
 use Rattle.clause.specs.Progress.{deliveryAt, KeepsRule, RuleKept, Progress, Progresses}
 use Rattle.clause.proofs.State
-use Rattle.clause.proofs.State.{machineOf, machine-laws, stateOf, Good}
+use Rattle.clause.proofs.State.{machineOf, machine-laws, stateOf, Good, sessions-of, items-of}
 use Rattle.clause.proofs.Moves.{Moved}
 use Rattle.clause.proofs.Step.{by-step, call-in-range, deliveryCall, deliveryVerb, fits-accepted, found-delivers}
 use Rattle.clause.proofs.Reopening.{by-reopen}
@@ -142,10 +143,13 @@ module _ (conf : Config) (enough : capacityBound (conf .table .sessions) (conf .
       facts : EntryFacts (conf .table .sessions) (conf .table .items) entry
       facts = entry-facts (conf .table .sessions) (conf .table .items) entry (all-getD (wellFormed (conf .table .sessions) (conf .table .items)) l k unused (g .entries) inside)
 
-      parties : Parties (conf .table .sessions) (conf .table .items) (entry .session) (entry .item)
-      parties = record {
-        session = between-intro 1 (conf .table .sessions) (entry .session) (facts .session-low) (facts .session-high);
-        item = between-intro 1 (conf .table .items) (entry .item) (facts .item-low) (facts .item-high);
+      known : Judged (entry .session) (entry .item) table mail
+      known = record {
+        formed = State.buffers-formed g;
+        session-low = facts .session-low;
+        session-high = omega (arith, facts .session-high, sessions-of g);
+        item-low = facts .item-low;
+        item-high = omega (arith, facts .item-high, items-of g);
       }
 
       found : (d : Bool) → entry .direction ≡ directionOf d → eqb (placeOf (entry .session) (entry .item) l d) (length l) ≡ false
@@ -157,8 +161,8 @@ module _ (conf : Config) (enough : capacityBound (conf .table .sessions) (conf .
 
       goes : (d : Bool) → entry .direction ≡ directionOf d → Calls.step (deliveryVerb d) (entry .session) (entry .item) table mail .answer .refusal ≡ 0
       goes d e =
-          let after = goesOn r (deliveryCall (entry .session) (entry .item) d) (call-in-range g parties d) (found-delivers g parties d (found d e)) in
-          fits-accepted g parties d (found d e)
+          let after = goesOn r (deliveryCall (entry .session) (entry .item) d) (call-in-range g known d) (found-delivers g known d (found d e)) in
+          fits-accepted g known d (found d e)
           (omega (arith, enough, theorem (machineOf conf) (machine-laws g) _ after))
 
       entry-accepted : Calls.step (verbOf entry) (entry .session) (entry .item) table mail .answer .refusal ≡ 0

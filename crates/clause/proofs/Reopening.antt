@@ -5,7 +5,6 @@ use mathlib.Core.List.{List, _++_, map, append-nil}
 use mathlib.Core.Option.{none}
 use Prim.Native.Nat.{ℕ, _≤_}
 use lib.Dec.{eqb}
-use lib.ListN.{length}
 use borrow.Author.Tests.{eqb-true}
 use Rattle.lists.specs.Lists.{between}
 use Rattle.lists.proofs.Searches.{every-at}
@@ -18,15 +17,19 @@ use Rattle.mailbox.specs.Layout as Mail
 use Rattle.mailbox.proofs.Laws as MailLaws
 use Rattle.table.specs.Layout as Table
 use Rattle.waits.specs.OnTable.{locks}
+use Rattle.wellformed.proofs.Sessions.{SessionKept}
+use Rattle.step.proofs.Form.{session-planned}
 use Rattle.reopen.specs.Reopening.{isOver, itemNames, noProbeNames, noItemNames, noEntryNames, mayReopen, Reopened, reopened}
+use Rattle.reopen.proofs.Form.{anew, anew-kept}
 use Rattle.lockmgr.specs.Calls.{Config, reopenRefusal, reopen}
 use Rattle.lockmgr.specs.Run.{buffers}
 use Rattle.lockmgr.proofs.Judging.{reopen-zero}
 use Rattle.deadlock.specs.Machine
 use Rattle.agreement.specs.Reading.{readState}
-use Rattle.agreement.proofs.MoveAgrees.{Replaced, StateWellFormed}
+use Rattle.agreement.proofs.MoveAgrees.{Replaced}
 use Rattle.agreement.proofs.ReopenAgrees as Agrees
-use Rattle.clause.proofs.State.{machineOf, stateOf, Good, given, sessions-of, items-of}
+use Rattle.clause.proofs.State
+use Rattle.clause.proofs.State.{machineOf, stateOf, Good, given, planned-good, sessions-of, items-of}
 use Rattle.clause.proofs.Moves.{Moved, session-moved, session-call}
 use Rattle.clause.proofs.Step.{quiet}
 
@@ -67,21 +70,23 @@ module _ {conf : Config} {table : List ℕ} {l : List Entry} (g : Good conf tabl
 
     -- nothing is sent
     abbrev sent : List Entry
-    sent = l ++ map (fromSession t) (Agrees.reopened .sends)
+    sent = l ++ map (fromSession t) (anew .sends)
 
     abbrev Put : (ℕ → Session) → Type 0
     Put f = Replaced (conf .table .sessions) (Table.session table) f t SessionRecord.fresh
 
-    fits : length sent ≤ conf .capacity
-    fits = rw (append-nil l) (g .room)
+    kept : SessionKept (Table.sessionsOf table) (Table.itemsOf table) t anew
+    kept = anew-kept (Table.sessionsOf table) (Table.itemsOf table) t
 
-    kept : (f : ℕ → Session) → Put f → StateWellFormed (conf .table .sessions) (conf .table .items) f (locks table) sent
-    kept = Agrees.reopen-move-kept (given g) t r
+    good : Good conf after sent
+    good =
+        let n = State.session-known g t r in
+        planned-good g (session-planned table (g .sized) (g .formed) l (rw (sessions-of g, items-of g) (g .entries)) t (n .0) (n .1) anew kept) (rw (append-nil l) (g .room))
 
     moves : (f : ℕ → Session) → Put f → readState (conf .table .sessions) (conf .table .items) f (locks table) sent ≡ Machine.move (machineOf conf) (stateOf conf table l) (Machine.reopen t)
     moves = Agrees.reopen-move (given g) t r (p .over) entries items
 
-    happens : (f : ℕ → Session) → Put f → StateWellFormed (conf .table .sessions) (conf .table .items) f (locks table) sent
+    happens : (f : ℕ → Session) → Put f → SessionRecord.wellFormed (conf .table .sessions) (conf .table .items) (f t) ≡ true
         → Machine.eventOf (machineOf conf) (stateOf conf table l) (Machine.reopen t) (readState (conf .table .sessions) (conf .table .items) f (locks table) sent)
         ≡ record { closed = false; declared = none; rolledBack = not (eqb (Table.session table t .stage) Stage.rolledBack) && eqb (f t .stage) Stage.rolledBack }
     unfolding Machine.eventOf
@@ -90,8 +95,8 @@ module _ {conf : Config} {table : List ℕ} {l : List Entry} (g : Good conf tabl
     done : ReopenMoved sent
     unfolding Machine.ofMachine Machine.eventOf
     done =
-        let m = session-moved g t r (Machine.reopen t) r l Agrees.reopened fits kept moves happens in
-        let call = session-call g t r (Machine.reopen t) r l Agrees.reopened fits kept moves happens in
+        let m = session-moved g t r (Machine.reopen t) r l anew kept good moves happens in
+        let call = session-call g t r (Machine.reopen t) r l anew kept good moves happens in
         record { moved = m; nothing = sym (m .happens) ∙ ap (λ (c : Machine.Call). Machine.eventOf (machineOf conf) (stateOf conf table l) c (stateOf conf after (m .entries))) call }
 
   -- whatever holds of a refused reopening, and of one that is a move of the machine, holds of a reopening

@@ -4,20 +4,18 @@ use mathlib.Core.Bool.{Bool, true, false, cond}
 use mathlib.Core.List.{List}
 use Prim.Native.Nat.{ℕ, _≤_}
 use native.Mathlib.Omega.{arith}
-use lib.Dec.{eqb}
 use lib.ListN.{length}
-use borrow.Author.Tests.{eq-eqb, ne-eqb}
 use Rattle.lists.specs.Lists.{between, allOf}
-use Rattle.lists.proofs.Searches.{distinct-length}
 use Rattle.lists.proofs.Tests.{within}
 use Rattle.session.specs.Seniority.{senior}
 use Rattle.session.proofs.Seniority.{senior-order, senior-weak}
 use Rattle.session.proofs.WellFormed.{held-fits}
 use Rattle.session.specs.declared.Session.{Session}
-use Rattle.session.specs.Record as SessionRecord
+use Rattle.session.specs.Rules as Session
 use Rattle.item.specs.NextHolder.{nextHolder}
 use Rattle.item.specs.Record.{Lock, packed, unpacked}
-use Rattle.item.proofs.Laws.{unpacked-packed, length-packed}
+use Rattle.item.specs.Rules as Item
+use Rattle.item.proofs.Laws.{unpacked-packed}
 use Rattle.item.proofs.NextHolder.{next-inside}
 use Rattle.mailbox.specs.Entry as Entry
 use Rattle.mailbox.specs.Entry.{Entry}
@@ -26,13 +24,15 @@ use Rattle.mailbox.proofs.Laws as MailLaws
 use Rattle.table.specs.Layout as Table
 use Rattle.table.proofs.Laws as TableLaws
 use Rattle.waits.specs.OnTable.{locks}
-use Rattle.step.specs.Step.{Formed}
+use Rattle.wellformed.proofs.Sessions.{SessionKept}
+use Rattle.wellformed.proofs.Items.{ItemKept}
+use Rattle.step.specs.Step.{Formed, Plan}
+use Rattle.step.proofs.Form.{Planned, queue-whole}
 use Rattle.lockmgr.specs.Calls.{Config}
 use Rattle.deadlock.specs.Machine
-use Rattle.item.proofs.WellFormed.{LockWellFormed}
 use Rattle.agreement.specs.Reading.{readSession, readSessions, readState, rules}
-use Rattle.item.proofs.WellFormed.{unpacked-lock, packed-lock}
-use Rattle.agreement.proofs.MoveAgrees.{Replaced, StateWellFormed, Given}
+use Rattle.item.proofs.WellFormed.{unpacked-lock}
+use Rattle.agreement.proofs.MoveAgrees.{Replaced, Given}
 use Rattle.agreement.proofs.RulesLaws.{rules-laws}
 use Rattle.clause.specs.Statement.{IsSession}
 
@@ -91,16 +91,19 @@ module _ {conf : Config} {table : List ℕ} {l : List Entry} (g : Good conf tabl
     mail-formed = rw (sessions-of g, items-of g) (MailLaws.wellFormed-mail (conf .capacity) l (g .low) (g .high) (g .room) (conf .table .sessions) (conf .table .items) (g .entries));
   }
 
-  session-known : (t : ℕ) → between 1 (conf .table .sessions) t ≡ true → IsSession (Table.sessionsOf table) t
+  pub session-known : (t : ℕ) → between 1 (conf .table .sessions) t ≡ true → IsSession (Table.sessionsOf table) t
   session-known t r = (within 1 (conf .table .sessions) t r .0, omega (arith, within 1 (conf .table .sessions) t r .1, sessions-of g))
 
   item-known : (x : ℕ) → between 1 (conf .table .items) x ≡ true → (1 ≤ x) × (x ≤ Table.itemsOf table)
   item-known x r = (within 1 (conf .table .items) x r .0, omega (arith, within 1 (conf .table .items) x r .1, items-of g))
 
-  -- every record and every entry is well-formed
-  pub all-formed : StateWellFormed (conf .table .sessions) (conf .table .items) (Table.session table) (locks table) l
+  -- every record and every entry is well-formed, so the agreement holds of them
+  pub given : Given (seniorOf conf) (nextOf conf) (conf .table .sessions) (conf .table .items) (Table.session table) (locks table) l
   unfolding locks
-  all-formed = record {
+  given = record {
+    few-sessions = few-sessions;
+    few-items = few-items;
+    inside-queue = next-inside (senior-weak (conf .table .ranks));
     session = λ t r. let k = session-known t r in
         rw (sessions-of g, items-of g) at (TableLaws.well-formed-session table (g .formed) t (k .0) (k .1));
     juniors = λ t r. let k = session-known t r in TableLaws.juniors-length table (g .sized) t (k .0) (k .1);
@@ -109,72 +112,49 @@ module _ {conf : Config} {table : List ℕ} {l : List Entry} (g : Good conf tabl
     entries = g .entries;
   }
 
-  -- so the agreement holds of it
-  pub given : Given (seniorOf conf) (nextOf conf) (conf .table .sessions) (conf .table .items) (Table.session table) (locks table) l
-  given = record { few-sessions = few-sessions; few-items = few-items; inside-queue = next-inside (senior-weak (conf .table .ranks)); formed = all-formed }
+  -- what is planned on it, where it fits
+  pub planned-good : {p : Plan} → Planned table p → length (p .entries) ≤ conf .capacity → Good conf (p .table) (p .entries)
+  planned-good h fits = record {
+    sized = h .sized;
+    config = h .config ∙ g .config;
+    formed = h .formed;
+    low = g .low;
+    high = g .high;
+    room = fits;
+    entries = rw (sessions-of g, items-of g) at (h .entries);
+  }
 
-  -- the record of session t replaced by one that keeps the state well-formed
-  module _ (t : ℕ) (r : between 1 (conf .table .sessions) t ≡ true) (s : Session) (k : List Entry) (fits : length k ≤ conf .capacity)
-      (kept : (f : ℕ → Session) → Replaced (conf .table .sessions) (Table.session table) f t s → StateWellFormed (conf .table .sessions) (conf .table .items) f (locks table) k) where
-    unfoldable put : ℕ → Session
-    put j = cond (eqb t j) s (Table.session table j)
-
-    put-replaced : Replaced (conf .table .sessions) (Table.session table) put t s
-    unfolding put
-    put-replaced = record { here = rw (eq-eqb t t refl) refl; elsewhere = λ j _ n. rw (ne-eqb t j n) refl }
-
-    new-session : SessionRecord.wellFormed (conf .table .sessions) (conf .table .items) s ≡ true
-    new-session = rw (put-replaced .here) at (kept put put-replaced .session t r)
-
-    new-juniors : length (s .juniors) ≡ 64
-    new-juniors = rw (put-replaced .here) at (kept put put-replaced .juniors t r)
+  -- the record of session t replaced by a well-formed one
+  module _ (t : ℕ) (range : between 1 (conf .table .sessions) t ≡ true) {r : Session.After} (kept : SessionKept (Table.sessionsOf table) (Table.itemsOf table) t r) where
+    abbrev s : Session
+    s = r .session
 
     abbrev with-session : List ℕ
     with-session = Table.withSession table t s
 
     pub session-replaced : Replaced (conf .table .sessions) (Table.session table) (Table.session with-session) t s
     session-replaced =
-        let n = session-known t r in record {
-          here = TableLaws.session-withSession table (g .sized) t (n .0) (n .1) s new-juniors (held-fits (conf .table .sessions) (conf .table .items) s few-items new-session);
-          elsewhere = λ j q d. TableLaws.other-withSession table (g .sized) t (n .0) (n .1) s new-juniors j (within 1 (conf .table .sessions) j q .0) (λ e. d (sym e));
+        let n = session-known t range in record {
+          here = TableLaws.session-withSession table (g .sized) t (n .0) (n .1) s (kept .juniors) (held-fits (Table.sessionsOf table) (Table.itemsOf table) s (TableLaws.sized-facts table (g .sized) .max-items) (kept .session));
+          elsewhere = λ j q d. TableLaws.other-withSession table (g .sized) t (n .0) (n .1) s (kept .juniors) j (within 1 (conf .table .sessions) j q .0) (λ e. d (sym e));
         }
 
     locks-same : locks with-session ≡ locks table
     unfolding locks
     locks-same =
-        let n = session-known t r in
-        fun-ext (λ x. ap unpacked (TableLaws.item-withSession table (g .sized) t (n .0) (n .1) s new-juniors x))
+        let n = session-known t range in
+        fun-ext (λ x. ap unpacked (TableLaws.item-withSession table (g .sized) t (n .0) (n .1) s (kept .juniors) x))
 
-    pub session-state : stateOf conf with-session k ≡ readState (conf .table .sessions) (conf .table .items) (Table.session with-session) (locks table) k
-    session-state = ap (λ (f : ℕ → Lock). readState (conf .table .sessions) (conf .table .items) (Table.session with-session) f k) locks-same
+    pub session-state : (k : List Entry) → stateOf conf with-session k ≡ readState (conf .table .sessions) (conf .table .items) (Table.session with-session) (locks table) k
+    session-state k = ap (λ (f : ℕ → Lock). readState (conf .table .sessions) (conf .table .items) (Table.session with-session) f k) locks-same
 
-    pub session-good : Good conf with-session k
-    session-good =
-        let n = session-known t r in record {
-          sized = TableLaws.sized-withSession table (g .sized) t (n .0) (n .1) s new-juniors;
-          config = TableLaws.configOf-withSession table (g .sized) t (n .0) (n .1) s new-juniors ∙ g .config;
-          formed = TableLaws.wellFormed-withSession table (g .sized) t (n .0) (n .1) s new-juniors (g .formed) (rw (sessions-of g, items-of g) new-session);
-          low = g .low;
-          high = g .high;
-          room = fits;
-          entries = kept put put-replaced .entries;
-        }
+  -- the record of item x replaced by a well-formed one
+  module _ (x : ℕ) (range : between 1 (conf .table .items) x ≡ true) {r : Item.After} (kept : ItemKept (Table.sessionsOf table) (Table.itemsOf table) x r) where
+    abbrev i : Lock
+    i = r .lock
 
-  -- the record of item x replaced
-  module _ (x : ℕ) (r : between 1 (conf .table .items) x ≡ true) (i : Lock) (k : List Entry) (fits : length k ≤ conf .capacity)
-      (kept : (f : ℕ → Lock) → Replaced (conf .table .items) (locks table) f x i → StateWellFormed (conf .table .sessions) (conf .table .items) (Table.session table) f k) where
-    unfoldable put-lock : ℕ → Lock
-    put-lock j = cond (eqb x j) i (locks table j)
-
-    lock-put : Replaced (conf .table .items) (locks table) put-lock x i
-    unfolding put-lock
-    lock-put = record { here = rw (eq-eqb x x refl) refl; elsewhere = λ j _ n. rw (ne-eqb x j n) refl }
-
-    new-lock : LockWellFormed (conf .table .sessions) i
-    new-lock = rw (lock-put .here) at (kept put-lock lock-put .lock x r)
-
-    queue-whole : length (packed i .queue) ≡ 64
-    queue-whole = length-packed i (omega (arith, distinct-length (conf .table .sessions) (i .queue) (new-lock .once) (new-lock .sessions), few-sessions))
+    whole : length (packed i .queue) ≡ 64
+    whole = queue-whole (Table.sessionsOf table) (TableLaws.sized-facts table (g .sized) .max-sessions) i (kept .lock)
 
     abbrev with-item : List ℕ
     with-item = Table.withItem table x (packed i)
@@ -182,16 +162,16 @@ module _ {conf : Config} {table : List ℕ} {l : List Entry} (g : Good conf tabl
     pub lock-replaced : Replaced (conf .table .items) (locks table) (locks with-item) x i
     unfolding locks
     lock-replaced =
-        let n = item-known x r in record {
-          here = ap unpacked (TableLaws.item-withItem table (g .sized) x (n .0) (n .1) (packed i) queue-whole) ∙ unpacked-packed i;
-          elsewhere = λ j q d. ap unpacked (TableLaws.other-withItem table (g .sized) x (n .0) (n .1) (packed i) queue-whole j (within 1 (conf .table .items) j q .0) (λ e. d (sym e)));
+        let n = item-known x range in record {
+          here = ap unpacked (TableLaws.item-withItem table (g .sized) x (n .0) (n .1) (packed i) whole) ∙ unpacked-packed i;
+          elsewhere = λ j q d. ap unpacked (TableLaws.other-withItem table (g .sized) x (n .0) (n .1) (packed i) whole j (within 1 (conf .table .items) j q .0) (λ e. d (sym e)));
         }
 
     pub session-same : (t : ℕ) → between 1 (conf .table .sessions) t ≡ true → Table.session with-item t ≡ Table.session table t
     session-same t q =
-        let n = item-known x r in
+        let n = item-known x range in
         let m = session-known t q in
-        TableLaws.session-withItem table (g .sized) x (n .0) (n .1) (packed i) queue-whole t (m .0) (m .1)
+        TableLaws.session-withItem table (g .sized) x (n .0) (n .1) (packed i) whole t (m .0) (m .1)
 
     sessions-same : readSessions (conf .table .sessions) (Table.session with-item) ≡ readSessions (conf .table .sessions) (Table.session table)
     unfolding readSessions
@@ -201,17 +181,5 @@ module _ {conf : Config} {table : List ℕ} {l : List Entry} (g : Good conf tabl
         go t true e = ap readSession (session-same t e)
         go t false e = refl
 
-    pub item-state : stateOf conf with-item k ≡ readState (conf .table .sessions) (conf .table .items) (Table.session table) (locks with-item) k
-    item-state = rw (sessions-same) refl
-
-    pub item-good : Good conf with-item k
-    item-good =
-        let n = item-known x r in record {
-          sized = TableLaws.sized-withItem table (g .sized) x (n .0) (n .1) (packed i) queue-whole;
-          config = TableLaws.configOf-withItem table (g .sized) x (n .0) (n .1) (packed i) queue-whole ∙ g .config;
-          formed = TableLaws.wellFormed-withItem table (g .sized) x (n .0) (n .1) (packed i) queue-whole (g .formed) (rw (sessions-of g) (packed-lock (conf .table .sessions) i few-sessions new-lock));
-          low = g .low;
-          high = g .high;
-          room = fits;
-          entries = kept put-lock lock-put .entries;
-        }
+    pub item-state : (k : List Entry) → stateOf conf with-item k ≡ readState (conf .table .sessions) (conf .table .items) (Table.session table) (locks with-item) k
+    item-state k = rw (sessions-same) refl

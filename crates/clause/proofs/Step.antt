@@ -7,26 +7,29 @@ use mathlib.Core.Option.{none}
 use Prim.Native.Nat.{ℕ, _≤_}
 use native.Mathlib.Omega.{arith}
 use lib.Dec.{eqb}
-use lib.ListN.{length}
+use lib.ListN.{length, getD}
 use borrow.Author.Tests.{le-ltb, not-false}
-use Rattle.lists.proofs.Tests.{and-intro, between-intro, or-neither, within}
+use Rattle.lists.proofs.Tests.{and-intro, between-intro, or-neither}
 use Rattle.bitset.specs.Bitset.{has}
 use Rattle.session.specs.Stage
 use Rattle.session.specs.Seniority.{senior}
 use Rattle.session.specs.Rules as Session
 use Rattle.item.specs.NextHolder.{nextHolder}
-use Rattle.mailbox.specs.Entry.{Entry}
+use Rattle.mailbox.specs.Entry.{Entry, unused}
 use Rattle.mailbox.specs.Layout as Mail
 use Rattle.mailbox.proofs.Laws as MailLaws
 use Rattle.table.specs.Layout as Table
 use Rattle.waits.specs.OnTable.{locks}
+use Rattle.wellformed.proofs.Sessions.{SessionKept}
+use Rattle.wellformed.proofs.Items.{ItemKept}
 use Rattle.step.specs.Step as Step
-use Rattle.step.specs.Step.{Plan, Stepped, stepCauses, stepped, refusedAnswer, delivered, sessionActs, sessionPlan, itemPlan, overfull, plan, committed}
+use Rattle.step.specs.Step.{Plan, Stepped, stepCauses, stepped, refusedAnswer, delivered, itemReceives, sessionActs, sessionPlan, itemPlan, overfull, plan, committed}
 use Rattle.step.specs.Parts.{Judged, Unhindered}
 use Rattle.lockmgr.specs.Calls.{Config, step}
 use Rattle.refusal.specs.Refusal.{first}
 use Rattle.lockmgr.proofs.Judging.{by-call, formed-zero, judged-none, step-acts}
 use Rattle.step.proofs.Acting.{acted-concluded, by-verb, request-plan, release-plan}
+use Rattle.step.proofs.Form.{item-keeps, session-keeps, plan-keeps}
 use Rattle.deadlock.specs.Lists.{updated}
 use Rattle.deadlock.specs.Machine
 use Rattle.deadlock.proofs.Laws.Lists.{updated-other, updated-same}
@@ -37,7 +40,7 @@ use Rattle.agreement.proofs.MoveAgrees as Agrees
 use Rattle.agreement.proofs.MoveAgrees.{Parties}
 use Rattle.agreement.proofs.EventAgrees as Events
 use Rattle.clause.proofs.State
-use Rattle.clause.proofs.State.{seniorOf, nextOf, machineOf, Good, given, sessions-of, items-of, ranks-of}
+use Rattle.clause.proofs.State.{seniorOf, nextOf, machineOf, Good, given, planned-good, sessions-of, items-of, ranks-of}
 use Rattle.clause.proofs.Moves.{StepMoved, session-stepped, item-stepped}
 
 -- nothing happens, for no test and another is passed
@@ -62,14 +65,14 @@ module _ {conf : Config} {table : List ℕ} {l : List Entry} (g : Good conf tabl
   entries-are : Mail.entriesOf mail ≡ l
   entries-are = MailLaws.entries-mail (conf .capacity) l (g .low) (g .high) (g .room)
 
-  -- the session and the item of a step that was judged
-  parties : (t x : ℕ) → Judged t x table mail → Parties (conf .table .sessions) (conf .table .items) t x
-  parties t x j = record {
-    session = between-intro 1 (conf .table .sessions) t (j .session-low) (omega (arith, j .session-high, sessions-of g));
-    item = between-intro 1 (conf .table .items) x (j .item-low) (omega (arith, j .item-high, items-of g));
-  }
+  -- a step that was judged
+  module _ {t x : ℕ} (j : Judged t x table mail) where
+    p : Parties (conf .table .sessions) (conf .table .items) t x
+    p = record {
+      session = between-intro 1 (conf .table .sessions) t (j .session-low) (omega (arith, j .session-high, sessions-of g));
+      item = between-intro 1 (conf .table .items) x (j .item-low) (omega (arith, j .item-high, items-of g));
+    }
 
-  module _ {t x : ℕ} (p : Parties (conf .table .sessions) (conf .table .items) t x) where
     in-range : Machine.inRange (machineOf conf) t x ≡ true
     unfolding Machine.inRange
     in-range = and-intro (p .session) (p .item)
@@ -77,38 +80,48 @@ module _ {conf : Config} {table : List ℕ} {l : List Entry} (g : Good conf tabl
     abbrev planned : ℕ → Plan
     planned verb = plan (Table.senior table) verb t x table l
 
+    -- what its party leaves and sends
+    session-kept : (verb : ℕ) → 1 ≤ verb → verb ≤ 4 → eqb verb Step.deliverToItem ≡ false → Unhindered verb t x table l
+        → SessionKept (Table.sessionsOf table) (Table.itemsOf table) t (sessionActs (Table.senior table) verb t x (Table.session table t) (getD l (delivered verb t x l) unused))
+    session-kept = rw (entries-are) at (session-keeps t x table mail j)
+
+    item-kept : Unhindered Step.deliverToItem t x table l
+        → ItemKept (Table.sessionsOf table) (Table.itemsOf table) x (itemReceives (Table.senior table) (locks table x) (getD l (delivered Step.deliverToItem t x l) unused))
+    item-kept = rw (entries-are) at (item-keeps t x table mail j)
+
+    -- where nothing hinders it and what is planned is good
     abbrev Done : ℕ → Type 0
-    Done verb = Unhindered verb t x table l → length (planned verb .entries) ≤ conf .capacity → StepMoved conf table l verb t (committed t (conf .capacity) (planned verb))
+    Done verb = Unhindered verb t x table l → Good conf (planned verb .table) (planned verb .entries) → StepMoved conf table l verb t (committed t (conf .capacity) (planned verb))
 
     -- where an entry is found the machine takes it
     taken : (d : Bool) → eqb (Agrees.placeOf t x l d) (length l) ≡ false → Bound.isTaken (Machine.takeFirst d t x (readEntries l)) ≡ true
     taken d found = ap Bound.isTaken (Agrees.taken-eq (given g) p d found)
 
     request-done : Done Step.request
-    unfolding Machine.ofMachine Machine.eventOf Session.requested
-    request-done u room =
+    unfolding Machine.ofMachine Machine.eventOf Session.requested sessionActs
+    request-done u good =
         let s = Table.session table t in
         let stage = or-neither (not (eqb (s .stage) Stage.growing)) _ (u .stage) .0 in
         let mask = or-neither (has x (s .held)) _ (u .mask) .0 in
         let allowed : eqb (s .stage) Stage.growing && not (has x (s .held)) ≡ true = and-intro (not-false (eqb (s .stage) Stage.growing) stage) (rw (mask) refl) in
         rw (request-plan (Table.senior table) t x table l)
         (session-stepped g t (p .session) (Machine.requestCall t x) in-range l (Session.requested x s)
-        (rw (request-plan (Table.senior table) t x table l) at room)
-        (Agrees.request-move-kept (given g) p)
+        (session-kept Step.request (omega arith) (omega arith) refl u)
+        (rw (request-plan (Table.senior table) t x table l) at good)
         (Agrees.request-move (given g) p allowed)
         (λ f h _. rw (h .here) (quiet (not (eqb (s .stage) Stage.rolledBack))))
         Step.request refl (λ e. absurd (false≢true e)))
 
     release-done : Done Step.release
-    unfolding Machine.ofMachine Machine.eventOf Session.released
-    release-done u room =
+    unfolding Machine.ofMachine Machine.eventOf Session.released sessionActs
+    release-done u good =
         let s = Table.session table t in
         let stage : eqb (s .stage) Stage.growing || eqb (s .stage) Stage.shrinking ≡ true = not-false (eqb (s .stage) Stage.growing || eqb (s .stage) Stage.shrinking) (u .stage) in
         let allowed : (eqb (s .stage) Stage.growing || eqb (s .stage) Stage.shrinking) && has x (s .held) ≡ true = and-intro stage (not-false (has x (s .held)) (u .mask)) in
         rw (release-plan (Table.senior table) t x table l)
         (session-stepped g t (p .session) (Machine.releaseCall t x) in-range l (Session.released x s)
-        (rw (release-plan (Table.senior table) t x table l) at room)
-        (Agrees.release-move-kept (given g) p stage)
+        (session-kept Step.release (omega arith) (omega arith) refl u)
+        (rw (release-plan (Table.senior table) t x table l) at good)
         (Agrees.release-move (given g) p allowed)
         (λ f h _. rw (h .here) (quiet (not (eqb (s .stage) Stage.rolledBack))))
         Step.release refl (λ e. absurd (false≢true e)))
@@ -126,24 +139,24 @@ module _ {conf : Config} {table : List ℕ} {l : List Entry} (g : Good conf tabl
 
     item-done : Done Step.deliverToItem
     unfolding delivered Machine.ofMachine Bound.delivers
-    item-done u room =
+    item-done u good =
         let found : eqb (Agrees.placeOf t x l true) (length l) ≡ false = u .route in
         rw (item-plan)
         (item-stepped g t (p .session) x (p .item) (Machine.deliverToItem t x) in-range (Agrees.othersOf t x l true) (Agrees.itemStep (seniorOf conf) (nextOf conf) (locks table) t x l)
-        (rw (item-plan) at room)
-        (Agrees.item-move-kept (given g) p found)
+        (rw (ranks-of g) at (item-kept u))
+        (rw (item-plan) at good)
         (Agrees.item-move (given g) p found)
         (Events.item-move-event (given g) p found)
         (taken true found) Step.deliverToItem)
 
     session-done : Done Step.deliverToSession
-    unfolding delivered Machine.ofMachine Bound.delivers
-    session-done u room =
+    unfolding delivered Machine.ofMachine Bound.delivers sessionActs
+    session-done u good =
         let found : eqb (Agrees.placeOf t x l false) (length l) ≡ false = u .route in
         rw (session-plan)
         (session-stepped g t (p .session) (Machine.deliverToSession t x) in-range (Agrees.othersOf t x l false) (Agrees.sessionStep (seniorOf conf) (Table.session table) t x l)
-        (rw (session-plan) at room)
-        (Agrees.session-move-kept (given g) p found)
+        (rw (ranks-of g) at (session-kept Step.deliverToSession (omega arith) (omega arith) refl u))
+        (rw (session-plan) at good)
         (Agrees.session-move (given g) p found)
         (λ f h v. Events.session-move-event (given g) p f _ v)
         Step.deliverToSession refl (λ _. taken false found))
@@ -180,14 +193,11 @@ module _ {conf : Config} {table : List ℕ} {l : List Entry} (g : Good conf tabl
     pub fits-accepted : (d : Bool) → eqb (Agrees.placeOf t x l d) (length l) ≡ false
         → length (Machine.move (machineOf conf) (State.stateOf conf table l) (deliveryCall t x d) .mailbox) ≤ conf .capacity → step (deliveryVerb d) t x table mail .answer .refusal ≡ 0
     fits-accepted d found fits =
-        let f = State.buffers-formed g in
-        let rt = within 1 (conf .table .sessions) t (p .session) in
-        let rx = within 1 (conf .table .items) x (p .item) in
         let v = is-verb d in
-        let j = judged-none (deliveryVerb d) t x table mail (v .0) (v .1) (formed-zero table mail f) (rt .0) (omega (arith, rt .1, sessions-of g)) (rx .0) (omega (arith, rx .1, items-of g)) in
+        let known = judged-none (deliveryVerb d) t x table mail (v .0) (v .1) (formed-zero table mail (j .formed)) (j .session-low) (j .session-high) (j .item-low) (j .item-high) in
         let room : overfull (Mail.capacityOf mail) (plan (Table.senior table) (deliveryVerb d) t x table (Mail.entriesOf mail) .entries) ≡ false =
         rw (capacity-is, entries-are) (le-ltb (conf .capacity) (length (planned (deliveryVerb d) .entries)) (omega (arith, same-count d found, fits))) in
-        rw (step-acts (deliveryVerb d) t x table mail j, acted-concluded (Table.senior table) (deliveryVerb d) t x table mail (only-room d found), room) refl
+        rw (step-acts (deliveryVerb d) t x table mail known, acted-concluded (Table.senior table) (deliveryVerb d) t x table mail (only-room d found), room) refl
 
     -- where an entry is found, the machine delivers it
     pub found-delivers : (d : Bool) → eqb (Agrees.placeOf t x l d) (length l) ≡ false → Bound.delivers (State.stateOf conf table l) (deliveryCall t x d) ≡ true
@@ -205,7 +215,6 @@ module _ {conf : Config} {table : List ℕ} {l : List Entry} (g : Good conf tabl
       → ((r : Stepped) → StepMoved conf table l verb t r → P r) → P (step verb t x table mail)
   by-step verb t x P refused moved =
       by-call verb t x table mail P refused (λ low high j u room.
-      let p = parties t x j in
+      let good : Good conf (planned j verb .table) (planned j verb .entries) = planned-good g (rw (entries-are) at (plan-keeps t x table mail j verb low high u)) (rw (capacity-is, entries-are) at room) in
       rw (capacity-is, entries-are)
-      (moved (committed t (conf .capacity) (planned p verb))
-      (by-verb (Done p) (request-done p) (release-done p) (item-done p) (session-done p) verb low high (rw (entries-are) at u) (rw (capacity-is, entries-are) at room))))
+      (moved (committed t (conf .capacity) (planned j verb)) (by-verb (Done j) (request-done j) (release-done j) (item-done j) (session-done j) verb low high (rw (entries-are) at u) good)))

@@ -1,4 +1,4 @@
--- Form is kept: a step on well-formed buffers, reached or forged, leaves well-formed buffers of the same sizes, and a reopening a well-formed table.
+-- Form is kept: a step on well-formed buffers, reached or forged, leaves well-formed buffers with the same config and capacity, and a reopening a well-formed table.
 use mathlib.Core.Path.{_≡_, refl}
 use mathlib.Core.List.{List}
 use Prim.Native.Nat.{ℕ}

@@ -1,4 +1,4 @@
--- Form is kept: a step that was judged leaves well-formed buffers of the same sizes.
+-- Form is kept: a step that was judged leaves well-formed buffers, with the same config and capacity.
 use mathlib.Core.Path.{_≡_, refl, ap}
 use mathlib.Core.Bool.{Bool, true, false, _&&_, _||_}
 use mathlib.Core.List.{List, map}
@@ -17,7 +17,7 @@ use Rattle.session.specs.Record as SessionRecord
 use Rattle.session.specs.Rules as Session
 use Rattle.item.specs.NextHolder.{nextHolder}
 use Rattle.item.proofs.NextHolder.{next-inside}
-use Rattle.item.specs.Record.{packed}
+use Rattle.item.specs.Record.{Lock, packed}
 use Rattle.item.specs.Rules as Item
 use Rattle.item.proofs.Laws.{length-packed}
 use Rattle.mailbox.specs.Entry as Entry
@@ -28,12 +28,16 @@ use Rattle.table.specs.Layout as Table
 use Rattle.table.proofs.Laws as TableLaws
 use Rattle.waits.specs.OnTable.{locks}
 use Rattle.wellformed.proofs.Sessions.{SessionKept, session-kept, request-kept, release-kept}
-use Rattle.item.proofs.WellFormed.{unpacked-lock, packed-lock}
+use Rattle.item.proofs.WellFormed.{LockWellFormed, unpacked-lock, packed-lock}
 use Rattle.wellformed.proofs.Items.{ItemKept, item-kept}
 use Rattle.step.specs.Step as Step
 use Rattle.step.specs.Step.{Plan, Stepped, Formed, delivered, itemReceives, sessionActs, sessionPlan, itemPlan, plan, stepped, refusedAnswer, committed}
 use Rattle.step.specs.Parts.{Judged, Unhindered}
 use Rattle.step.proofs.Acting.{by-verb, delivers, item-acts, session-acts}
+
+-- the queue of a well-formed lock, in its record
+pub queue-whole : (S : ℕ) → S ≤ 64 → (k : Lock) → LockWellFormed S k → length (packed k .queue) ≡ 64
+queue-whole S few k w = length-packed k (omega (arith, few, distinct-length S (k .queue) (w .once) (w .sessions)))
 
 -- what is planned on a well-formed table and well-formed entries is so again
 pub record Planned (table : List ℕ) (p : Plan) : Type 0 where
@@ -53,7 +57,7 @@ module _ (table : List ℕ) where
   isEntry = Entry.wellFormed S M
 
   module _ (sized : Table.sized table ≡ true) (formed : Table.wellFormed table ≡ true) (rest : List Entry) (w : allOf isEntry rest ≡ true) where
-    session-planned : (t : ℕ) → 1 ≤ t → t ≤ S → (r : Session.After) → SessionKept S M t r → Planned table (sessionPlan t table rest r)
+    pub session-planned : (t : ℕ) → 1 ≤ t → t ≤ S → (r : Session.After) → SessionKept S M t r → Planned table (sessionPlan t table rest r)
     session-planned t l h r k = record {
       sized = TableLaws.sized-withSession table sized t l h (r .session) (k .juniors);
       config = TableLaws.configOf-withSession table sized t l h (r .session) (k .juniors);
@@ -65,7 +69,7 @@ module _ (table : List ℕ) where
     item-planned x l h r k =
         let few = TableLaws.sized-facts table sized .max-sessions in
         let i = packed (r .lock) in
-        let whole : length (i .queue) ≡ 64 = length-packed (r .lock) (omega (arith, distinct-length S (r .lock .queue) (k .lock .once) (k .lock .sessions))) in
+        let whole = queue-whole S few (r .lock) (k .lock) in
         record {
           sized = TableLaws.sized-withItem table sized x l h i whole;
           config = TableLaws.configOf-withItem table sized x l h i whole;
