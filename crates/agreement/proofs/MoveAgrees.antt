@@ -10,9 +10,10 @@ use lib.ListN.{length, getD}
 use borrow.Author.Tests.{eqb-true, eqb-false}
 use Rattle.lists.specs.Lists.{between, allOf, removeAt}
 use Rattle.lists.proofs.Laws.{all-getD, findIndex-found, findIndex-length}
-use Rattle.lists.proofs.Tests.{and-both, within}
+use Rattle.lists.proofs.Tests.{within}
 use Rattle.bitset.specs.Bitset.{has}
 use Rattle.message.specs.Kind
+use Rattle.mailbox.proofs.EntryLaws.{route-facts}
 use Rattle.mailbox.specs.Entry as Entry
 use Rattle.mailbox.specs.Entry.{Entry, unused, onRoute, earliest, fromSession, fromItem, seenByItem, seenBySession}
 use Rattle.session.specs.Stage
@@ -163,12 +164,10 @@ module _ {senior : ℕ → ℕ → Bool} {next : List ℕ → ℕ} {S M : ℕ} {
     on-route = findIndex-found (onRoute (directionOf d) t x) l unused inside
 
     pub entry-session : entryOf t x l d .session ≡ t
-    entry-session =
-        let first = and-both (eqb (entryOf t x l d .direction) (directionOf d) && eqb (entryOf t x l d .session) t) (eqb (entryOf t x l d .item) x) on-route .0 in
-        eqb-true (entryOf t x l d .session) t (and-both (eqb (entryOf t x l d .direction) (directionOf d)) (eqb (entryOf t x l d .session) t) first .1)
+    entry-session = route-facts (directionOf d) t x (entryOf t x l d) on-route .session
 
     entry-item : entryOf t x l d .item ≡ x
-    entry-item = eqb-true (entryOf t x l d .item) x (and-both (eqb (entryOf t x l d .direction) (directionOf d) && eqb (entryOf t x l d .session) t) (eqb (entryOf t x l d .item) x) on-route .1)
+    entry-item = route-facts (directionOf d) t x (entryOf t x l d) on-route .item
 
     pub taken-eq : Machine.takeFirst d t x (readEntries l) ≡ Machine.taken (readMessage (entryOf t x l d .kind) (entryOf t x l d .a) (entryOf t x l d .b)) (readEntries (othersOf t x l d))
     unfolding takenAt

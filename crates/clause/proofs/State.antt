@@ -27,11 +27,11 @@ use Rattle.waits.specs.OnTable.{locks}
 use Rattle.wellformed.proofs.Sessions.{SessionKept}
 use Rattle.wellformed.proofs.Items.{ItemKept}
 use Rattle.step.specs.Step.{Formed, Plan}
-use Rattle.step.proofs.Form.{Planned, queue-whole}
+use Rattle.step.proofs.Form.{Planned}
 use Rattle.lockmgr.specs.Calls.{Config}
 use Rattle.deadlock.specs.Machine
 use Rattle.agreement.specs.Reading.{readSession, readSessions, readState, rules}
-use Rattle.item.proofs.WellFormed.{unpacked-lock}
+use Rattle.item.proofs.WellFormed.{unpacked-lock, queue-whole}
 use Rattle.agreement.proofs.MoveAgrees.{Replaced, Given}
 use Rattle.agreement.proofs.RulesLaws.{rules-laws}
 use Rattle.clause.specs.Statement.{IsSession}

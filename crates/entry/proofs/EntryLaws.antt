@@ -1,4 +1,4 @@
--- Laws of a well-formed entry: what it tells of the entry's numbers.
+-- Laws of an entry: what its form and its route tell of its numbers.
 use mathlib.Core.Path.{_≡_, refl}
 use mathlib.Core.Bool.{Bool, true, false, not, cond, _&&_, _||_}
 use mathlib.Core.Logic.{_⊎_, inl, inr, ⊎-elim}
@@ -9,7 +9,7 @@ use borrow.Author.Tests.{eqb-true, eq-eqb}
 use Rattle.lists.specs.Lists.{between}
 use Rattle.lists.proofs.Tests.{and-both, within}
 use Rattle.message.specs.Kind
-use Rattle.entry.specs.Entry.{Entry, toItem, toSession, carried, wellFormed}
+use Rattle.entry.specs.Entry.{Entry, toItem, toSession, onRoute, carried, wellFormed}
 
 or-cases : (a b : Bool) → (a || b) ≡ true → (a ≡ true) ⊎ (b ≡ true)
 or-cases true b e = inl refl
@@ -126,4 +126,20 @@ entry-facts S M e w =
       b-high = n .b-high;
       plain = n .plain;
       addressed = addressed-fact (e .kind) (e .a) (e .session) (and-both (kinds && session && item && numbers) abort w .1);
+    }
+
+-- the three numbers of an entry's route
+pub record OnRoute (d t x : ℕ) (e : Entry) : Type 0 where
+  pub direction : e .direction ≡ d
+  pub session : e .session ≡ t
+  pub item : e .item ≡ x
+
+pub route-facts : (direction t x : ℕ) (e : Entry) → onRoute direction t x e ≡ true → OnRoute direction t x e
+route-facts direction t x e q =
+    let last = and-both (eqb (e .direction) direction && eqb (e .session) t) (eqb (e .item) x) q in
+    let front = and-both (eqb (e .direction) direction) (eqb (e .session) t) (last .0) in
+    record {
+      direction = eqb-true (e .direction) direction (front .0);
+      session = eqb-true (e .session) t (front .1);
+      item = eqb-true (e .item) x (last .1);
     }

@@ -14,7 +14,7 @@ use Rattle.lists.proofs.Searches.{distinct-length}
 use Rattle.lists.proofs.Tests.{and-both, and-intro}
 use Rattle.item.specs.declared.Item.{Item}
 use Rattle.item.specs.Record.{Lock, free, unpacked, packed, wellFormed, Packed}
-use Rattle.item.proofs.Laws.{waiting-length, packed-eq, unpacked-packed}
+use Rattle.item.proofs.Laws.{waiting-length, length-packed, packed-eq, unpacked-packed}
 
 module _ (S : ℕ) where
   -- what a lock's record says of S sessions: the holder is one of them or 0; those in the queue are distinct, and none is the holder
@@ -75,6 +75,10 @@ module _ (S : ℕ) where
       let fits = distinct-length S (k .queue) (w .once) (w .sessions) in
       let tail : drop (length (k .queue)) (packed k .queue) ≡ replicate (64 - length (k .queue)) 0 = drop-append-seam (k .queue) (replicate (64 - length (k .queue)) 0) in
       and-intro (and-intro (and-intro (and-intro (and-intro (le-leb (k .holder) S (w .holder)) (le-leb (length (k .queue)) 64 (omega arith))) (rw (same) (w .sessions))) (rw (same) (w .once))) (rw (same, w .apart) refl)) (rw (tail) (all-replicate (λ b. eqb b 0) (64 - length (k .queue)) 0 refl))
+
+  -- its queue, in its record
+  pub queue-whole : S ≤ 64 → (k : Lock) → LockWellFormed k → length (packed k .queue) ≡ 64
+  queue-whole few k w = length-packed k (omega (arith, few, distinct-length S (k .queue) (w .once) (w .sessions)))
 
   -- every item of a lock manager that was just started
   pub free-lock : LockWellFormed free

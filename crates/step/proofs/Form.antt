@@ -1,6 +1,6 @@
 -- Form is kept: a step that was judged leaves well-formed buffers, with the same config and capacity.
 use mathlib.Core.Path.{_≡_, refl, ap}
-use mathlib.Core.Bool.{Bool, true, false, _&&_, _||_}
+use mathlib.Core.Bool.{Bool, true, false, _||_}
 use mathlib.Core.List.{List, map}
 use Prim.Native.Nat.{ℕ, _≤_, _<_}
 use native.Mathlib.Omega.{arith}
@@ -9,35 +9,30 @@ use lib.ListN.{length, getD}
 use borrow.Author.Tests.{eqb-true, eqb-false, not-false}
 use Rattle.lists.specs.Lists.{between, allOf, removeAt}
 use Rattle.lists.proofs.Laws.{all-getD, all-join, all-map, all-removeAt, findIndex-found}
-use Rattle.lists.proofs.Searches.{distinct-length}
-use Rattle.lists.proofs.Tests.{and-both, between-intro, by-answer}
+use Rattle.lists.proofs.Tests.{between-intro, by-answer}
 use Rattle.session.specs.Stage
 use Rattle.session.proofs.Seniority.{senior-weak}
 use Rattle.session.specs.Record as SessionRecord
 use Rattle.session.specs.Rules as Session
 use Rattle.item.specs.NextHolder.{nextHolder}
 use Rattle.item.proofs.NextHolder.{next-inside}
-use Rattle.item.specs.Record.{Lock, packed}
+use Rattle.item.specs.Record.{packed}
 use Rattle.item.specs.Rules as Item
-use Rattle.item.proofs.Laws.{length-packed}
 use Rattle.mailbox.specs.Entry as Entry
 use Rattle.mailbox.specs.Entry.{Entry, unused, onRoute, toItem, toSession, fromSession, fromItem}
 use Rattle.mailbox.specs.Layout as Mail
 use Rattle.mailbox.proofs.Laws as MailLaws
+use Rattle.mailbox.proofs.EntryLaws.{route-facts}
 use Rattle.table.specs.Layout as Table
 use Rattle.table.proofs.Laws as TableLaws
 use Rattle.waits.specs.OnTable.{locks}
 use Rattle.wellformed.proofs.Sessions.{SessionKept, session-kept, request-kept, release-kept}
-use Rattle.item.proofs.WellFormed.{LockWellFormed, unpacked-lock, packed-lock}
+use Rattle.item.proofs.WellFormed.{unpacked-lock, packed-lock, queue-whole}
 use Rattle.wellformed.proofs.Items.{ItemKept, item-kept}
 use Rattle.step.specs.Step as Step
 use Rattle.step.specs.Step.{Plan, Stepped, Formed, delivered, itemReceives, sessionActs, sessionPlan, itemPlan, plan, stepped, refusedAnswer, committed}
 use Rattle.step.specs.Parts.{Judged, Unhindered}
 use Rattle.step.proofs.Acting.{by-verb, delivers, item-acts, session-acts}
-
--- the queue of a well-formed lock, in its record
-pub queue-whole : (S : ℕ) → S ≤ 64 → (k : Lock) → LockWellFormed S k → length (packed k .queue) ≡ 64
-queue-whole S few k w = length-packed k (omega (arith, few, distinct-length S (k .queue) (w .once) (w .sessions)))
 
 -- what is planned on a well-formed table and well-formed entries is so again
 pub record Planned (table : List ℕ) (p : Plan) : Type 0 where
@@ -89,12 +84,10 @@ module _ (direction t x : ℕ) (l : List Entry) (found : Entry.earliest directio
   on-route = findIndex-found (onRoute direction t x) l unused found
 
   pub head-session : here .session ≡ t
-  head-session =
-      let front = and-both (eqb (here .direction) direction && eqb (here .session) t) (eqb (here .item) x) on-route .0 in
-      eqb-true (here .session) t (and-both (eqb (here .direction) direction) (eqb (here .session) t) front .1)
+  head-session = route-facts direction t x here on-route .session
 
   pub head-item : here .item ≡ x
-  head-item = eqb-true (here .item) x (and-both (eqb (here .direction) direction && eqb (here .session) t) (eqb (here .item) x) on-route .1)
+  head-item = route-facts direction t x here on-route .item
 
 -- ---- what a step that was judged and that nothing hinders leaves of its party, and sends
 module _ (t x : ℕ) (table mail : List ℕ) (j : Judged t x table mail) where

@@ -4,14 +4,11 @@ use mathlib.Core.Bool.{Bool, true, false, cond, not, _&&_, false≢true}
 use mathlib.Core.List.{List, [], _∷_, _++_, map}
 use mathlib.Core.Logic.{_≢_, _⊎_, inl, inr}
 use Prim.Native.Nat.{ℕ, _≤_}
-use native.Mathlib.Omega.{arith}
 use lib.Dec.{eqb}
 use lib.ListN.{length, getD, drop}
-use borrow.Author.Tests.{eqb-true}
 use Rattle.lists.specs.Lists.{filter, findIndex, removeAt}
 use Rattle.lists.proofs.Laws.{filter-append, findIndex-none, filter-first, filter-others}
-use Rattle.lists.proofs.Searches.{distinct-length}
-use Rattle.lists.proofs.Tests.{and-both, by-answer}
+use Rattle.lists.proofs.Tests.{by-answer}
 use Rattle.message.specs.declared.Message.{Message}
 use Rattle.session.specs.declared.Session.{Session}
 use Rattle.session.proofs.WellFormed.{held-fits}
@@ -19,9 +16,10 @@ use Rattle.item.specs.declared.Event.{Event}
 use Rattle.item.specs.declared.Item.{Item}
 use Rattle.item.specs.Record.{packed}
 use Rattle.item.specs.Rules as Rules
-use Rattle.item.proofs.Laws.{length-packed}
+use Rattle.item.proofs.WellFormed.{queue-whole}
 use Rattle.mailbox.specs.Entry.{Entry, unused, earliest, onRoute, toItem, toSession, fromSession, fromItem}
 use Rattle.mailbox.specs.Layout as Mail
+use Rattle.mailbox.proofs.EntryLaws.{route-facts}
 use Rattle.table.specs.Layout as Table
 use Rattle.table.proofs.Laws as TableLaws
 use Rattle.waits.specs.Waits
@@ -71,7 +69,7 @@ module _ (t x : ℕ) (table mail : List ℕ) (j : Judged t x table mail) where
       let k = item-keeps t x table mail j u .lock in
       let few = TableLaws.sized-facts table (j .formed .records .sized) .max-sessions in
       let r = itemReceives (Table.senior table) (locks table x) (entry Step.deliverToItem) in
-      let whole : length (packed (r .lock) .queue) ≡ 64 = length-packed (r .lock) (omega (arith, distinct-length (Table.sessionsOf table) (r .lock .queue) (k .once) (k .sessions))) in
+      let whole = queue-whole (Table.sessionsOf table) few (r .lock) k in
       let is = ap (λ (p : Plan). p .table) (item-acts (Table.senior table) Step.deliverToItem t x table entries refl) in
       record {
         touches = rw (is) (item-touches table (j .formed .records .sized) x (j .item-low) (j .item-high) (packed (r .lock)) whole);
@@ -94,17 +92,10 @@ module _ (t x : ℕ) (table mail : List ℕ) (j : Judged t x table mail) where
       }
 
 -- ---- the entries
--- the three numbers of a route
-pub route-facts : (direction t x : ℕ) (e : Entry) → onRoute direction t x e ≡ true → (e .direction ≡ direction) × (e .session ≡ t) × (e .item ≡ x)
-route-facts direction t x e q =
-    let last = and-both (eqb (e .direction) direction && eqb (e .session) t) (eqb (e .item) x) q in
-    let front = and-both (eqb (e .direction) direction) (eqb (e .session) t) (last .0) in
-    (eqb-true (e .direction) direction (front .0), eqb-true (e .session) t (front .1), eqb-true (e .item) x (last .1))
-
 -- what a step takes is sent to its party
 taken-by : (a b : Bool) (t x : ℕ) (e : Entry) → cond a (onRoute toItem t x e) (cond b (onRoute toSession t x e) false) ≡ true → receiver e ≡ cond a (item x) (session t)
-taken-by true b t x e p = let f = route-facts toItem t x e p in rw (f .0, f .2) refl
-taken-by false true t x e p = let f = route-facts toSession t x e p in rw (f .0, f .1) refl
+taken-by true b t x e p = let f = route-facts toItem t x e p in rw (f .direction, f .item) refl
+taken-by false true t x e p = let f = route-facts toSession t x e p in rw (f .direction, f .session) refl
 taken-by false false t x e p = absurd (false≢true p)
 
 pub taken-own : (verb t x : ℕ) (e : Entry) → takes verb t x e ≡ true → receiver e ≡ actor verb t x
@@ -179,7 +170,7 @@ module _ (D T X : ℕ) where
   all-from p f own [] = inl refl
   all-from p f own (m ∷ l) =
       by-answer (onRoute D T X (f m))
-      (λ q. let r = route-facts D T X (f m) q in inr (rw (sym (r .0), sym (r .1), sym (r .2)) (own m)))
+      (λ q. let r = route-facts D T X (f m) q in inr (rw (sym (r .direction), sym (r .session), sym (r .item)) (own m)))
       (λ q. rw (q) (all-from p f own l))
 
   pub sent-own : (senior : ℕ → ℕ → Bool) (verb t x : ℕ) (table : List ℕ) (l : List Entry) → SentFrom (actor verb t x) (sent senior verb t x table l)
