@@ -129,12 +129,12 @@ module _ (conf : Config) where
     abbrev at : Buffers
     at = buffers table (Mail.mailBytes (conf .capacity) l)
 
-    pub steps-bounded : (steps : List Run.Step) → AllDelivered at steps → length steps ≤ deliveryBound (conf .table .sessions) (conf .table .items) (countOf (Mail.mailBytes (conf .capacity) l))
+    pub steps-bounded : (steps : List Run.Step) → AllDelivered at steps → length steps ≤ deliveryBound (conf .kept .sessions) (conf .kept .items) (countOf (Mail.mailBytes (conf .capacity) l))
     steps-bounded steps h =
         let c : countOf (Mail.mailBytes (conf .capacity) l) ≡ length (readEntries l) = MailLaws.count-mail (conf .capacity) l (g .low) (g .high) (g .room) ∙ sym (length-readEntries l) in
         rw (c) (omega (arith, few steps table l g k h, BoundTheorem.theorem R (machine-laws g) .bounded (stateOf conf table l)))
 
-    bound-of : (n : ℕ) → length (deliveries n at) ≤ deliveryBound (conf .table .sessions) (conf .table .items) (countOf (Mail.mailBytes (conf .capacity) l))
+    bound-of : (n : ℕ) → length (deliveries n at) ≤ deliveryBound (conf .kept .sessions) (conf .kept .items) (countOf (Mail.mailBytes (conf .capacity) l))
     bound-of n = steps-bounded (deliveries n at) (all-delivered n at (State.buffers-formed g))
 
     pub drain-ends : (limit : ℕ) → DrainEnds conf at limit
@@ -156,4 +156,4 @@ drains-end c table mail e calls limit =
 pub bound-small : BoundSmall
 bound-small c table mail e n fits =
     let s = start-zero c table mail (start-accepted c table mail e) .sizes in
-    BoundTheorem.small-bound (c .table .sessions) (c .table .items) n (s .bounded .max-sessions) (s .bounded .max-items) (omega (arith, fits, s .max-room))
+    BoundTheorem.small-bound (c .kept .sessions) (c .kept .items) n (s .bounded .max-sessions) (s .bounded .max-items) (omega (arith, fits, s .max-room))

@@ -68,7 +68,7 @@ pub never-both : (b : Bool) → not b && b ≡ false
 never-both true = refl
 never-both false = refl
 
-module _ {conf : Config} {table : List ℕ} {l : List Entry} (g : Good conf table l) (t : ℕ) (t-range : between 1 (conf .table .sessions) t ≡ true) where
+module _ {conf : Config} {table : List ℕ} {l : List Entry} (g : Good conf table l) (t : ℕ) (t-range : between 1 (conf .kept .sessions) t ≡ true) where
   abbrev before : Machine.State
   before = stateOf conf table l
 
@@ -78,12 +78,12 @@ module _ {conf : Config} {table : List ℕ} {l : List Entry} (g : Good conf tabl
     sent = rest ++ map (fromSession t) (r .sends)
 
     abbrev Put : (ℕ → Session) → Type 0
-    Put f = Replaced (conf .table .sessions) (Table.session table) f t (r .session)
+    Put f = Replaced (conf .kept .sessions) (Table.session table) f t (r .session)
 
     module _ (kept : SessionKept (Table.sessionsOf table) (Table.itemsOf table) t r) (good : Good conf (Table.withSession table t (r .session)) sent)
-        (moves : (f : ℕ → Session) → Put f → readState (conf .table .sessions) (conf .table .items) f (locks table) sent ≡ Machine.move (machineOf conf) before call)
-        (happens : (f : ℕ → Session) → Put f → SessionRecord.wellFormed (conf .table .sessions) (conf .table .items) (f t) ≡ true
-        → Machine.eventOf (machineOf conf) before call (readState (conf .table .sessions) (conf .table .items) f (locks table) sent)
+        (moves : (f : ℕ → Session) → Put f → readState (conf .kept .sessions) (conf .kept .items) f (locks table) sent ≡ Machine.move (machineOf conf) before call)
+        (happens : (f : ℕ → Session) → Put f → SessionRecord.wellFormed (conf .kept .sessions) (conf .kept .items) (f t) ≡ true
+        → Machine.eventOf (machineOf conf) before call (readState (conf .kept .sessions) (conf .kept .items) f (locks table) sent)
         ≡ record { closed = false; declared = none; rolledBack = not (eqb (Table.session table t .stage) Stage.rolledBack) && eqb (f t .stage) Stage.rolledBack }) where
       abbrev table-after : List ℕ
       table-after = Table.withSession table t (r .session)
@@ -91,7 +91,7 @@ module _ {conf : Config} {table : List ℕ} {l : List Entry} (g : Good conf tabl
       put : Put (Table.session table-after)
       put = State.session-replaced g t t-range kept
 
-      state : stateOf conf table-after sent ≡ readState (conf .table .sessions) (conf .table .items) (Table.session table-after) (locks table) sent
+      state : stateOf conf table-after sent ≡ readState (conf .kept .sessions) (conf .kept .items) (Table.session table-after) (locks table) sent
       state = State.session-state g t t-range kept sent
 
       pub session-moved : Moved conf table l (buffers table-after (Mail.mailBytes (conf .capacity) sent))
@@ -128,16 +128,16 @@ module _ {conf : Config} {table : List ℕ} {l : List Entry} (g : Good conf tabl
       }
 
   -- what item x does on a message of session t
-  module _ (x : ℕ) (x-range : between 1 (conf .table .items) x ≡ true) (call : Machine.Call) (of-machine : Machine.ofMachine (machineOf conf) call ≡ true)
+  module _ (x : ℕ) (x-range : between 1 (conf .kept .items) x ≡ true) (call : Machine.Call) (of-machine : Machine.ofMachine (machineOf conf) call ≡ true)
       (rest : List Entry) (r : Item.After) where
     abbrev answered : List Entry
     answered = rest ++ map (fromItem x) (r .sends)
 
     abbrev PutLock : (ℕ → Lock) → Type 0
-    PutLock f = Replaced (conf .table .items) (locks table) f x (r .lock)
+    PutLock f = Replaced (conf .kept .items) (locks table) f x (r .lock)
 
     module _ (kept : ItemKept (Table.sessionsOf table) (Table.itemsOf table) x r) (good : Good conf (Table.withItem table x (packed (r .lock))) answered)
-        (moves : (f : ℕ → Lock) → PutLock f → readState (conf .table .sessions) (conf .table .items) (Table.session table) f answered ≡ Machine.move (machineOf conf) before call)
+        (moves : (f : ℕ → Lock) → PutLock f → readState (conf .kept .sessions) (conf .kept .items) (Table.session table) f answered ≡ Machine.move (machineOf conf) before call)
         (happens : (after : Machine.State) → Machine.eventOf (machineOf conf) before call after ≡ Machine.itemEvent (r .event) (Machine.onCycle (machineOf conf) after t))
         (delivers : Bound.delivers before call ≡ true) where
       abbrev item-after : List ℕ

@@ -124,7 +124,7 @@ module _ (conf : Config) where
   calls-keep [] b k rule = k
   calls-keep (c ∷ l) b k rule = calls-keep l (leaves b c) (call-keeps c b k (rule .0)) (rule .1)
 
-module _ (conf : Config) (enough : capacityBound (conf .table .sessions) (conf .table .items) ≤ conf .capacity) where
+module _ (conf : Config) (enough : capacityBound (conf .kept .sessions) (conf .kept .items) ≤ conf .capacity) where
   module _ (table : List ℕ) (l : List Entry) (g : Good conf table l) (r : Reached (machineOf conf) (stateOf conf table l)) where
     abbrev mail : List ℕ
     mail = Mail.mailBytes (conf .capacity) l
@@ -132,7 +132,7 @@ module _ (conf : Config) (enough : capacityBound (conf .table .sessions) (conf .
     count-is : Mail.countOf mail ≡ length l
     count-is = MailLaws.count-mail (conf .capacity) l (g .low) (g .high) (g .room)
 
-    few-messages : Mail.countOf mail ≤ capacityBound (conf .table .sessions) (conf .table .items)
+    few-messages : Mail.countOf mail ≤ capacityBound (conf .kept .sessions) (conf .kept .items)
     few-messages = omega (arith, count-is, length-readEntries l, theorem (machineOf conf) (machine-laws g) (stateOf conf table l) r)
 
     -- each message that is there can be delivered
@@ -140,8 +140,8 @@ module _ (conf : Config) (enough : capacityBound (conf .table .sessions) (conf .
       abbrev entry : Entry
       entry = getD l k unused
 
-      facts : EntryFacts (conf .table .sessions) (conf .table .items) entry
-      facts = entry-facts (conf .table .sessions) (conf .table .items) entry (all-getD (wellFormed (conf .table .sessions) (conf .table .items)) l k unused (g .entries) inside)
+      facts : EntryFacts (conf .kept .sessions) (conf .kept .items) entry
+      facts = entry-facts (conf .kept .sessions) (conf .kept .items) entry (all-getD (wellFormed (conf .kept .sessions) (conf .kept .items)) l k unused (g .entries) inside)
 
       known : Judged (entry .session) (entry .item) table mail
       known = record {
@@ -197,11 +197,11 @@ module _ (conf : Config) (enough : capacityBound (conf .table .sessions) (conf .
 
   module _ (b : Buffers) (k : Kept conf b) where
     abbrev bound : ℕ
-    bound = deliveryBound (conf .table .sessions) (conf .table .items) (Mail.countOf (b .mail))
+    bound = deliveryBound (conf .kept .sessions) (conf .kept .items) (Mail.countOf (b .mail))
 
     deliveries-bounded : (l : List Run.Step) → AllDelivered b l → length l ≤ bound
     deliveries-bounded l =
-        by-kept conf b k (λ (a : Buffers). AllDelivered a l → length l ≤ deliveryBound (conf .table .sessions) (conf .table .items) (Mail.countOf (a .mail)))
+        by-kept conf b k (λ (a : Buffers). AllDelivered a l → length l ≤ deliveryBound (conf .kept .sessions) (conf .kept .items) (Mail.countOf (a .mail)))
         (λ table entries g r. steps-bounded conf table entries g (orderly (machineOf conf) (machine-laws g) r .invariant) l)
 
     module _ (limit : ℕ) where
@@ -222,7 +222,7 @@ module _ (conf : Config) (enough : capacityBound (conf .table .sessions) (conf .
 
   progress : (b : Buffers) → Kept conf b → Progress conf b
   progress b k = record {
-    few = by-kept conf b k (λ (a : Buffers). Mail.countOf (a .mail) ≤ capacityBound (conf .table .sessions) (conf .table .items)) few-messages;
+    few = by-kept conf b k (λ (a : Buffers). Mail.countOf (a .mail) ≤ capacityBound (conf .kept .sessions) (conf .kept .items)) few-messages;
     accepted = λ l h. kept-accepts (left b l) (deliveries-keep conf l b k h);
     bounded = deliveries-bounded b k;
     emptied = λ l h. ends-empty (left b l) (deliveries-keep conf l b k h);

@@ -60,8 +60,8 @@ module _ {conf : Config} {table : List ℕ} {l : List Entry} (g : Good conf tabl
     pub moved : Moved conf table l (buffers after (Mail.mailBytes (conf .capacity) k))
     pub nothing : moved .event ≡ Machine.nothing
 
-  module _ (r : between 1 (conf .table .sessions) t ≡ true) (p : Reopenable t table mail) where
-    items : (x : ℕ) → 1 ≤ x → x ≤ conf .table .items → Agrees.Unnamed t (locks table x)
+  module _ (r : between 1 (conf .kept .sessions) t ≡ true) (p : Reopenable t table mail) where
+    items : (x : ℕ) → 1 ≤ x → x ≤ conf .kept .items → Agrees.Unnamed t (locks table x)
     unfolding locks itemNames
     items x low high = p .items x low (rw (items-of g) high)
 
@@ -73,7 +73,7 @@ module _ {conf : Config} {table : List ℕ} {l : List Entry} (g : Good conf tabl
     sent = l ++ map (fromSession t) (anew .sends)
 
     abbrev Put : (ℕ → Session) → Type 0
-    Put f = Replaced (conf .table .sessions) (Table.session table) f t SessionRecord.fresh
+    Put f = Replaced (conf .kept .sessions) (Table.session table) f t SessionRecord.fresh
 
     kept : SessionKept (Table.sessionsOf table) (Table.itemsOf table) t anew
     kept = anew-kept (Table.sessionsOf table) (Table.itemsOf table) t
@@ -83,11 +83,11 @@ module _ {conf : Config} {table : List ℕ} {l : List Entry} (g : Good conf tabl
         let n = State.session-known g t r in
         planned-good g (session-planned table (g .sized) (g .formed) l (rw (sessions-of g, items-of g) (g .entries)) t (n .0) (n .1) anew kept) (rw (append-nil l) (g .room))
 
-    moves : (f : ℕ → Session) → Put f → readState (conf .table .sessions) (conf .table .items) f (locks table) sent ≡ Machine.move (machineOf conf) (stateOf conf table l) (Machine.reopen t)
+    moves : (f : ℕ → Session) → Put f → readState (conf .kept .sessions) (conf .kept .items) f (locks table) sent ≡ Machine.move (machineOf conf) (stateOf conf table l) (Machine.reopen t)
     moves = Agrees.reopen-move (given g) t r (p .over) entries items
 
-    happens : (f : ℕ → Session) → Put f → SessionRecord.wellFormed (conf .table .sessions) (conf .table .items) (f t) ≡ true
-        → Machine.eventOf (machineOf conf) (stateOf conf table l) (Machine.reopen t) (readState (conf .table .sessions) (conf .table .items) f (locks table) sent)
+    happens : (f : ℕ → Session) → Put f → SessionRecord.wellFormed (conf .kept .sessions) (conf .kept .items) (f t) ≡ true
+        → Machine.eventOf (machineOf conf) (stateOf conf table l) (Machine.reopen t) (readState (conf .kept .sessions) (conf .kept .items) f (locks table) sent)
         ≡ record { closed = false; declared = none; rolledBack = not (eqb (Table.session table t .stage) Stage.rolledBack) && eqb (f t .stage) Stage.rolledBack }
     unfolding Machine.eventOf
     happens f h _ = rw (h .here) (quiet (not (eqb (Table.session table t .stage) Stage.rolledBack)))

@@ -67,10 +67,10 @@ module _ {conf : Config} {table : List ℕ} {l : List Entry} (g : Good conf tabl
 
   -- a step that was judged
   module _ {t x : ℕ} (j : Judged t x table mail) where
-    p : Parties (conf .table .sessions) (conf .table .items) t x
+    p : Parties (conf .kept .sessions) (conf .kept .items) t x
     p = record {
-      session = between-intro 1 (conf .table .sessions) t (j .session-low) (omega (arith, j .session-high, sessions-of g));
-      item = between-intro 1 (conf .table .items) x (j .item-low) (omega (arith, j .item-high, items-of g));
+      session = between-intro 1 (conf .kept .sessions) t (j .session-low) (omega (arith, j .session-high, sessions-of g));
+      item = between-intro 1 (conf .kept .items) x (j .item-low) (omega (arith, j .item-high, items-of g));
     }
 
     in-range : Machine.inRange (machineOf conf) t x ≡ true

@@ -41,32 +41,32 @@ module _ (c : Config) (table mail : List ℕ) (e : Calls.start c table mail .ref
   start-accepted = by-test (λ (r : Calls.Started). r .refusal ≡ 0 → Calls.startRefusal c table mail ≡ 0) (eqb (Calls.startRefusal c table mail) 0) (λ f _. eqb-true (Calls.startRefusal c table mail) 0 f) (λ _ g. g) e
 
   -- what it leaves
-  pub start-leaves : opened c table mail ≡ buffers (Table.started (c .table)) (Mail.mailBytes (c .capacity) [])
+  pub start-leaves : opened c table mail ≡ buffers (Table.started (c .kept)) (Mail.mailBytes (c .capacity) [])
   unfolding opened Calls.start
   start-leaves = rw (start-accepted) refl
 
 module _ (conf : Config) where
   abbrev pub begun : List ℕ
-  begun = Table.started (conf .table)
+  begun = Table.started (conf .kept)
 
   pub begun-good : {table mail : List ℕ} → Startable conf table mail → Good conf begun []
   begun-good f =
       let z = f .sizes in record {
-        sized = StartLaws.sized-started (conf .table) (z .bounded);
-        config = StartLaws.configOf-started (conf .table) (z .bounded);
-        formed = StartLaws.wellFormed-started (conf .table) (z .bounded) (f .ranks);
+        sized = StartLaws.sized-started (conf .kept) (z .bounded);
+        config = StartLaws.configOf-started (conf .kept) (z .bounded);
+        formed = StartLaws.wellFormed-started (conf .kept) (z .bounded) (f .ranks);
         low = z .some-room;
         high = z .max-room;
         room = omega arith;
-        entries = all-none (Entry.wellFormed (conf .table .sessions) (conf .table .items));
+        entries = all-none (Entry.wellFormed (conf .kept .sessions) (conf .kept .items));
       }
 
-  pub begun-state : Table.Bounded (conf .table) → stateOf conf begun [] ≡ Machine.start (machineOf conf)
+  pub begun-state : Table.Bounded (conf .kept) → stateOf conf begun [] ≡ Machine.start (machineOf conf)
   unfolding locks
   begun-state f =
-      start-agrees (conf .table .sessions) (conf .table .items) (Table.session begun) (locks begun)
-      (λ t r. StartLaws.session-started (conf .table) f t (within 1 (conf .table .sessions) t r .0) (within 1 (conf .table .sessions) t r .1))
-      (λ x r. ap ItemRecord.unpacked (StartLaws.item-started (conf .table) f x (within 1 (conf .table .items) x r .0) (within 1 (conf .table .items) x r .1)))
+      start-agrees (conf .kept .sessions) (conf .kept .items) (Table.session begun) (locks begun)
+      (λ t r. StartLaws.session-started (conf .kept) f t (within 1 (conf .kept .sessions) t r .0) (within 1 (conf .kept .sessions) t r .1))
+      (λ x r. ap ItemRecord.unpacked (StartLaws.item-started (conf .kept) f x (within 1 (conf .kept .items) x r .0) (within 1 (conf .kept .items) x r .1)))
       (seniorOf conf) (nextOf conf)
 
 pub no-entries : (l : List Entry) → length l ≡ 0 → l ≡ []
@@ -97,16 +97,16 @@ module _ (conf : Config) (b : Buffers) (calls : List Call) (h : Followed conf (M
         let n : length (h .entries) ≡ 0 = sym (MailLaws.count-mail (conf .capacity) (h .entries) (g .low) (g .high) (g .room)) ∙ ap Mail.countOf (sym (h .mail)) ∙ empty in
         ap (λ (s : Machine.State). s .mailbox) (h .state) ∙ none-read (h .entries) (no-entries (h .entries) n)
 
-    off-cycle : (t : ℕ) → IsSession (conf .table .sessions) t → not (eqb (cycleLength table-left t) 0) ≡ false
+    off-cycle : (t : ℕ) → IsSession (conf .kept .sessions) t → not (eqb (cycleLength table-left t) 0) ≡ false
     off-cycle t known =
         sym (on-cycle-of (h .good) t)
         ∙ ap (λ (s : Machine.State). Machine.onCycle (machineOf conf) s t) (sym (h .state))
         ∙ guaranteed (h .good) .settled-free (h .run) no-mail t (known .0) (known .1)
 
-    no-cycle : (t : ℕ) → IsSession (conf .table .sessions) t → cycleLength table-left t ≡ 0
+    no-cycle : (t : ℕ) → IsSession (conf .kept .sessions) t → cycleLength table-left t ≡ 0
     no-cycle t known = eqb-true (cycleLength table-left t) 0 (not-false (eqb (cycleLength table-left t) 0) (off-cycle t known))
 
-    settled : Settled (conf .table .sessions) b calls
+    settled : Settled (conf .kept .sessions) b calls
     unfolding Calls.report Waits.onCycle
     settled = record {
       counts = omega (arith, h .closes, h .rolls, guaranteed (h .good) .counts-agree (h .run) no-mail);

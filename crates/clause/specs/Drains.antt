@@ -49,8 +49,8 @@ DrainIsSteps = (limit : ℕ) (b : Buffers) → IsSteps limit b
 
 -- whatever its limit, a drain makes at most as many deliveries as the formula says, and a limit above that never ends it: RULES 9.10
 pub record DrainEnds (c : Config) (b : Buffers) (limit : ℕ) : Type 0 where
-  pub bounded : drainOf limit b .answer .made ≤ deliveryBound (c .table .sessions) (c .table .items) (Mail.countOf (b .mail))
-  pub ends : deliveryBound (c .table .sessions) (c .table .items) (Mail.countOf (b .mail)) < limit → drainOf limit b .answer .ending ≢ limited
+  pub bounded : drainOf limit b .answer .made ≤ deliveryBound (c .kept .sessions) (c .kept .items) (Mail.countOf (b .mail))
+  pub ends : deliveryBound (c .kept .sessions) (c .kept .items) (Mail.countOf (b .mail)) < limit → drainOf limit b .answer .ending ≢ limited
 
 -- for every lock manager that start accepts, after every list of its calls
 abbrev pub DrainsEnd : Type 0
@@ -58,4 +58,4 @@ DrainsEnd = (c : Config) (table mail : List ℕ) → Calls.start c table mail .r
 
 -- the formula in numbers: at most 10^15 for any mail that fits
 abbrev pub BoundSmall : Type 0
-BoundSmall = (c : Config) (table mail : List ℕ) → Calls.start c table mail .refusal ≡ 0 → (n : ℕ) → n ≤ c .capacity → deliveryBound (c .table .sessions) (c .table .items) n ≤ 1000000000000000
+BoundSmall = (c : Config) (table mail : List ℕ) → Calls.start c table mail .refusal ≡ 0 → (n : ℕ) → n ≤ c .capacity → deliveryBound (c .kept .sessions) (c .kept .items) n ≤ 1000000000000000

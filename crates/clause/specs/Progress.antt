@@ -37,20 +37,20 @@ deliveryAt b k = delivery (Mail.entryAt (b .mail) k)
 
 pub record Progress (c : Config) (b : Buffers) : Type 0 where
   -- at most 6 S + M + 1 messages are on their way
-  pub few : Mail.countOf (b .mail) ≤ capacityBound (c .table .sessions) (c .table .items)
+  pub few : Mail.countOf (b .mail) ≤ capacityBound (c .kept .sessions) (c .kept .items)
   -- after any further deliveries, each message that is there can be delivered
   pub accepted : (l : List Step) → AllDelivered b l → (k : ℕ) → k < Mail.countOf (left b l .mail)
       → doneOn (left b l) (deliveryAt (left b l) k) .result .answer .refusal ≡ 0
   -- there are no more of them than the formula says
-  pub bounded : (l : List Step) → AllDelivered b l → length l ≤ deliveryBound (c .table .sessions) (c .table .items) (Mail.countOf (b .mail))
+  pub bounded : (l : List Step) → AllDelivered b l → length l ≤ deliveryBound (c .kept .sessions) (c .kept .items) (Mail.countOf (b .mail))
   -- and where none can follow, the mail is empty
   pub emptied : (l : List Step) → AllDelivered b l → ((next : Step) → isDelivered (doneOn (left b l) next) ≡ false) → EmptyMail (left b l)
   -- no drain ends at a message that does not fit, and one that is allowed more than the formula says empties the mail
   pub never-full : (limit : ℕ) → drainOf limit b .answer .ending ≢ full
-  pub drained : (limit : ℕ) → deliveryBound (c .table .sessions) (c .table .items) (Mail.countOf (b .mail)) < limit → drainOf limit b .answer .ending ≡ empty
+  pub drained : (limit : ℕ) → deliveryBound (c .kept .sessions) (c .kept .items) (Mail.countOf (b .mail)) < limit → drainOf limit b .answer .ending ≡ empty
 
 -- for every lock manager that start accepts with room for so many messages, after every list of calls that keeps the rule
 abbrev pub Progresses : Type 0
 Progresses =
-    (c : Config) (table mail : List ℕ) → Calls.start c table mail .refusal ≡ 0 → capacityBound (c .table .sessions) (c .table .items) ≤ c .capacity
+    (c : Config) (table mail : List ℕ) → Calls.start c table mail .refusal ≡ 0 → capacityBound (c .kept .sessions) (c .kept .items) ≤ c .capacity
     → (calls : List Call) → RuleKept (opened c table mail) calls → Progress c (after (opened c table mail) calls)

@@ -71,11 +71,11 @@ pub record Settled (S : ℕ) (b : Buffers) (calls : List Call) : Type 0 where
 -- both buffers are well-formed, so that 3 and 4 are never answered, and what start was given stands in them
 pub record WellFormed (c : Config) (b : Buffers) : Type 0 where
   pub formed : Formed (b .table) (b .mail)
-  pub config : Table.configOf (b .table) ≡ c .table
+  pub config : Table.configOf (b .table) ≡ c .kept
   pub capacity : Mail.capacityOf (b .mail) ≡ c .capacity
 
 pub record Holds (c : Config) (b : Buffers) (calls : List Call) : Type 0 where
-  pub settled : EmptyMail (after b calls) → Settled (c .table .sessions) b calls
+  pub settled : EmptyMail (after b calls) → Settled (c .kept .sessions) b calls
   pub declarations : DeclarationsTrue (steps b calls)
   pub formed : WellFormed c (after b calls)
 

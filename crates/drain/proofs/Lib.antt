@@ -1,2 +1,2 @@
-pub mod Spent
+pub mod Gaps
 pub mod Oldest

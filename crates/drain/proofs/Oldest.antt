@@ -29,8 +29,8 @@ use Rattle.step.proofs.Acting.{acted-concluded, length-sent, deliverable, item-
 use Rattle.drain.specs.Oldest.{verbOf, EarliestAt, actedAt}
 use Rattle.drain.specs.declared.Gap.{Gap}
 use Rattle.drain.specs.declared.Delivery.{Delivery}
-use Rattle.drain.specs.Parts.{inUse, pending, Spent, Due, longer, fits, refusalOf, Admitted, Outcome, outcome, outcomeOf, Delivers}
-use Rattle.drain.proofs.Spent.{left, some-left, entry-left, others-left, filled-spent, filled-left}
+use Rattle.drain.specs.Parts.{inUse, closedUp, GapIn, Due, longer, fits, refusalOf, Admitted, Outcome, outcome, outcomeOf, Delivers}
+use Rattle.drain.proofs.Gaps.{left, some-left, entry-left, others-left, filled-spent, filled-left}
 
 -- what a step comes to that only room can hinder: p is what it plans
 module _ (t : ℕ) (table mail : List ℕ) (p : Plan) where
@@ -117,53 +117,53 @@ module _ (table mail : List ℕ) (f : Formed table mail) (k : ℕ) (inside : k <
     refused-or-accepted = rw (entry-acts) (by-room (entry .session) table mail (directed entry others table))
 
 -- where no entry is kept before the gap, the one behind it is the oldest in use
-pub oldest-due : (g : Gap) (table mail : List ℕ) → g .from ≡ 0 → Spent g mail → g .to < countOf mail → Formed table (pending g mail) → Due g table mail
+pub oldest-due : (g : Gap) (table mail : List ℕ) → g .from ≡ 0 → GapIn g mail → g .to < countOf mail → Formed table (closedUp g mail) → Due g table mail
 oldest-due g table mail oldest s some f =
-    record { spent = s; some = some; formed = f; earliest = oldest-earliest (pending g mail) (g .from) oldest (some-left g mail s some) }
+    record { spent = s; some = some; formed = f; earliest = oldest-earliest (closedUp g mail) (g .from) oldest (some-left g mail s some) }
 
 -- the entry behind the gap
 module _ (g : Gap) (table mail : List ℕ) (due : Due g table mail) where
   abbrev due-entry : Entry
   due-entry = entryAt mail (g .to)
 
-  some-due : g .from < countOf (pending g mail)
+  some-due : g .from < countOf (closedUp g mail)
   some-due = some-left g mail (due .spent) (due .some)
 
-  same-entry : entryAt (pending g mail) (g .from) ≡ due-entry
+  same-entry : entryAt (closedUp g mail) (g .from) ≡ due-entry
   same-entry = entry-left g mail (due .spent) (due .some)
 
-  due-judged : Judged (due-entry .session) (due-entry .item) table (pending g mail)
-  due-judged = rw (sym same-entry) (entry-judged table (pending g mail) (due .formed) (g .from) some-due)
+  due-judged : Judged (due-entry .session) (due-entry .item) table (closedUp g mail)
+  due-judged = rw (sym same-entry) (entry-judged table (closedUp g mail) (due .formed) (g .from) some-due)
 
   due-stands : Stands mail (g .to)
   due-stands = record { kept = due .spent .kept; inside = due .some }
 
   pub has-session : Table.HasSession table (due-entry .session)
-  has-session = Acting.has-session (due-entry .session) (due-entry .item) table (pending g mail) due-judged
+  has-session = Acting.has-session (due-entry .session) (due-entry .item) table (closedUp g mail) due-judged
 
   pub has-item : Table.HasItem table (due-entry .item)
-  has-item = Acting.has-item (due-entry .session) (due-entry .item) table (pending g mail) due-judged
+  has-item = Acting.has-item (due-entry .session) (due-entry .item) table (closedUp g mail) due-judged
 
   -- what the item or the session is handed the entry with
   pub due-for-item : ForItem (due-entry .item) (g .to) table mail
   due-for-item =
-      record { item = has-item; packed = item-packed (due-entry .session) (due-entry .item) table (pending g mail) due-judged; entry = due-stands }
+      record { item = has-item; packed = item-packed (due-entry .session) (due-entry .item) table (closedUp g mail) due-judged; entry = due-stands }
 
   pub due-for-session : ForSession (due-entry .session) (g .to) table mail
   due-for-session = record {
     session = has-session;
-    deliverable = rw (sym same-entry) (deliverable (due-entry .session) (due-entry .item) table (pending g mail) due-judged (g .from) some-due);
+    deliverable = rw (sym same-entry) (deliverable (due-entry .session) (due-entry .item) table (closedUp g mail) due-judged (g .from) some-due);
     entry = due-stands;
   }
 
   abbrev others-due : List Entry
   others-due = inUse (longer g) mail
 
-  pub due-acts : actedAt (g .from) table (pending g mail) ≡ concluded (due-entry .session) table (pending g mail) (directed due-entry others-due table)
+  pub due-acts : actedAt (g .from) table (closedUp g mail) ≡ concluded (due-entry .session) table (closedUp g mail) (directed due-entry others-due table)
   due-acts =
-      entry-acts table (pending g mail) (due .formed) (g .from) some-due (due .earliest)
-      ∙ ap (λ (e : Entry). concluded (e .session) table (pending g mail) (directed e (removeAt (g .from) (entriesOf (pending g mail))) table)) same-entry
-      ∙ ap (λ (l : List Entry). concluded (due-entry .session) table (pending g mail) (directed due-entry l table)) (others-left g mail (due .spent) (due .some))
+      entry-acts table (closedUp g mail) (due .formed) (g .from) some-due (due .earliest)
+      ∙ ap (λ (e : Entry). concluded (e .session) table (closedUp g mail) (directed e (removeAt (g .from) (entriesOf (closedUp g mail))) table)) same-entry
+      ∙ ap (λ (l : List Entry). concluded (due-entry .session) table (closedUp g mail) (directed due-entry l table)) (others-left g mail (due .spent) (due .some))
 
   -- what the delivery comes to, by whether what is sent fits in with the others
   module _ (after : List ℕ) (f : Message → Entry) (l : List Message) (event : Event) (n : ℕ) (few : n ≡ length l) where
@@ -171,24 +171,24 @@ module _ (g : Gap) (table mail : List ℕ) (due : Due g table mail) where
     planned = record { table = after; entries = others-due ++ map f l; sent = length l; event = event }
 
     abbrev done : Stepped
-    done = concluded (due-entry .session) table (pending g mail) planned
+    done = concluded (due-entry .session) table (closedUp g mail) planned
 
     abbrev told : Bool → Outcome
-    told allowed = outcomeOf allowed table (pending g mail) done
+    told allowed = outcomeOf allowed table (closedUp g mail) done
 
-    same-capacity : capacityOf (pending g mail) ≡ capacityOf mail
+    same-capacity : capacityOf (closedUp g mail) ≡ capacityOf mail
     same-capacity = left g mail (due .spent) .capacity
 
     -- it stops where there is no room or it is not allowed
-    told-full : fits (longer g) n mail ≡ false → (allowed : Bool) → outcome Refusal.mailFull table (pending g mail) ≡ told allowed
-    told-full e = no-room (due-entry .session) table (pending g mail) planned (rw (same-capacity) (lt-ltb (capacityOf mail) (length (others-due ++ map f l)) (omega (arith, length-sent others-due f l, leb-false (length others-due + n) (capacityOf mail) e, few))))
+    told-full : fits (longer g) n mail ≡ false → (allowed : Bool) → outcome Refusal.mailFull table (closedUp g mail) ≡ told allowed
+    told-full e = no-room (due-entry .session) table (closedUp g mail) planned (rw (same-capacity) (lt-ltb (capacityOf mail) (length (others-due ++ map f l)) (omega (arith, length-sent others-due f l, leb-false (length others-due + n) (capacityOf mail) e, few))))
 
-    room-left : fits (longer g) n mail ≡ true → overfull (capacityOf (pending g mail)) (others-due ++ map f l) ≡ false
+    room-left : fits (longer g) n mail ≡ true → overfull (capacityOf (closedUp g mail)) (others-due ++ map f l) ≡ false
     room-left e = rw (same-capacity) (le-ltb (capacityOf mail) (length (others-due ++ map f l)) (omega (arith, length-sent others-due f l, leb-true (length others-due + n) (capacityOf mail) e, few)))
 
-    by-tests : (fit allowed : Bool) → fits (longer g) n mail ≡ fit → fit && allowed ≡ false → outcome (refusalOf fit) table (pending g mail) ≡ told allowed
+    by-tests : (fit allowed : Bool) → fits (longer g) n mail ≡ fit → fit && allowed ≡ false → outcome (refusalOf fit) table (closedUp g mail) ≡ told allowed
     by-tests false allowed e h = told-full e allowed
-    by-tests true false e h = only-judged (due-entry .session) table (pending g mail) planned (room-left e)
+    by-tests true false e h = only-judged (due-entry .session) table (closedUp g mail) planned (room-left e)
     by-tests true true e h = absurd (true≢false h)
 
     module _ (allowed : Bool) (d : Delivery) (mail′ : List ℕ) (a : Admitted g n allowed d mail mail′) where
@@ -210,5 +210,5 @@ module _ (g : Gap) (table mail : List ℕ) (due : Due g table mail) where
             filled-spent (longer g) n (d .gap) mail mail′ p (map f l) count q,
             p .front,
             rw (a .refusal, b .0, b .1, filled-left (longer g) n (d .gap) mail mail′ p (map f l) count q)
-                (ap (λ (C : ℕ). outcome 0 after (mailBytes C (others-due ++ map f l))) (sym same-capacity) ∙ made (due-entry .session) table (pending g mail) planned (room-left (b .0))),
+                (ap (λ (C : ℕ). outcome 0 after (mailBytes C (others-due ++ map f l))) (sym same-capacity) ∙ made (due-entry .session) table (closedUp g mail) planned (room-left (b .0))),
           )

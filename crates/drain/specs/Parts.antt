@@ -6,7 +6,7 @@ use mathlib.Core.Bool.{Bool, true, false, cond, _&&_}
 use mathlib.Core.List.{List}
 use lib.Dec.{leb}
 use lib.ListN.{length}
-use Rattle.lists.specs.Lists.{without}
+use Rattle.lists.specs.Lists.{withoutPlaces}
 use Rattle.mailbox.specs.Entry.{Entry}
 use Rattle.mailbox.specs.Layout.{capacityOf, countOf, entriesOf, mailBytes, Kept}
 use Rattle.refusal.specs.Refusal.{mailFull}
@@ -17,24 +17,24 @@ use Rattle.drain.specs.Oldest.{EarliestAt}
 
 -- the entries in use, all but the spent ones
 abbrev pub inUse : Gap → List ℕ → List Entry
-inUse g mail = without (g .from) (g .to) (entriesOf mail)
+inUse g mail = withoutPlaces (g .from) (g .to) (entriesOf mail)
 
--- the mailbox that holds these alone
-abbrev pub pending : Gap → List ℕ → List ℕ
-pending g mail = mailBytes (capacityOf mail) (inUse g mail)
+-- the mailbox with the gap closed, which holds these alone
+abbrev pub closedUp : Gap → List ℕ → List ℕ
+closedUp g mail = mailBytes (capacityOf mail) (inUse g mail)
 
--- the gap lies in the mailbox
-pub record Spent (g : Gap) (mail : List ℕ) : Type 0 where
+-- the mailbox is the bytes of its entries, and the gap lies among them
+pub record GapIn (g : Gap) (mail : List ℕ) : Type 0 where
   pub kept : Kept mail
   pub order : g .from ≤ g .to
   pub inside : g .to ≤ countOf mail
 
 -- and the entry behind it is there to deliver
 pub record Due (g : Gap) (table mail : List ℕ) : Type 0 where
-  pub spent : Spent g mail
+  pub spent : GapIn g mail
   pub some : g .to < countOf mail
-  pub formed : Formed table (pending g mail)
-  pub earliest : EarliestAt (g .from) (pending g mail)
+  pub formed : Formed table (closedUp g mail)
+  pub earliest : EarliestAt (g .from) (closedUp g mail)
 
 -- the gap once that entry is spent too
 abbrev pub longer : Gap → Gap
@@ -42,7 +42,7 @@ longer g = record { from = g .from; to = g .to + 1 }
 
 -- gap g was there before and h is after; the entries in use are the same, and n places are free behind them
 pub record Placed (g : Gap) (n : ℕ) (h : Gap) (before after : List ℕ) : Type 0 where
-  pub spent : Spent h after
+  pub spent : GapIn h after
   pub front : h .from ≡ g .from
   pub capacity : capacityOf after ≡ capacityOf before
   pub entries : inUse h after ≡ inUse g before
@@ -79,4 +79,4 @@ outcomeOf allowed table mail r = outcome (r .answer .refusal) (cond allowed (r .
 -- a delivery leaves a gap that begins where it did, and without it what step r leaves or, where it is only judged, what was there
 abbrev pub Delivers : Gap → Bool → List ℕ → List ℕ → Stepped → Delivery → List ℕ → List ℕ → Type 0
 Delivers g allowed table mail r d table′ mail′ =
-    Spent (d .gap) mail′ × (d .gap .from ≡ g .from) × (outcome (d .refusal) table′ (pending (d .gap) mail′) ≡ outcomeOf allowed table (pending g mail) r)
+    GapIn (d .gap) mail′ × (d .gap .from ≡ g .from) × (outcome (d .refusal) table′ (closedUp (d .gap) mail′) ≡ outcomeOf allowed table (closedUp g mail) r)

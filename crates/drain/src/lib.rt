@@ -9,9 +9,9 @@ ghost use Rattle.waits.specs.OnTable.{locks};
 ghost use Rattle.step.specs.Step.{itemReceives, sessionReceives, sessionPlan, itemPlan};
 ghost use Rattle.step.specs.Parts.{concluded};
 ghost use Rattle.drain.specs.Oldest.{actedAt};
-ghost use Rattle.drain.specs.Parts.{inUse, pending, longer, Spent, Due, Placed, fits, refusalOf, Admitted, Delivers};
+ghost use Rattle.drain.specs.Parts.{inUse, closedUp, longer, GapIn, Due, Placed, fits, refusalOf, Admitted, Delivers};
 
-// The places from `from` up to `to`, of spent entries. Those before it are kept, those behind it are pending.
+// The places from `from` on and before `to`, of spent entries. Those before it are kept, those from `to` on are pending.
 pub struct Gap {
     pub from: usize,
     pub to: usize,
@@ -26,7 +26,7 @@ pub struct Delivery {
 
 // What is answered where n entries more are to have room once the gap is closed: 9, or 0.
 fn room_refusal(mail: &[u8], gap: Gap, n: usize) -> u8
-    requires { ⌜ Spent gap (now mail) × (n ≤ room) ⌝ }
+    requires { ⌜ GapIn gap (now mail) × (n ≤ room) ⌝ }
     ensures { λ r. ⌜ r ≡ refusalOf (fits gap n (now (mail .entry))) ⌝ }
 {
     if mailbox::count(mail) - (gap.to - gap.from) + n <= mailbox::capacity(mail) {
@@ -37,7 +37,7 @@ fn room_refusal(mail: &[u8], gap: Gap, n: usize) -> u8
 
 // Makes places for n entries more: the gap is closed where the free places are too few. The gap after.
 fn make_places(mail: &mut [u8], gap: Gap, n: usize) -> Gap
-    requires { ⌜ Spent gap (now mail) × (n ≤ room) × (fits gap n (now mail) ≡ true) ⌝ }
+    requires { ⌜ GapIn gap (now mail) × (n ≤ room) × (fits gap n (now mail) ≡ true) ⌝ }
     ensures { λ r. ⌜ Placed gap n r (now (mail .entry)) (now (mail .exit)) ⌝ }
 {
     if mailbox::count(mail) + n <= mailbox::capacity(mail) {
@@ -52,7 +52,7 @@ fn make_places(mail: &mut [u8], gap: Gap, n: usize) -> Gap
 
 // Judges whether the n messages that the delivery of the entry behind the gap sends have room. If they do and it is allowed, makes places for them.
 fn admit(mail: &mut [u8], gap: Gap, n: usize, allowed: bool) -> Delivery
-    requires { ⌜ Spent (longer gap) (now mail) × (n ≤ room) ⌝ }
+    requires { ⌜ GapIn (longer gap) (now mail) × (n ≤ room) ⌝ }
     ensures { λ r. ⌜ Admitted gap n allowed r (now (mail .entry)) (now (mail .exit)) ⌝ }
 {
     let after = Gap {
@@ -79,7 +79,7 @@ fn admit(mail: &mut [u8], gap: Gap, n: usize, allowed: bool) -> Delivery
 fn deliver_to_session(t: u8, gap: Gap, allowed: bool, table: &mut [u8], mail: &mut [u8]) -> Delivery
     requires { ⌜ Due gap (now table) (now mail) × (t ≡ entryAt (now mail) (gap .to) .session) ⌝ }
     ensures { λ d. ⌜ Delivers gap allowed (now (table .entry)) (now (mail .entry))
-        (concluded t (now (table .entry)) (pending gap (now (mail .entry))) (sessionPlan t (now (table .entry)) (inUse (longer gap) (now (mail .entry))) (sessionReceives (senior (now (table .entry))) t (session (now (table .entry)) t) (entryAt (now (mail .entry)) (gap .to)))))
+        (concluded t (now (table .entry)) (closedUp gap (now (mail .entry))) (sessionPlan t (now (table .entry)) (inUse (longer gap) (now (mail .entry))) (sessionReceives (senior (now (table .entry))) t (session (now (table .entry)) t) (entryAt (now (mail .entry)) (gap .to)))))
         d (now (table .exit)) (now (mail .exit)) ⌝ }
 {
     let r = step::session_receives(t, gap.to, table, mail);
@@ -96,7 +96,7 @@ fn deliver_to_session(t: u8, gap: Gap, allowed: bool, table: &mut [u8], mail: &m
 fn deliver_to_item(x: u8, gap: Gap, allowed: bool, table: &mut [u8], mail: &mut [u8]) -> Delivery
     requires { ⌜ Due gap (now table) (now mail) × (x ≡ entryAt (now mail) (gap .to) .item) ⌝ }
     ensures { λ d. ⌜ Delivers gap allowed (now (table .entry)) (now (mail .entry))
-        (concluded (entryAt (now (mail .entry)) (gap .to) .session) (now (table .entry)) (pending gap (now (mail .entry))) (itemPlan x (now (table .entry)) (inUse (longer gap) (now (mail .entry))) (itemReceives (senior (now (table .entry))) (locks (now (table .entry)) x) (entryAt (now (mail .entry)) (gap .to)))))
+        (concluded (entryAt (now (mail .entry)) (gap .to) .session) (now (table .entry)) (closedUp gap (now (mail .entry))) (itemPlan x (now (table .entry)) (inUse (longer gap) (now (mail .entry))) (itemReceives (senior (now (table .entry))) (locks (now (table .entry)) x) (entryAt (now (mail .entry)) (gap .to)))))
         d (now (table .exit)) (now (mail .exit)) ⌝ }
 {
     let r = step::item_receives(x, gap.to, table, mail);
@@ -113,7 +113,7 @@ fn deliver_to_item(x: u8, gap: Gap, allowed: bool, table: &mut [u8], mail: &mut 
 pub fn deliver(gap: Gap, allowed: bool, table: &mut [u8], mail: &mut [u8]) -> Delivery
     requires { ⌜ Due gap (now table) (now mail) ⌝ }
     ensures { λ d. ⌜ Delivers gap allowed (now (table .entry)) (now (mail .entry))
-        (actedAt (gap .from) (now (table .entry)) (pending gap (now (mail .entry))))
+        (actedAt (gap .from) (now (table .entry)) (closedUp gap (now (mail .entry))))
         d (now (table .exit)) (now (mail .exit)) ⌝ }
 {
     let route = mailbox::route_of(mail, gap.to);
@@ -125,8 +125,8 @@ pub fn deliver(gap: Gap, allowed: bool, table: &mut [u8], mail: &mut [u8]) -> De
 
 // Takes out the spent entries.
 pub fn close_gap(mail: &mut [u8], gap: Gap)
-    requires { ⌜ Spent gap (now mail) ⌝ }
-    ensures { λ _. ⌜ now (mail .exit) ≡ pending gap (now (mail .entry)) ⌝ }
+    requires { ⌜ GapIn gap (now mail) ⌝ }
+    ensures { λ _. ⌜ now (mail .exit) ≡ closedUp gap (now (mail .entry)) ⌝ }
 {
     if gap.from == gap.to {
         return;

@@ -260,7 +260,7 @@ fn cut_one(m: &mut [u8], from: usize, len: usize)
     put(m, from + end, 0, 0, 0);
 }
 
-// Takes `by` bytes out at `from`: the rest of the len bytes move down, and zeros follow. More than one route or body go in rows of 64.
+// Takes `by` bytes out at `from`: the rest of the len bytes move down, and zeros follow. One route or body goes by its own loop, anything else in rows of 64.
 pub fn cut(m: &mut [u8], from: usize, by: usize, len: usize)
     requires { ⌜ (from + len ≤ length (now m)) × (by ≤ len) ⌝ }
     ensures { λ _. ⌜ now (m .exit) ≡ splice (now (m .entry)) from (padded len (drop by (slice (now (m .entry)) from len))) ⌝ }

@@ -10,7 +10,7 @@ use lib.Dec.{eqb, leb, ltb, leb·zero, leb·suc-suc}
 use lib.ListN.{length, getD, take, drop, set, replicate, length-append, length-drop, length-replicate, length-set, replicate-append-replicate, drop-of-length-le, take-append-drop}
 use lib.Seq.{drop-cons, drop-at, set-at, take-at, take-suc, ext-getD, getD-at, getD-set-same, getD-set-other, length-take-le, take-append-le, drop-append-le}
 use borrow.Author.Tests.{eqb-true, eqb-false, leb-true, leb-false, ne-eqb, not-true}
-use Rattle.lists.specs.Lists.{everyBelow, member, distinct, allOf, filter, findIndex, removeAt, without, tabulate, appendUpTo}
+use Rattle.lists.specs.Lists.{everyBelow, member, distinct, allOf, filter, findIndex, removeAt, withoutPlaces, tabulate, appendUpTo}
 use Rattle.lists.proofs.Tests.{and-both, and-intro, or-neither, by-test, eqb-sym, eqb-self}
 
 -- ---- filter, findIndex, removeAt, without, tabulate, appendUpTo
@@ -109,8 +109,8 @@ module _ {A : Type 0} where
       let h = and-both (not (p a)) (allOf (λ a. not (p a)) l) e in rw (not-true (p a) (h .0)) (filter-none p l (h .1))
 
   -- without an element the list is what stands before it and what stands behind it
-  pub removeAt-without : (k : ℕ) (l : List A) → k < length l → removeAt k l ≡ without k (k + 1) l
-  unfolding removeAt without
+  pub removeAt-without : (k : ℕ) (l : List A) → k < length l → removeAt k l ≡ withoutPlaces k (k + 1) l
+  unfolding removeAt withoutPlaces
   removeAt-without k [] h = absurd (omega arith)
   removeAt-without zero (a ∷ l) h = refl
   removeAt-without (suc k) (a ∷ l) h = ap (λ (r : List A). a ∷ r) (removeAt-without k l (omega arith)) ∙ rw (add-one k, add-one (suc k)) refl
@@ -141,8 +141,8 @@ module _ {A : Type 0} where
   removeAt-le (suc k) (a ∷ l) = omega (arith, removeAt-le k l)
 
   -- where no place goes, nothing does
-  pub without-none : (a : ℕ) (l : List A) → without a a l ≡ l
-  unfolding without
+  pub without-none : (a : ℕ) (l : List A) → withoutPlaces a a l ≡ l
+  unfolding withoutPlaces
   without-none a l = take-append-drop a l
 
   module _ (a b : ℕ) (l : List A) (order : a ≤ b) where
@@ -150,26 +150,26 @@ module _ {A : Type 0} where
       front : length (take a l) ≡ a
       front = length-take-le a l (omega (arith, order, inside))
 
-      pub length-without : length (without a b l) ≡ length l - (b - a)
-      unfolding without
+      pub length-without : length (withoutPlaces a b l) ≡ length l - (b - a)
+      unfolding withoutPlaces
       length-without = length-append (take a l) (drop b l) ∙ rw (front, length-drop b l) (omega (arith, order, inside))
 
       -- what is added goes to the end
-      pub without-append : (r : List A) → without a b (l ++ r) ≡ without a b l ++ r
-      unfolding without
+      pub without-append : (r : List A) → withoutPlaces a b (l ++ r) ≡ withoutPlaces a b l ++ r
+      unfolding withoutPlaces
       without-append r = rw (take-append-le a l r (omega (arith, order, inside)), drop-append-le b l r inside) (sym (append-assoc (take a l) (drop b l) r))
 
     -- what stands at b stands at a, and if it goes too, the places up to b + 1 are gone
     module _ (inside : b < length l) (d : A) where
-      here : without a b l ≡ take a l ++ getD l b d ∷ drop (suc b) l
-      unfolding without
+      here : withoutPlaces a b l ≡ take a l ++ getD l b d ∷ drop (suc b) l
+      unfolding withoutPlaces
       here = ap (λ (r : List A). take a l ++ r) (drop-cons l b d inside)
 
-      pub getD-without : getD (without a b l) a d ≡ getD l b d
+      pub getD-without : getD (withoutPlaces a b l) a d ≡ getD l b d
       getD-without = rw (here) (getD-at (take a l) (getD l b d) (drop (suc b) l) d a (front (omega (arith, inside))))
 
-      pub without-more : removeAt a (without a b l) ≡ without a (b + 1) l
-      unfolding without
+      pub without-more : removeAt a (withoutPlaces a b l) ≡ withoutPlaces a (b + 1) l
+      unfolding withoutPlaces
       without-more =
           ap (removeAt a) here
           ∙ removeAt-at (take a l) (getD l b d) (drop (suc b) l) a (front (omega (arith, inside)))

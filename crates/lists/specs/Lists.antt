@@ -66,9 +66,9 @@ module _ {A : Type 0} where
   removeAt zero (a ∷ l) = l
   removeAt (suc k) (a ∷ l) = a ∷ removeAt k l
 
-  -- the list without the places from a up to b
-  unfoldable pub without : ℕ → ℕ → List A → List A
-  without a b l = take a l ++ drop b l
+  -- the list without its places from a on and before b, a ≤ b
+  unfoldable pub withoutPlaces : ℕ → ℕ → List A → List A
+  withoutPlaces a b l = take a l ++ drop b l
 
   -- f 0, f 1 and so on, n elements
   unfoldable pub tabulate : ℕ → (ℕ → A) → List A

@@ -129,15 +129,15 @@ formed-zero table mail f = rw (f .records .sized, f .mail-sized, f .records .for
 
 -- what a start knows whose sizes fit, and one that is not refused
 pub record Sizes (c : Config) (table mail : List ℕ) : Type 0 where
-  pub bounded : Table.Bounded (c .table)
+  pub bounded : Table.Bounded (c .kept)
   pub some-room : 1 ≤ c .capacity
   pub max-room : c .capacity ≤ Mail.maxCapacity
-  pub table-whole : length table ≡ Table.size (c .table .sessions) (c .table .items)
+  pub table-whole : length table ≡ Table.size (c .kept .sessions) (c .kept .items)
   pub mail-whole : length mail ≡ Mail.size (c .capacity)
 
 pub record Startable (c : Config) (table mail : List ℕ) : Type 0 where
   pub sizes : Sizes c table mail
-  pub ranks : Seniority.wellFormed (c .table .ranks) ≡ true
+  pub ranks : Seniority.wellFormed (c .kept .ranks) ≡ true
 
 -- S, M and C are within their bounds
 abbrev pub inBounds : ℕ → ℕ → ℕ → Bool
@@ -158,10 +158,10 @@ bounds-known S M C e =
 
 module _ (c : Config) (table mail : List ℕ) where
   abbrev S : ℕ
-  S = c .table .sessions
+  S = c .kept .sessions
 
   abbrev M : ℕ
-  M = c .table .items
+  M = c .kept .items
 
   abbrev C : ℕ
   C = c .capacity
@@ -169,7 +169,7 @@ module _ (c : Config) (table mail : List ℕ) where
   pub sizes-known : sizesFit c table mail ≡ true → Sizes c table mail
   sizes-known e =
       let n = inBounds S M C in
-      let k = eqb (length (c .table .ranks)) S in
+      let k = eqb (length (c .kept .ranks)) S in
       let t = eqb (length table) (Table.size S M) in
       let q = eqb (length mail) (Mail.size C) in
       let six = and-both (n && k && t) q e in
@@ -183,7 +183,7 @@ module _ (c : Config) (table mail : List ℕ) where
               max-sessions = b .sessions .1;
               some-items = b .items .0;
               max-items = b .items .1;
-              ranks-whole = eqb-true (length (c .table .ranks)) S (four .1);
+              ranks-whole = eqb-true (length (c .kept .ranks)) S (four .1);
             };
         some-room = b .capacity .0;
         max-room = b .capacity .1;
@@ -194,13 +194,13 @@ module _ (c : Config) (table mail : List ℕ) where
   sizes-fit : Sizes c table mail → sizesFit c table mail ≡ true
   sizes-fit f =
       let b = f .bounded in
-      rw (between-intro 1 maxSessions S (b .some-sessions) (b .max-sessions), between-intro 1 maxItems M (b .some-items) (b .max-items), between-intro 1 Mail.maxCapacity C (f .some-room) (f .max-room), eq-eqb (length (c .table .ranks)) S (b .ranks-whole), eq-eqb (length table) (Table.size S M) (f .table-whole), eq-eqb (length mail) (Mail.size C) (f .mail-whole)) refl
+      rw (between-intro 1 maxSessions S (b .some-sessions) (b .max-sessions), between-intro 1 maxItems M (b .some-items) (b .max-items), between-intro 1 Mail.maxCapacity C (f .some-room) (f .max-room), eq-eqb (length (c .kept .ranks)) S (b .ranks-whole), eq-eqb (length table) (Table.size S M) (f .table-whole), eq-eqb (length mail) (Mail.size C) (f .mail-whole)) refl
 
   pub start-zero : startRefusal c table mail ≡ 0 → Startable c table mail
   unfolding startRefusal
   start-zero e =
       let s = unmet-not (sizesFit c table mail) 1 _ e in
-      record { sizes = sizes-known (s .0); ranks = unmet-not (Seniority.wellFormed (c .table .ranks)) 13 [] (s .1) .0 }
+      record { sizes = sizes-known (s .0); ranks = unmet-not (Seniority.wellFormed (c .kept .ranks)) 13 [] (s .1) .0 }
 
   pub start-none : Startable c table mail → startRefusal c table mail ≡ 0
   unfolding startRefusal first

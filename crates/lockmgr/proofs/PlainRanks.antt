@@ -3,15 +3,20 @@ use mathlib.Core.Path.{_≡_, refl, sym, ap, subst, _∙_}
 use mathlib.Core.Bool.{Bool}
 use mathlib.Core.List.{List, [], _∷_, _++_}
 use Prim.Native.Nat.{ℕ}
-use lib.Dec.{ltb}
+use lib.Dec.{eqb, ltb}
+use borrow.Author.Tests.{eqb-true, eqb-false}
+use Rattle.lists.proofs.Tests.{by-test}
 use Rattle.session.specs.Seniority as Seniority
 use Rattle.session.specs.Seniority.{plain}
 use Rattle.session.proofs.Seniority as SeniorityLaws
 use Rattle.table.specs.Layout as Table
+use Rattle.table.proofs.StartLaws.{configOf-started}
 use Rattle.lockmgr.specs.Calls as Calls
+use Rattle.lockmgr.specs.Calls.{Config}
 use Rattle.lockmgr.specs.Run.{Step, Buffers, Done, doneOn, leftBy, done, left}
-use Rattle.lockmgr.specs.History.{Call, step, report, drain, reopen, stepsOf, leaves, steps}
+use Rattle.lockmgr.specs.History.{Call, step, report, drain, reopen, stepsOf, leaves, after, steps}
 use Rattle.lockmgr.specs.PlainRanks.{Plain, DoneBy, ByNumber}
+use Rattle.lockmgr.proofs.Judging.{start-zero}
 use Rattle.lockmgr.proofs.Form.{step-config, reopen-config}
 
 -- ---- the config stays
@@ -66,5 +71,19 @@ calls-by-number b p (c ∷ l) =
     join (done b (stepsOf b c)) (steps (leaves b c) l) (done-by-number b p (stepsOf b c))
     (calls-by-number (leaves b c) (plain-stays (b .table) (leaves b c .table) (leaves-config b c) p) l)
 
+calls-stay : (b : Buffers) → Plain (b .table) → (l : List Call) → Plain (after b l .table)
+unfolding after
+calls-stay b p [] = p
+calls-stay b p (c ∷ l) = calls-stay (leaves b c) (plain-stays (b .table) (leaves b c .table) (leaves-config b c) p) l
+
+-- ---- a start
+start-plain : (c : Config) (table mail : List ℕ) → Calls.start c table mail .refusal ≡ 0 → c .kept .ranks ≡ plain (c .kept .sessions) → Plain (Calls.start c table mail .table)
+unfolding Calls.start
+start-plain c table mail e p =
+    by-test (λ (r : Calls.Started). r .refusal ≡ 0 → Plain (r .table)) (eqb (Calls.startRefusal c table mail) 0)
+    (λ z _. subst plainConfig (sym (configOf-started (c .kept) (start-zero c table mail (eqb-true (Calls.startRefusal c table mail) 0 z) .sizes .bounded))) p)
+    (λ z q. absurd (eqb-false (Calls.startRefusal c table mail) 0 z q))
+    e
+
 pub theorem : ByNumber
-theorem = record { step = step-by-number; cycle-text = text-by-number; calls = calls-by-number }
+theorem = record { step = step-by-number; cycle-text = text-by-number; calls = calls-by-number; stays = calls-stay; started = start-plain }

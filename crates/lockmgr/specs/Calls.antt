@@ -22,11 +22,11 @@ use Rattle.lockmgr.specs.declared.Cycle.{Cycle}
 -- ---- start
 -- what start is given: what the table keeps of it, and C
 pub record Config : Type 0 where
-  pub table : Table.Config
+  pub kept : Table.Config
   pub capacity : ℕ
 
 abbrev pub config : ℕ → ℕ → ℕ → List ℕ → Config
-config S M C ranks = record { table = Table.config S M ranks; capacity = C }
+config S M C ranks = record { kept = Table.config S M ranks; capacity = C }
 
 -- what start answers, and both buffers after
 pub record Started : Type 0 where
@@ -40,22 +40,24 @@ startResult refusal table mail = record { refusal = refusal; table = table; mail
 -- S, M and C are within their bounds, and the three lengths are theirs: RULES 8.2
 abbrev pub sizesFit : Config → List ℕ → List ℕ → Bool
 sizesFit c table mail =
-    between 1 maxSessions (c .table .sessions) && between 1 maxItems (c .table .items) && between 1 Mail.maxCapacity (c .capacity)
-    && eqb (length (c .table .ranks)) (c .table .sessions) && eqb (length table) (Table.size (c .table .sessions) (c .table .items)) && eqb (length mail) (Mail.size (c .capacity))
+    between 1 maxSessions (c .kept .sessions) && between 1 maxItems (c .kept .items) && between 1 Mail.maxCapacity (c .capacity)
+    && eqb (length (c .kept .ranks)) (c .kept .sessions)
+    && eqb (length table) (Table.size (c .kept .sessions) (c .kept .items))
+    && eqb (length mail) (Mail.size (c .capacity))
 
 -- the causes of a start, in their order: RULES 8.0
 unfoldable pub startRefusal : Config → List ℕ → List ℕ → ℕ
 startRefusal c table mail =
     first
     (cause (not (sizesFit c table mail)) Refusal.badSize
-    ∷ cause (not (Seniority.wellFormed (c .table .ranks))) Refusal.badRanks
+    ∷ cause (not (Seniority.wellFormed (c .kept .ranks))) Refusal.badRanks
     ∷ [])
 
 -- what start writes: RULES 4.3
 unfoldable pub start : Config → List ℕ → List ℕ → Started
 start c table mail =
     cond (eqb (startRefusal c table mail) 0)
-    (startResult 0 (Table.started (c .table)) (Mail.mailBytes (c .capacity) []))
+    (startResult 0 (Table.started (c .kept)) (Mail.mailBytes (c .capacity) []))
     (startResult (startRefusal c table mail) table mail)
 
 -- ---- step
@@ -112,7 +114,7 @@ unfoldable pub reopen : ℕ → List ℕ → List ℕ → Reopened
 reopen t table mail = Reopening.unlessRefused (reopenRefusal t table mail) t table
 
 -- ---- cycle text
--- the causes of a report, and those of the text: RULES 4.11; by a seniority, and by that of the table
+-- the causes of a report, and those of the text: RULES 4.11
 unfoldable pub cycleTextBy : (ℕ → ℕ → Bool) → ℕ → List ℕ → List ℕ → Described
 cycleTextBy senior t table buffer =
     unlessRefused (first (reportCauses t table ++ textCausesBy senior t table buffer)) (textBy senior table t) buffer

@@ -5,7 +5,7 @@ use message::MAX_SESSIONS;
 ghost use mathlib.Core.Path.{_≡_};
 ghost use Rattle.refusal.specs.Refusal.{first};
 ghost use Rattle.step.specs.Step.{stepped, Formed};
-ghost use Rattle.drain.specs.Parts.{pending, Spent};
+ghost use Rattle.drain.specs.Parts.{closedUp, GapIn};
 ghost use Rattle.reopen.specs.Reopening.{reopened};
 ghost use Rattle.cycletext.specs.OnTable.{described};
 ghost use Rattle.lockmgr.specs.Calls.{config, sizesFit, startRefusal, startResult, start, bufferCauses, judged, step, reportRefusal, report, reopen, cycleText};
@@ -45,7 +45,7 @@ fn sizes_fit(
         & (mail.len() == mailbox::size(capacity as usize))
 }
 
-// The first of the causes of a start, or 0.
+// The first of the causes of a start, or 0. Its lists are looked at only where their lengths are right.
 fn start_refusal(
     sessions: u64,
     items: u64,
@@ -261,10 +261,10 @@ struct Turn {
     gap: Gap,
 }
 
-// Delivers the oldest entry, the one behind the gap, if one more is allowed. None is kept before the gap.
+// Delivers the oldest entry, the one behind the gap, if one more is allowed; the gap begins at the front.
 fn take_turn(limit: u64, made: u64, gap: Gap, table: &mut [u8], mail: &mut [u8]) -> Turn
-    requires { ⌜ (gap .from ≡ 0) × Spent gap (now mail) × Formed (now table) (pending gap (now mail)) ⌝ }
-    ensures { λ r. ⌜ (r .gap .from ≡ 0) × Spent (r .gap) (now (mail .exit)) × (turned (r .ending) (r .made) (now (table .exit)) (pending (r .gap) (now (mail .exit))) ≡ turnOf limit made (buffers (now (table .entry)) (pending gap (now (mail .entry))))) ⌝ }
+    requires { ⌜ (gap .from ≡ 0) × GapIn gap (now mail) × Formed (now table) (closedUp gap (now mail)) ⌝ }
+    ensures { λ r. ⌜ (r .gap .from ≡ 0) × GapIn (r .gap) (now (mail .exit)) × (turned (r .ending) (r .made) (now (table .exit)) (closedUp (r .gap) (now (mail .exit))) ≡ turnOf limit made (buffers (now (table .entry)) (closedUp gap (now (mail .entry))))) ⌝ }
 {
     if mailbox::count(mail) <= gap.to {
         return Turn {

@@ -7,7 +7,7 @@ use native.Mathlib.Omega.{arith}
 use lib.ListN.{length, getD, take, drop, replicate, length-append, length-map, replicate-append-replicate, List·getD-append}
 use lib.Seq.{take-suc, length-take-le}
 use Rattle.buffer.specs.Bytes.{splice, toBytes, padded}
-use Rattle.lists.specs.Lists.{without}
+use Rattle.lists.specs.Lists.{withoutPlaces}
 use Rattle.lists.proofs.Laws.{length-without}
 use Rattle.message.specs.declared.Message.{Message}
 use Rattle.message.specs.Outbox.{room, plain, cells}
@@ -26,22 +26,22 @@ splice-count C n k r q = refl
 
 -- the entries from a up to b are taken out
 module _ (a b : ℕ) (l : List Entry) (order : a ≤ b) where
-  routes-without : take (width * a) (routes l) ++ drop (width * a + width * (b - a)) (routes l) ≡ routes (without a b l)
+  routes-without : take (width * a) (routes l) ++ drop (width * a + width * (b - a)) (routes l) ≡ routes (withoutPlaces a b l)
   routes-without =
-      rw (routes-triples l, routes-triples (without a b l)) (sym (triples-without (λ e. e .direction) (λ e. e .session) (λ e. e .item) a b l order))
+      rw (routes-triples l, routes-triples (withoutPlaces a b l)) (sym (triples-without (λ e. e .direction) (λ e. e .session) (λ e. e .item) a b l order))
 
-  bodies-without : take (width * a) (bodies l) ++ drop (width * a + width * (b - a)) (bodies l) ≡ bodies (without a b l)
+  bodies-without : take (width * a) (bodies l) ++ drop (width * a + width * (b - a)) (bodies l) ≡ bodies (withoutPlaces a b l)
   bodies-without =
-      rw (bodies-triples l, bodies-triples (without a b l)) (sym (triples-without (λ e. e .kind) (λ e. e .a) (λ e. e .b) a b l order))
+      rw (bodies-triples l, bodies-triples (withoutPlaces a b l)) (sym (triples-without (λ e. e .kind) (λ e. e .a) (λ e. e .b) a b l order))
 
 -- what two cuts and a count leave
 pub cut-mail : (C c a b len : ℕ) (l : List Entry) {m m₁ m₂ : List ℕ} → length l ≡ c → c ≤ C → a ≤ b → b ≤ c → len ≡ width * (c - a) → m ≡ mailBytes C l
     → m₁ ≡ splice m (routePlace a) (closedUp m (routePlace a) (width * (b - a)) len)
     → m₂ ≡ splice m₁ (bodyPlace C a) (closedUp m₁ (bodyPlace C a) (width * (b - a)) len)
-    → splice m₂ countPlace (toBytes 2 (c - (b - a))) ≡ mailBytes C (without a b l)
+    → splice m₂ countPlace (toBytes 2 (c - (b - a))) ≡ mailBytes C (withoutPlaces a b l)
 unfolding mailBytes
 cut-mail C c a b len l {m₁ = m₁} {m₂ = m₂} size h order p s e e₁ e₂ =
-    let left : List Entry = without a b l in
+    let left : List Entry = withoutPlaces a b l in
     let count : length left ≡ c - (b - a) = length-without a b l order (omega arith) ∙ ap (λ (j : ℕ). j - (b - a)) size in
     let r : List ℕ = padded (width * C) (routes left) in
     let first : m₁ ≡ framed C (length l) r (padded (width * C) (bodies l)) =

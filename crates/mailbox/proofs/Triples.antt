@@ -7,7 +7,7 @@ use native.Mathlib.Omega.{arith}
 use lib.ListN.{length, getD, take, drop}
 use lib.Seq.{take-nil, drop-nil, drop-cons, getD-drop}
 use Rattle.buffer.specs.Bytes.{slice}
-use Rattle.lists.specs.Lists.{without, tabulate}
+use Rattle.lists.specs.Lists.{withoutPlaces, tabulate}
 use Rattle.entry.specs.Entry.{Entry, unused}
 use Rattle.mailbox.specs.Layout.{routes, bodies}
 
@@ -51,8 +51,8 @@ module _ (f g h : Entry → ℕ) where
 
   -- the entries from a up to b are taken out
   pub triples-without : (a b : ℕ) (l : List Entry) → a ≤ b
-      → triples f g h (without a b l) ≡ take (3 * a) (triples f g h l) ++ drop (3 * a + 3 * (b - a)) (triples f g h l)
-  unfolding without
+      → triples f g h (withoutPlaces a b l) ≡ take (3 * a) (triples f g h l) ++ drop (3 * a + 3 * (b - a)) (triples f g h l)
+  unfolding withoutPlaces
   triples-without a b l order =
       let both : 3 * b ≡ 3 * a + 3 * (b - a) = omega arith in
       triples-append (take a l) (drop b l) ∙ rw (triples-take a l, triples-drop b l, both) refl

@@ -8,7 +8,7 @@ ghost use mathlib.Core.List.{List, [], _∷_, _++_, map};
 ghost use Prim.Native.Nat.{_≤_, _<_};
 ghost use lib.Dec.{eqb};
 ghost use lib.ListN.{length};
-ghost use Rattle.lists.specs.Lists.{removeAt, without};
+ghost use Rattle.lists.specs.Lists.{removeAt, withoutPlaces};
 ghost use Rattle.message.specs.declared.Message.{Message};
 ghost use Rattle.message.specs.Outbox.{message, outboxOf};
 ghost use Rattle.entry.specs.Entry.{Entry, width, toItem, sent, earliest, seenByItem, seenBySession};
@@ -162,10 +162,10 @@ pub fn message_to_session(m: &[u8], k: usize) -> Message
     message(m, k, ITEM_SIDE)
 }
 
-// Takes the entries from a up to b out; the rest close up.
+// Takes out the entries from place a on and before place b; the rest close up.
 pub fn cut(m: &mut [u8], a: usize, b: usize)
     requires { ⌜ Kept (now m) × (a ≤ b) × (b ≤ countOf (now m)) ⌝ }
-    ensures { λ _. ⌜ now (m .exit) ≡ mailBytes (capacityOf (now (m .entry))) (without a b (entriesOf (now (m .entry)))) ⌝ }
+    ensures { λ _. ⌜ now (m .exit) ≡ mailBytes (capacityOf (now (m .entry))) (withoutPlaces a b (entriesOf (now (m .entry)))) ⌝ }
 {
     let c = capacity(m);
     let n = count(m);

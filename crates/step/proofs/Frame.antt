@@ -5,7 +5,7 @@ use mathlib.Core.List.{List, [], _∷_, _++_, map}
 use mathlib.Core.Logic.{_≢_, _⊎_, inl, inr}
 use Prim.Native.Nat.{ℕ, _≤_}
 use lib.Dec.{eqb}
-use lib.ListN.{length, getD, drop}
+use lib.ListN.{length, getD, drop, length-map}
 use Rattle.lists.specs.Lists.{filter, findIndex, removeAt}
 use Rattle.lists.proofs.Laws.{filter-append, findIndex-none, filter-first, filter-others}
 use Rattle.lists.proofs.Tests.{by-answer}
@@ -13,6 +13,7 @@ use Rattle.message.specs.declared.Message.{Message}
 use Rattle.session.specs.declared.Session.{Session}
 use Rattle.session.proofs.WellFormed.{held-fits}
 use Rattle.item.specs.declared.Event.{Event}
+use Rattle.item.specs.declared.Event.the-variants.{Nothing}
 use Rattle.item.specs.declared.Item.{Item}
 use Rattle.item.specs.Record.{packed}
 use Rattle.item.specs.Rules as Rules
@@ -28,7 +29,7 @@ use Rattle.waits.proofs.Changes.{cycle-length-same}
 use Rattle.step.specs.Step as Step
 use Rattle.step.specs.Step.{Plan, delivered, itemReceives, sessionActs, plan}
 use Rattle.step.specs.Parts.{Judged, Unhindered}
-use Rattle.step.specs.Frame.{Party, session, item, actor, routeSender, sender, receiver, takes, Touches}
+use Rattle.step.specs.Frame.{Party, session, item, actor, routeSender, sender, receiver, takes, sentBy, Touches}
 use Rattle.step.proofs.Acting.{item-acts, session-acts}
 use Rattle.step.proofs.Form.{item-keeps, session-keeps}
 
@@ -114,13 +115,8 @@ unfolding delivered takes
 delivered-first verb t x l = delivered-by (eqb verb Step.deliverToItem) (eqb verb Step.deliverToSession) t x l
 
 module _ (senior : ℕ → ℕ → Bool) (verb t x : ℕ) (table : List ℕ) (l : List Entry) where
-  -- what a step sends
-  unfoldable pub sent : List Entry
-  sent =
-      let e = getD l (delivered verb t x l) unused in
-      cond (eqb verb Step.deliverToItem)
-      (map (fromItem x) (itemReceives senior (locks table x) e .sends))
-      (map (fromSession t) (sessionActs senior verb t x (Table.session table t) e .sends))
+  abbrev sent : List Entry
+  sent = sentBy senior verb t x table l
 
   abbrev remaining : List Entry
   remaining = removeAt (findIndex (takes verb t x) l) l
@@ -128,12 +124,12 @@ module _ (senior : ℕ → ℕ → Bool) (verb t x : ℕ) (table : List ℕ) (l 
   abbrev taken : Entry
   taken = getD l (delivered verb t x l) unused
 
-  sent-item : eqb verb Step.deliverToItem ≡ true → sent ≡ map (fromItem x) (itemReceives senior (locks table x) taken .sends)
-  unfolding sent
+  pub sent-item : eqb verb Step.deliverToItem ≡ true → sent ≡ map (fromItem x) (itemReceives senior (locks table x) taken .sends)
+  unfolding sentBy
   sent-item e = rw (e) refl
 
-  sent-session : eqb verb Step.deliverToItem ≡ false → sent ≡ map (fromSession t) (sessionActs senior verb t x (Table.session table t) taken .sends)
-  unfolding sent
+  pub sent-session : eqb verb Step.deliverToItem ≡ false → sent ≡ map (fromSession t) (sessionActs senior verb t x (Table.session table t) taken .sends)
+  unfolding sentBy
   sent-session e = rw (e) refl
 
   -- the entries after it: those before, without the first that it takes, then what it sends
@@ -143,6 +139,19 @@ module _ (senior : ℕ → ℕ → Bool) (verb t x : ℕ) (table : List ℕ) (l 
       (λ e. ap (λ (p : Plan). p .entries) (item-acts senior verb t x table l e) ∙ ap (λ (r : List Entry). removeAt (delivered verb t x l) l ++ r) (sym (sent-item e)))
       (λ e. ap (λ (p : Plan). p .entries) (session-acts senior verb t x table l e) ∙ ap (λ (r : List Entry). removeAt (delivered verb t x l) l ++ r) (sym (sent-session e)))
       ∙ ap (λ (k : ℕ). removeAt k l ++ sent) (delivered-first verb t x l)
+
+  -- how many it sends, and what happens at it
+  pub sent-number : plan senior verb t x table l .sent ≡ length sent
+  sent-number =
+      by-answer (eqb verb Step.deliverToItem)
+      (λ e. ap (λ (p : Plan). p .sent) (item-acts senior verb t x table l e) ∙ sym (length-map (itemReceives senior (locks table x) taken .sends) (fromItem x)) ∙ ap length (sym (sent-item e)))
+      (λ e. ap (λ (p : Plan). p .sent) (session-acts senior verb t x table l e) ∙ sym (length-map (sessionActs senior verb t x (Table.session table t) taken .sends) (fromSession t)) ∙ ap length (sym (sent-session e)))
+
+  pub item-event : eqb verb Step.deliverToItem ≡ true → plan senior verb t x table l .event ≡ itemReceives senior (locks table x) taken .event
+  item-event e = ap (λ (p : Plan). p .event) (item-acts senior verb t x table l e)
+
+  pub session-event : eqb verb Step.deliverToItem ≡ false → plan senior verb t x table l .event ≡ Nothing
+  session-event e = ap (λ (p : Plan). p .event) (session-acts senior verb t x table l e)
 
   -- the entries of a route: one that it takes from, and any other
   module _ (D T X : ℕ) where
@@ -173,8 +182,8 @@ module _ (D T X : ℕ) where
       (λ q. let r = route-facts D T X (f m) q in inr (rw (sym (r .direction), sym (r .session), sym (r .item)) (own m)))
       (λ q. rw (q) (all-from p f own l))
 
-  pub sent-own : (senior : ℕ → ℕ → Bool) (verb t x : ℕ) (table : List ℕ) (l : List Entry) → SentFrom (actor verb t x) (sent senior verb t x table l)
-  unfolding sent actor
+  pub sent-own : (senior : ℕ → ℕ → Bool) (verb t x : ℕ) (table : List ℕ) (l : List Entry) → SentFrom (actor verb t x) (sentBy senior verb t x table l)
+  unfolding sentBy actor
   sent-own senior verb t x table l =
       let e = getD l (delivered verb t x l) unused in
       by-answer (eqb verb Step.deliverToItem)

@@ -1,13 +1,15 @@
--- What a step touches: the record of its party, and entries of routes to and from that party. No part of the promise.
+-- What a step touches: the record of its party, and entries of routes to and from that party. For the laws in proofs/Frame.antt; no part of the promise.
 use Prim.Native.Nat.{ℕ, _≤_}
 use mathlib.Core.Path.{_≡_}
 use mathlib.Core.Bool.{Bool, false, cond}
-use mathlib.Core.List.{List}
+use mathlib.Core.List.{List, map}
 use mathlib.Core.Logic.{_≢_}
 use lib.Dec.{eqb}
-use Rattle.mailbox.specs.Entry.{Entry, toItem, toSession, onRoute}
+use lib.ListN.{getD}
+use Rattle.mailbox.specs.Entry.{Entry, unused, toItem, toSession, onRoute, fromSession, fromItem}
 use Rattle.table.specs.Layout as Table
-use Rattle.step.specs.Step.{deliverToItem, deliverToSession}
+use Rattle.waits.specs.OnTable.{locks}
+use Rattle.step.specs.Step.{deliverToItem, deliverToSession, delivered, itemReceives, sessionActs}
 
 -- the parties of the messages
 pub data Party : Type 0 where
@@ -32,6 +34,14 @@ unfoldable pub takes : ℕ → ℕ → ℕ → Entry → Bool
 takes verb t x e =
     cond (eqb verb deliverToItem) (onRoute toItem t x e)
     (cond (eqb verb deliverToSession) (onRoute toSession t x e) false)
+
+-- what it sends, by a seniority
+unfoldable pub sentBy : (ℕ → ℕ → Bool) → ℕ → ℕ → ℕ → List ℕ → List Entry → List Entry
+sentBy senior verb t x table entries =
+    let e = getD entries (delivered verb t x entries) unused in
+    cond (eqb verb deliverToItem)
+    (map (fromItem x) (itemReceives senior (locks table x) e .sends))
+    (map (fromSession t) (sessionActs senior verb t x (Table.session table t) e .sends))
 
 -- every record but that of one party stands as before, and so does what start was given
 pub record Touches (p : Party) (table after : List ℕ) : Type 0 where

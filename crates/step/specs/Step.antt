@@ -60,7 +60,7 @@ delivered verb t x entries =
     cond (eqb verb deliverToItem) (earliest toItem t x entries)
     (cond (eqb verb deliverToSession) (earliest toSession t x entries) (length entries))
 
--- what an item does on the entry that is delivered to it, and what session T does: by the seniority, its own record and that entry alone
+-- what an item does on the entry that is delivered to it, and what session T does: by the seniority, its own record and number, and that entry alone
 abbrev pub itemReceives : (ℕ → ℕ → Bool) → Lock → Entry → Item.After
 itemReceives senior lock e = Item.received senior (nextHolder senior) lock (seenByItem e)
 

@@ -1,4 +1,4 @@
--- The bytes of the table: S, M, then the session records, then the item records, then a rank for each session. RULES is docs/RULES.md.
+-- The bytes of the table: S, M, then the session records and the item records, each with its tail, then a rank for each session. RULES is docs/RULES.md.
 use Prim.Native.Nat.{ℕ, _+_, _-_, _*_, _≤_}
 use mathlib.Core.Path.{_≡_}
 use mathlib.Core.Bool.{Bool, true, _&&_}

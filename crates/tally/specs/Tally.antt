@@ -14,7 +14,7 @@ added a rolled t =
       «rolled_back» = t .«rolled_back» + one rolled;
     }
 
--- the sums fit, whatever the answer: its cycles closed are a byte
+-- the sums fit, whatever is added: closed is one byte of an answer, the others count one at most
 pub record Fits (t : Tally) : Type 0 where
   pub closed-fits : t .closed + 255 < 2 ^ 64
   pub declared-fits : t .declared + 1 < 2 ^ 64

@@ -1,6 +1,6 @@
 -- Where none is spent, nothing goes.
 use mathlib.Core.Path.{sym}
-use Rattle.drain.proofs.Spent.{none-spent}
+use Rattle.drain.proofs.Gaps.{none-spent}
 use borrow.Author.Needs.{needs}
 use Rattle.drain.proofs.close_gap.Statement.{statement}
 use Rattle.drain.proofs.close_gap.Tie as tie

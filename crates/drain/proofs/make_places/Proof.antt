@@ -8,7 +8,7 @@ use Rattle.mailbox.specs.Layout.{capacityOf}
 use Rattle.mailbox.proofs.Laws.{kept-length}
 use Rattle.lists.proofs.Laws.{without-none}
 use Rattle.drain.specs.Parts.{inUse}
-use Rattle.drain.proofs.Spent.{left, length-left}
+use Rattle.drain.proofs.Gaps.{left, length-left}
 use borrow.Author.Needs.{needs}
 use Rattle.drain.proofs.make_places.Statement.{statement}
 use Rattle.drain.proofs.make_places.Tie as tie

@@ -7,7 +7,7 @@ use borrow.Author.Tests.{le-leb, lt-leb}
 use Rattle.mailbox.specs.Layout.{capacityOf}
 use Rattle.mailbox.proofs.Laws.{kept-length}
 use Rattle.drain.specs.Parts.{inUse}
-use Rattle.drain.proofs.Spent.{length-left}
+use Rattle.drain.proofs.Gaps.{length-left}
 use borrow.Author.Needs.{needs}
 use Rattle.drain.proofs.room_refusal.Statement.{statement}
 use Rattle.drain.proofs.room_refusal.Tie as tie

@@ -7,8 +7,8 @@ use Rattle.table.specs.Layout as Table
 use Rattle.mailbox.specs.Layout.{Kept}
 use Rattle.mailbox.proofs.Laws.{formed-kept}
 use Rattle.step.specs.Step.{Formed}
-use Rattle.drain.specs.Parts.{pending, Spent}
-use Rattle.drain.proofs.Spent.{none-spent}
+use Rattle.drain.specs.Parts.{closedUp, GapIn}
+use Rattle.drain.proofs.Gaps.{none-spent}
 use Rattle.lockmgr.specs.Run.{buffers}
 use Rattle.lockmgr.specs.Parts.{Turned, Ahead, Ended}
 use Rattle.lockmgr.proofs.Judging.{buffers-zero}
@@ -19,9 +19,9 @@ use Rattle.lockmgr.proofs.deliver_all.Tie as tie
 
 abbrev Inv-loop : tie.InvT-loop
 Inv-loop limit table₀ mail₀ ending₀ made₀ gap₀ table mail ending made gap =
-    (length table ≡ length table₀) × (length mail ≡ length mail₀) × (gap .from ≡ 0) × Spent gap mail × Formed table (pending gap mail)
-    × (ending ≡ 0 → Ahead limit made (buffers table₀ mail₀) (buffers table (pending gap mail)))
-    × ((ending ≡ 0 → ⊥) → Ended limit made ending (buffers table₀ mail₀) (buffers table (pending gap mail)))
+    (length table ≡ length table₀) × (length mail ≡ length mail₀) × (gap .from ≡ 0) × GapIn gap mail × Formed table (closedUp gap mail)
+    × (ending ≡ 0 → Ahead limit made (buffers table₀ mail₀) (buffers table (closedUp gap mail)))
+    × ((ending ≡ 0 → ⊥) → Ended limit made ending (buffers table₀ mail₀) (buffers table (closedUp gap mail)))
     × (made ≤ limit)
 
 -- one more while the drain goes on
@@ -51,13 +51,13 @@ loop-less c =
     let s = c .before .before .before .before .before .before .before .before .before .before .before .before in
     let l = c .before .before .before .before .before .before .before .before .before .loop in
     let test = c .before .before .before .before .before .before .before .before .loop-test .taken in
-    omega (arith, test, turn-nearer (s .args .limit) (l .made) (buffers (s .args .table .now) (s .args .mail .now)) (buffers (l .table) (pending (l .gap) (l .mail))) (l .inv .5 test) _ (c .before .before .before .before .before .take-turn .ensures .2))
+    omega (arith, test, turn-nearer (s .args .limit) (l .made) (buffers (s .args .table .now) (s .args .mail .now)) (buffers (l .table) (closedUp (l .gap) (l .mail))) (l .inv .5 test) _ (c .before .before .before .before .before .take-turn .ensures .2))
 
 loop-again : tie.Need-loop-again Inv-loop μ-loop
 loop-again c =
     let s = c .before .before .before .before .before .before .before .before .before .before .before .before in
     let l = c .before .before .before .before .before .before .before .before .before .loop in
-    let b = buffers (l .table) (pending (l .gap) (l .mail)) in
+    let b = buffers (l .table) (closedUp (l .gap) (l .mail)) in
     let t = c .before .before .before .before .before .take-turn in
     let after = turn-taken (s .args .limit) (l .made) (buffers (s .args .table .now) (s .args .mail .now)) b (l .inv .5 (c .before .before .before .before .before .before .before .before .loop-test .taken)) _ (t .ensures .2) in
     (t .kept .1 .1 .1 .0 ∙ l .inv .0, t .kept .1 .1 .1 .1 .0 ∙ l .inv .1, t .ensures .0, t .ensures .1, subst (λ (t : Turned). Formed (t .left .table) (t .left .mail)) (sym (t .ensures .2)) (turn-formed (s .args .limit) (l .made) b (l .inv .4)), after .0, after .1, after .2)
@@ -75,7 +75,7 @@ returns : tie.Need-returns Inv-loop μ-loop
 returns c =
     let s = c .before .before .before .before .before .before .before .before .before in
     let l = c .before .before .before .before .before .before .loop in
-    rw (c .accepted .ensures, c .before .before .before .close-gap .ensures) (drained (s .args .limit) (s .args .table .now) (s .args .mail .now) (s .pre) (l .made) (l .ending) (buffers (l .table) (pending (l .gap) (l .mail))) (l .inv .6 (c .before .before .before .before .before .loop-test .left)))
+    rw (c .accepted .ensures, c .before .before .before .close-gap .ensures) (drained (s .args .limit) (s .args .table .now) (s .args .mail .now) (s .pre) (l .made) (l .ending) (buffers (l .table) (closedUp (l .gap) (l .mail))) (l .inv .6 (c .before .before .before .before .before .loop-test .left)))
 
 pub deliver-all-spec : {M : Type 1} → statement M
 deliver-all-spec =

@@ -10,16 +10,16 @@ use Rattle.mailbox.specs.Entry.{Entry, unused}
 use Rattle.mailbox.specs.Layout.{Kept, capacityOf, countOf, entryAt, entriesOf, mailBytes}
 use Rattle.mailbox.proofs.Laws as MailLaws
 use Rattle.drain.specs.declared.Gap.{Gap}
-use Rattle.drain.specs.Parts.{inUse, pending, longer, Spent, Placed}
+use Rattle.drain.specs.Parts.{inUse, closedUp, longer, GapIn, Placed}
 
 -- a mailbox of the entries in use
 pub record Left (g : Gap) (mail : List ℕ) : Type 0 where
-  pub kept : Kept (pending g mail)
-  pub capacity : capacityOf (pending g mail) ≡ capacityOf mail
-  pub entries : entriesOf (pending g mail) ≡ inUse g mail
-  pub count : countOf (pending g mail) ≡ countOf mail - (g .to - g .from)
+  pub kept : Kept (closedUp g mail)
+  pub capacity : capacityOf (closedUp g mail) ≡ capacityOf mail
+  pub entries : entriesOf (closedUp g mail) ≡ inUse g mail
+  pub count : countOf (closedUp g mail) ≡ countOf mail - (g .to - g .from)
 
-module _ (g : Gap) (mail : List ℕ) (s : Spent g mail) where
+module _ (g : Gap) (mail : List ℕ) (s : GapIn g mail) where
   within : g .to ≤ length (entriesOf mail)
   within = omega (arith, MailLaws.length-entries mail, s .inside)
 
@@ -44,21 +44,21 @@ module _ (g : Gap) (mail : List ℕ) (s : Spent g mail) where
     behind : g .to < length (entriesOf mail)
     behind = omega (arith, MailLaws.length-entries mail, some)
 
-    pub some-left : g .from < countOf (pending g mail)
+    pub some-left : g .from < countOf (closedUp g mail)
     some-left = omega (arith, left .count, s .order, some)
 
-    pub entry-left : entryAt (pending g mail) (g .from) ≡ entryAt mail (g .to)
+    pub entry-left : entryAt (closedUp g mail) (g .from) ≡ entryAt mail (g .to)
     entry-left =
-        sym (MailLaws.getD-entries (pending g mail) (g .from) some-left)
+        sym (MailLaws.getD-entries (closedUp g mail) (g .from) some-left)
         ∙ ap (λ (l : List Entry). getD l (g .from) unused) (left .entries)
         ∙ getD-without (g .from) (g .to) (entriesOf mail) (s .order) behind unused
         ∙ MailLaws.getD-entries mail (g .to) some
 
-    pub others-left : removeAt (g .from) (entriesOf (pending g mail)) ≡ inUse (longer g) mail
+    pub others-left : removeAt (g .from) (entriesOf (closedUp g mail)) ≡ inUse (longer g) mail
     others-left = ap (removeAt (g .from)) (left .entries) ∙ without-more (g .from) (g .to) (entriesOf mail) (s .order) behind unused
 
 -- none is spent
-pub none-spent : (g : Gap) (mail : List ℕ) → g .from ≡ g .to → Kept mail → pending g mail ≡ mail
+pub none-spent : (g : Gap) (mail : List ℕ) → g .from ≡ g .to → Kept mail → closedUp g mail ≡ mail
 none-spent g mail e kept = rw (e, without-none (g .to) (entriesOf mail)) (sym (kept .bytes))
 
 -- entries were added where places had been made
@@ -73,7 +73,7 @@ module _ (g : Gap) (n : ℕ) (h : Gap) (before after : List ℕ) (p : Placed g n
   fits : length all ≤ capacityOf after
   fits = omega (arith, added, p .free)
 
-  pub filled-spent : Spent h filled
+  pub filled-spent : GapIn h filled
   filled-spent =
       let k = p .spent .kept in
       rw (e)
@@ -83,7 +83,7 @@ module _ (g : Gap) (n : ℕ) (h : Gap) (before after : List ℕ) (p : Placed g n
         inside = rw (MailLaws.count-mail (capacityOf after) all (k .low) (k .high) fits) (omega (arith, added, p .spent .inside));
       })
 
-  pub filled-left : pending h filled ≡ mailBytes (capacityOf before) (inUse g before ++ l)
+  pub filled-left : closedUp h filled ≡ mailBytes (capacityOf before) (inUse g before ++ l)
   filled-left =
       let k = p .spent .kept in
       rw (e, MailLaws.capacity-mail (capacityOf after) all (k .low) (k .high) fits, MailLaws.entries-mail (capacityOf after) all (k .low) (k .high) fits, without-append (h .from) (h .to) (entriesOf after) (p .spent .order) (within h after (p .spent)) l, p .capacity, p .entries) refl
