@@ -95,7 +95,7 @@ module _ (input : List ℕ) (w : wellFormed input ≡ true) where
   abbrev given : Config
   given = config (sessionsIn input) (itemsIn input) capacity (plain (sessionsIn input))
 
-  bounded : Table.Bounded (given .table)
+  bounded : Table.Bounded (given .kept)
   bounded =
       let k = known input w in
       record {
@@ -115,7 +115,7 @@ module _ (input : List ℕ) (w : wellFormed input ≡ true) where
 
   -- its lock manager starts, in any buffers of the right sizes
   abbrev begun : List ℕ
-  begun = Table.started (given .table)
+  begun = Table.started (given .kept)
 
   starts : (table mail : List ℕ) → length table ≡ Table.size (sessionsIn input) (itemsIn input) → length mail ≡ Mail.size capacity
       → start given table mail ≡ startResult 0 begun (Mail.mailBytes capacity [])
@@ -133,9 +133,9 @@ module _ (input : List ℕ) (w : wellFormed input ≡ true) where
   formed-start =
       let S = sessionsIn input in
       let M = itemsIn input in
-      let stands = configOf-started (given .table) bounded in
+      let stands = configOf-started (given .kept) bounded in
       record {
-        records = record { sized = sized-started (given .table) bounded; formed = wellFormed-started (given .table) bounded (plain-formed S) };
+        records = record { sized = sized-started (given .kept) bounded; formed = wellFormed-started (given .kept) bounded (plain-formed S) };
         mail-sized = sized-mail capacity [] (omega arith) (omega arith) zero-le;
         mail-formed =
             rw (ap (λ (c : Table.Config). c .sessions) stands, ap (λ (c : Table.Config). c .items) stands) (wellFormed-mail capacity [] (omega arith) (omega arith) zero-le S M refl);
