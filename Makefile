@@ -23,6 +23,7 @@
 #                      same calls, byte for byte: BEFORE=path/to/liblockmgr.a
 #   make picture       draws docs/cycle.svg anew (needs Graphviz)
 #   make format        lays out all sources anew; make format-check only looks
+#   make links         looks whether the links and paths in the documents lead somewhere
 #   make clean         removes what was built
 #
 # LIB=path takes another library than the one made from the proved crates.
@@ -67,7 +68,7 @@ C_TESTS := asan helpers room
 
 .NOTPARALLEL:
 .PHONY: help test proofs demo replay statement lib install model compare replays statements ctest workers \
-	install-test replay-test statement-test fuzz bench earlier picture format format-check clean FORCE
+	install-test replay-test statement-test fuzz bench earlier picture format format-check links clean FORCE
 
 # The lines above, up to the first that is no comment.
 help:
@@ -75,7 +76,7 @@ help:
 
 # The crates are proved first, and the tests run on the library of what was proved. The prover's verdict
 # is repeated as the last line.
-test: format-check model proofs compare replays statements ctest workers install-test replay-test \
+test: format-check links model proofs compare replays statements ctest workers install-test replay-test \
 	statement-test demo
 	@tail -n 1 build/proofs.log
 
@@ -234,6 +235,9 @@ format-check:
 	@if command -v clang-format > /dev/null; then \
 		clang-format --dry-run -Werror $(C_FILES); \
 	else echo "no clang-format here: the layout of the C files is not checked"; fi
+
+links:
+	@scripts/check-links
 
 clean:
 	rm -rf build target
