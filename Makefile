@@ -6,7 +6,7 @@
 #   make lib           the library for C: build/lib/liblockmgr.a, liblockmgr.so and build/include
 #   make install       header, libraries and pkg-config file: PREFIX=/usr/local DESTDIR=
 #   make proofs        every proof and every must-fail edit alone
-#   make model         the tests of the Rust model
+#   make model         the tests of the Rust model, and that they notice misreadings of the rules
 #   make compare       library and model on the same calls, byte for byte
 #   make replays       the replay program and the model on the same inputs, byte for byte
 #   make statements    the statement program and the model on the same inputs, byte for byte
@@ -55,6 +55,7 @@ export CARGO_TARGET_DIR := $(CURDIR)/build/cargo
 export LOCKMGR_LIB := $(abspath $(LIB))
 
 CARGO_MODEL := --manifest-path model/Cargo.toml --release --offline --quiet
+CARGO_MISREAD := --manifest-path misread/Cargo.toml --release --offline --quiet
 CARGO_COMPARE := --manifest-path compare/Cargo.toml --release --offline --quiet
 
 PROVED := crates.txt $(shell find crates -type f -not -path '*/must-fail/*')
@@ -145,6 +146,7 @@ demo: build/bin/two_sessions
 
 model:
 	cargo test $(CARGO_MODEL)
+	cargo test $(CARGO_MISREAD)
 
 compare: $(LIB)
 	cargo test $(CARGO_COMPARE) --test comparison
@@ -219,19 +221,18 @@ picture:
 		> build/replay.txt
 	dot -Tsvg build/cycle.dot -o docs/cycle.svg
 
+RUST := model misread compare
 C_FILES := $(wildcard include/*.h examples/*.c tests/*.[ch] tools/*.c)
 
 format:
 	rt fmt
-	cargo fmt --manifest-path model/Cargo.toml
-	cargo fmt --manifest-path compare/Cargo.toml
+	for package in $(RUST); do cargo fmt --manifest-path $$package/Cargo.toml; done
 	clang-format -i $(C_FILES)
 
 # Without clang-format the C files are not looked at.
 format-check:
 	@rt fmt --check
-	@cargo fmt --check --manifest-path model/Cargo.toml
-	@cargo fmt --check --manifest-path compare/Cargo.toml
+	@set -e; for package in $(RUST); do cargo fmt --check --manifest-path $$package/Cargo.toml; done
 	@if command -v clang-format > /dev/null; then \
 		clang-format --dry-run -Werror $(C_FILES); \
 	else echo "no clang-format here: the layout of the C files is not checked"; fi

@@ -16,7 +16,7 @@ use model::layout::{
     TABLE_ITEMS, TABLE_SESSIONS,
 };
 use model::scenario::Random;
-use model::{Answer, Config, Drained, Ending, Misreading, Ranks, Refusal, ACCEPTED};
+use model::{Answer, Config, Drained, Ending, Ranks, Refusal, ACCEPTED, RULES};
 
 type Outcome = Result<(), String>;
 type Case = fn(&mut Comparison, &mut Random) -> Outcome;
@@ -157,7 +157,7 @@ impl Started {
         let drained = comparison.drain(limit, after)?;
         let counted = self.demand3;
         self.demand3.after_drain(
-            Misreading::None,
+            &RULES,
             limit,
             drained,
             (&before.table, &before.mail),

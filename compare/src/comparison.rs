@@ -1,7 +1,6 @@
 //! One call to the subject and to the model, on equal bytes: answers, all
 //! buffers and the bytes beside them are compared.
 
-use crate::calls::Calls;
 use crate::coverage::Coverage;
 use crate::numbers::{DELIVER_TO_ITEM, DELIVER_TO_SESSION, GROWING, TO_ITEM};
 use model::layout::{
@@ -9,7 +8,7 @@ use model::layout::{
     HELD, MAIL_CAPACITY, MAIL_COUNT, MAIL_HEADER, QUEUE, QUEUE_LENGTH, ROUTE_ITEM, ROUTE_SESSION,
     ROUTE_SIZE, STAGE, TABLE_HEADER, TABLE_ITEMS, TABLE_SESSIONS,
 };
-use model::{Answer, Config, Cycle, Drained, Text, ACCEPTED};
+use model::{Answer, Calls, Config, Cycle, Drained, Text, ACCEPTED};
 use std::fmt::Debug;
 
 /// The two buffers of a lock manager.

@@ -13,7 +13,7 @@ use model::layout::{
     TABLE_ITEMS, TABLE_SESSIONS,
 };
 use model::mailbox::count;
-use model::{Answer, Config, Cycle, Drained, Ending, Refusal, Text, Verb, ACCEPTED};
+use model::{Answer, Calls, Config, Cycle, Drained, Ending, Refusal, Text, Verb, ACCEPTED};
 
 type SessionBytes = [u8; SESSION_SIZE];
 type ItemBytes = [u8; ITEM_SIZE];
@@ -356,7 +356,7 @@ fn cycle_length(table: &[u8], size: Size, session: u8) -> u8 {
     0
 }
 
-pub fn start(config: &Config, table: &mut [u8], mail: &mut [u8]) -> u8 {
+fn start(config: &Config, table: &mut [u8], mail: &mut [u8]) -> u8 {
     let numbers = (
         within(config.sessions, MAX_SESSIONS),
         within(config.items, MAX_ITEMS),
@@ -395,7 +395,7 @@ fn judge_reading(session: u64, table: &[u8]) -> Result<(Size, u8), Refusal> {
     Ok((size, session as u8))
 }
 
-pub fn report(session: u64, table: &[u8]) -> Cycle {
+fn report(session: u64, table: &[u8]) -> Cycle {
     match judge_reading(session, table) {
         Ok((size, session)) => Cycle {
             refusal: ACCEPTED,
@@ -408,7 +408,7 @@ pub fn report(session: u64, table: &[u8]) -> Cycle {
     }
 }
 
-pub fn cycle_text(session: u64, table: &[u8], text: &mut [u8]) -> Text {
+fn cycle_text(session: u64, table: &[u8], text: &mut [u8]) -> Text {
     match try_cycle_text(session, table, text) {
         Ok(length) => Text {
             refusal: ACCEPTED,
@@ -488,7 +488,7 @@ fn put_number(text: &mut [u8], number: u8) -> &mut [u8] {
     }
 }
 
-pub fn step(verb: u64, session: u64, item: u64, table: &mut [u8], mail: &mut [u8]) -> Answer {
+fn step(verb: u64, session: u64, item: u64, table: &mut [u8], mail: &mut [u8]) -> Answer {
     try_step(verb, session, item, table, mail).unwrap_or_else(|refusal| Answer {
         refusal: refusal as u8,
         ..Answer::default()
@@ -583,7 +583,7 @@ fn judge(table: &[u8], mail: &[u8]) -> Result<(Size, usize), Refusal> {
     Ok((size, capacity))
 }
 
-pub fn drain(limit: u64, table: &mut [u8], mail: &mut [u8]) -> Drained {
+fn drain(limit: u64, table: &mut [u8], mail: &mut [u8]) -> Drained {
     try_drain(limit, table, mail).unwrap_or_else(|refusal| Drained {
         refusal: refusal as u8,
         ..Drained::default()
@@ -634,7 +634,7 @@ fn try_drain(limit: u64, table: &mut [u8], mail: &mut [u8]) -> Result<Drained, R
     })
 }
 
-pub fn reopen(session: u64, table: &mut [u8], mail: &[u8]) -> u8 {
+fn reopen(session: u64, table: &mut [u8], mail: &[u8]) -> u8 {
     match try_reopen(session, table, mail) {
         Ok(()) => ACCEPTED,
         Err(refusal) => refusal as u8,
@@ -959,5 +959,34 @@ fn append(
         };
         route.copy_from_slice(&[direction, session, item]);
         body.copy_from_slice(&[kind, a, b]);
+    }
+}
+
+/// The same rules as the model's, written for speed.
+pub struct Fast;
+
+impl Calls for Fast {
+    fn start(&self, config: &Config, table: &mut [u8], mail: &mut [u8]) -> u8 {
+        start(config, table, mail)
+    }
+
+    fn step(&self, v: u64, s: u64, i: u64, table: &mut [u8], mail: &mut [u8]) -> Answer {
+        step(v, s, i, table, mail)
+    }
+
+    fn report(&self, session: u64, table: &[u8]) -> Cycle {
+        report(session, table)
+    }
+
+    fn drain(&self, limit: u64, table: &mut [u8], mail: &mut [u8]) -> Drained {
+        drain(limit, table, mail)
+    }
+
+    fn cycle_text(&self, session: u64, table: &[u8], text: &mut [u8]) -> Text {
+        cycle_text(session, table, text)
+    }
+
+    fn reopen(&self, session: u64, table: &mut [u8], mail: &[u8]) -> u8 {
+        reopen(session, table, mail)
     }
 }

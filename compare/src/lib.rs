@@ -1,7 +1,6 @@
 //! The lock manager's library beside the Rust model: both get the same calls on
 //! the same bytes, and every answer and every byte left must be equal.
 
-pub mod calls;
 pub mod cases;
 pub mod comparison;
 pub mod coverage;

@@ -2,9 +2,8 @@
 //! linked with, or of one that is loaded, to have two side by side. The
 //! declarations of its calls are those of include/lockmgr.h.
 
-use crate::calls::Calls;
 use crate::comparison::Buffers;
-use model::{Answer, Config, Cycle, Drained, Text, ACCEPTED};
+use model::{Answer, Calls, Config, Cycle, Drained, Text, ACCEPTED};
 use std::ffi::{c_char, c_int, c_void, CStr, CString};
 use std::{mem, ptr};
 

@@ -1,10 +1,11 @@
 //! The comparison itself: it passes what answers like the model and finds what
 //! does not.
 
-use compare::calls::{Calls, Fast, Misread, Model};
 use compare::cases::{every_place, round};
 use compare::comparison::{Buffers, Comparison};
+use compare::fast::Fast;
 use compare::numbers::{delivered_direction, DELIVER_TO_ITEM, TO_ITEM, TO_SESSION};
+use misread::Misreading;
 use model::item::Item;
 use model::layout::{
     body_at, ranks_at, read_u16, route_at, session_at, AWAITED, BODY_SIZE, DIRECTION, KIND,
@@ -14,7 +15,7 @@ use model::mailbox::{count, kind, Body, Mailbox};
 use model::session::Session;
 use model::table::Table;
 use model::waits::{cycle_waits, text_of};
-use model::{Answer, Config, Cycle, Drained, Misreading, Ranks, Refusal, Text, ACCEPTED};
+use model::{Answer, Calls, Config, Cycle, Drained, Ranks, Refusal, Text, ACCEPTED, RULES};
 
 #[test]
 fn fast_answers_like_the_model() {
@@ -45,7 +46,7 @@ fn every_misreading_and_replaced_rule_is_found() {
     .into_iter()
     .flatten()
     {
-        let found = difference(Misread(misreading));
+        let found = difference(misreading);
         println!("{misreading:?}: {found:?}");
         assert!(found.is_some(), "{misreading:?}");
     }
@@ -488,7 +489,7 @@ impl Wrong {
 
 #[test]
 fn every_wrong_byte_is_found() {
-    assert_eq!(difference(Model), None);
+    assert_eq!(difference(RULES), None);
     for wrong in [
         Wrong::NarrowSession,
         Wrong::NarrowItem,

@@ -1,8 +1,8 @@
 //! The check of demand 3, as 01's section "What demand 3 counts" says it.
 
-use crate::calls::{deliver_as, report, Answer, Drained, Ending, Refusal, ACCEPTED};
+use crate::answers::{Answer, Drained, Ending, Refusal, ACCEPTED};
+use crate::calls::{deliver, report, Calls};
 use crate::mailbox::{count, Mailbox};
-use crate::misreading::Misreading;
 use crate::table::{rolled_back, Table};
 use crate::waits::{cycle_members, standing_cycles};
 
@@ -93,10 +93,10 @@ impl Demand3 {
 
     /// Takes a drain of the list, with its limit and both buffers before and
     /// after it. It "counts as those single steps, with their answers": they
-    /// are made again, by the rules or a misreading of them.
+    /// are made again, by whoever made the drain.
     pub fn after_drain(
         &mut self,
-        misreading: Misreading,
+        calls: &dyn Calls,
         limit: u64,
         drained: Drained,
         before: (&[u8], &[u8]),
@@ -118,7 +118,7 @@ impl Demand3 {
         let (mut table, mut mail) = (before.0.to_vec(), before.1.to_vec());
         for _ in 0..made {
             let (old_table, old_mail) = (table.clone(), mail.clone());
-            let answer = deliver_as(misreading, 0, &mut table, &mut mail)
+            let answer = deliver(calls, 0, &mut table, &mut mail)
                 .ok_or("a drain makes more deliveries than it can")?;
             if answer.refusal != ACCEPTED {
                 let refusal = answer.refusal;
@@ -129,7 +129,7 @@ impl Demand3 {
         if (&*table, &*mail) != after {
             return Err("a drain leaves other bytes than its single steps".to_string());
         }
-        let next = deliver_as(misreading, 0, &mut table, &mut mail);
+        let next = deliver(calls, 0, &mut table, &mut mail);
         let applies = match next.map(|answer| answer.refusal) {
             None => Ending::Empty,
             Some(ACCEPTED) => Ending::Limit,

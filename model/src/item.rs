@@ -1,8 +1,8 @@
 //! The item record and what an item does.
 
+use crate::branch::ItemBranch;
 use crate::layout::{distinct, within, HOLDER, MAX_SESSIONS, QUEUE, QUEUE_LENGTH};
 use crate::mailbox::Body;
-use crate::misreading::Misreading;
 use crate::ranks::Ranks;
 
 #[derive(Clone, PartialEq, Eq, Debug)]
@@ -22,6 +22,7 @@ pub struct Outcome {
     pub sends: ToSessions,
     /// Victim and initiator, if the item declares.
     pub declared: Option<(u8, u8)>,
+    pub branch: ItemBranch,
 }
 
 impl Item {
@@ -60,17 +61,6 @@ impl Item {
         bytes[QUEUE][..self.queue.len()].copy_from_slice(&self.queue);
     }
 
-    /// The choice of the next holder: its place in the queue. F-1: "a freed item
-    /// goes to the most senior session in its line".
-    fn next_holder(&self, ranks: &Ranks, misreading: Misreading) -> Option<usize> {
-        if misreading == Misreading::FirstInLine {
-            return (!self.queue.is_empty()).then_some(0);
-        }
-        ranks
-            .unless(misreading == Misreading::NextHolderByNumber)
-            .most_senior(&self.queue)
-    }
-
     /// "probe (R, holder) to the holder for each R in line senior to it".
     fn probes_of_queue(&self, ranks: &Ranks) -> ToSessions {
         self.queue
@@ -97,32 +87,32 @@ impl Item {
             .collect()
     }
 
-    fn gives(self, sends: ToSessions) -> Outcome {
+    fn gives(self, branch: ItemBranch, sends: ToSessions) -> Outcome {
         Outcome {
             item: self,
             sends,
             declared: None,
+            branch,
         }
     }
 
-    fn drops(self) -> Outcome {
-        self.gives(Vec::new())
+    fn drops(self, branch: ItemBranch) -> Outcome {
+        self.gives(branch, Vec::new())
     }
 
     /// "Item on delivery. Each record receives its message and gives back the
     /// record that follows." The message comes from session `from`.
-    pub fn receive(self, from: u8, body: Body, ranks: &Ranks, misreading: Misreading) -> Outcome {
+    pub fn receive(self, from: u8, body: Body, ranks: &Ranks) -> Outcome {
         match body {
             Body::Request => self.requested(from, ranks),
-            Body::Release => self.released(from, ranks, misreading),
-            Body::Probe { initiator, junior } => {
-                self.probed(from, initiator, junior, ranks, misreading)
-            }
+            Body::Release => self.released(from, ranks),
+            Body::Probe { initiator, junior } => self.probed(from, initiator, junior, ranks),
             Body::Clean { victim, initiator } => self.cleaned(from, victim, initiator, ranks),
             Body::Rebroadcast => self.rebroadcast(ranks),
             Body::Withdraw => self.withdraw(from),
-            // Well-formed mail brings an item no other kind.
-            Body::Grant | Body::Resend | Body::Abort { .. } | Body::Withdrawn => self.drops(),
+            Body::Grant | Body::Resend | Body::Abort { .. } | Body::Withdrawn => {
+                unreachable!("well-formed mail brings an item no {body:?}")
+            }
         }
     }
 
@@ -130,70 +120,71 @@ impl Item {
     /// grant to T. Else T joins the end; if T is senior to the holder, probe
     /// (T, holder) to the holder."
     fn requested(mut self, from: u8, ranks: &Ranks) -> Outcome {
-        if from == self.holder || self.queue.contains(&from) {
-            return self.drops();
+        if from == self.holder {
+            return self.drops(ItemBranch::RequestByHolder);
+        }
+        if self.queue.contains(&from) {
+            return self.drops(ItemBranch::RequestAgain);
         }
         if self.holder == 0 {
             self.holder = from;
-            return self.gives(vec![(from, Body::Grant)]);
+            return self.gives(ItemBranch::Granted, vec![(from, Body::Grant)]);
         }
         self.queue.push(from);
-        let sends = if ranks.senior(from, self.holder) {
-            vec![self.probe_of(from)]
-        } else {
-            Vec::new()
-        };
-        self.gives(sends)
+        if !ranks.senior(from, self.holder) {
+            return self.gives(ItemBranch::JoinsJunior, Vec::new());
+        }
+        let sends = vec![self.probe_of(from)];
+        self.gives(ItemBranch::JoinsSenior, sends)
     }
 
     /// "dropped unless T is holder. Empty line: no holder. Else [..] N, becomes
     /// holder and leaves the line; grant to N; then probe (R, N) to N for each
     /// remaining R senior to N; then resend to each remaining R; both in line
-    /// order." F-1: "N's place in the line closes up, and the others keep their
-    /// order."
-    fn released(mut self, from: u8, ranks: &Ranks, misreading: Misreading) -> Outcome {
+    /// order." F-1: "a freed item goes to the most senior session in its line", "N's
+    /// place in the line closes up, and the others keep their order."
+    fn released(mut self, from: u8, ranks: &Ranks) -> Outcome {
         if from != self.holder {
-            return self.drops();
+            return self.drops(ItemBranch::ReleaseByOther);
         }
-        let Some(place) = self.next_holder(ranks, misreading) else {
+        let Some(place) = ranks.most_senior(&self.queue) else {
             self.holder = 0;
-            return self.gives(Vec::new());
+            return self.gives(ItemBranch::Freed, Vec::new());
         };
         self.holder = self.queue.remove(place);
         let mut sends = vec![(self.holder, Body::Grant)];
         sends.extend(self.probes_of_queue(ranks));
         sends.extend(self.resends(None));
-        self.gives(sends)
+        self.gives(ItemBranch::NextHolder, sends)
     }
 
     /// "dropped if T is not in line, if no holder, or if the holder is senior
     /// to i. Holder junior to i: passed on to it. Holder is i: declared, abort
     /// (j, i) to j."
-    fn probed(
-        self,
-        from: u8,
-        initiator: u8,
-        junior: u8,
-        ranks: &Ranks,
-        misreading: Misreading,
-    ) -> Outcome {
-        let late = !self.queue.contains(&from) && misreading != Misreading::PassesLateProbe;
-        if late || self.holder == 0 || ranks.senior(self.holder, initiator) {
-            return self.drops();
+    fn probed(self, from: u8, initiator: u8, junior: u8, ranks: &Ranks) -> Outcome {
+        if !self.queue.contains(&from) {
+            return self.drops(ItemBranch::ProbeLate);
         }
-        if self.holder == initiator {
-            let abort = Body::Abort {
-                victim: junior,
-                initiator,
-            };
-            return Outcome {
-                item: self,
-                sends: vec![(junior, abort)],
-                declared: Some((junior, initiator)),
-            };
+        if self.holder == 0 {
+            return self.drops(ItemBranch::ProbeUnheld);
         }
-        let sends = vec![(self.holder, Body::Probe { initiator, junior })];
-        self.gives(sends)
+        if ranks.senior(self.holder, initiator) {
+            return self.drops(ItemBranch::ProbeEnds);
+        }
+        if self.holder != initiator {
+            let sends = vec![(self.holder, Body::Probe { initiator, junior })];
+            return self.gives(ItemBranch::ProbePassed, sends);
+        }
+        let abort = Body::Abort {
+            victim: junior,
+            initiator,
+        };
+        Outcome {
+            item: self,
+            sends: vec![(junior, abort)],
+            declared: Some((junior, initiator)),
+            branch: ItemBranch::Declared,
+        }
     }
 
     /// "dropped if no holder. Else clean to the holder, then probe (R, holder)
@@ -201,34 +192,32 @@ impl Item {
     /// line but T, both in line order."
     fn cleaned(self, from: u8, victim: u8, initiator: u8, ranks: &Ranks) -> Outcome {
         if self.holder == 0 {
-            return self.drops();
+            return self.drops(ItemBranch::CleanUnheld);
         }
         let mut sends = vec![(self.holder, Body::Clean { victim, initiator })];
         sends.extend(self.probes_of_queue(ranks));
         sends.extend(self.resends(Some(from)));
-        self.gives(sends)
+        self.gives(ItemBranch::CleanPassed, sends)
     }
 
     /// "dropped if no holder; the same probes, then resend to all in line, in
     /// the same order."
     fn rebroadcast(self, ranks: &Ranks) -> Outcome {
         if self.holder == 0 {
-            return self.drops();
+            return self.drops(ItemBranch::RebroadcastUnheld);
         }
         let mut sends = self.probes_of_queue(ranks);
         sends.extend(self.resends(None));
-        self.gives(sends)
+        self.gives(ItemBranch::Rebroadcast, sends)
     }
 
     /// "T leaves the line if there; withdrawn to T."
     fn withdraw(mut self, from: u8) -> Outcome {
+        let branch = match self.queue.contains(&from) {
+            true => ItemBranch::Withdrawn,
+            false => ItemBranch::WithdrawnBefore,
+        };
         self.queue.retain(|&waiting| waiting != from);
-        self.gives(vec![(from, Body::Withdrawn)])
-    }
-
-    /// F-7: whether the holder or the queue names a session.
-    pub fn names(&self, session: u8, misreading: Misreading) -> bool {
-        self.holder == session && misreading != Misreading::HolderUnseen
-            || self.queue.contains(&session) && misreading != Misreading::QueueUnseen
+        self.gives(branch, vec![(from, Body::Withdrawn)])
     }
 }

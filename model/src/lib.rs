@@ -6,13 +6,16 @@
 //! what follows. Comments in quotation marks are the words of 01, or of 02
 //! where the name of a request stands before them, as `F-1:`.
 
+pub mod answers;
+pub mod branch;
 pub mod calls;
 pub mod config;
 pub mod demand3;
 pub mod item;
 pub mod layout;
 pub mod mailbox;
-pub mod misreading;
+pub mod names;
+pub mod policy;
 pub mod ranks;
 pub mod replay;
 pub mod scenario;
@@ -21,12 +24,10 @@ pub mod statement;
 pub mod table;
 pub mod waits;
 
-pub use calls::{
-    cycle_text, cycle_text_as, drain, drain_as, reopen, reopen_as, report, start, start_as, step,
-    step_as, Answer, Cycle, Drained, Ending, Refusal, Text, Verb, ACCEPTED,
-};
+pub use answers::{Answer, Cycle, Drained, Ending, Refusal, Text, Verb, ACCEPTED};
+pub use calls::{cycle_text, drain, reopen, report, start, step, Calls};
 pub use config::Config;
-pub use misreading::Misreading;
+pub use policy::{Policy, RULES};
 pub use ranks::Ranks;
 pub use replay::replay;
-pub use statement::{statement, statement_as};
+pub use statement::statement;

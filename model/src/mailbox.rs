@@ -6,7 +6,6 @@ use crate::layout::{
     BODY_SIZE, DIRECTION, KIND, MAIL_CAPACITY, MAIL_COUNT, MAIL_HEADER, MAX_CAPACITY, MAX_ITEMS,
     MAX_SESSIONS, ROUTE_ITEM, ROUTE_SESSION, ROUTE_SIZE,
 };
-use crate::misreading::Misreading;
 
 /// "Direction 1 runs session to item, 2 item to session."
 #[derive(Clone, Copy, PartialEq, Eq, Debug)]
@@ -103,7 +102,7 @@ impl Body {
     }
 
     /// The a and b of the kinds in which they are sessions.
-    fn sessions(self) -> Option<(u8, u8)> {
+    pub fn sessions(self) -> Option<(u8, u8)> {
         match self {
             Body::Probe { initiator, junior } => Some((initiator, junior)),
             Body::Clean { victim, initiator } | Body::Abort { victim, initiator } => {
@@ -156,30 +155,15 @@ pub struct Message {
     pub body: Body,
 }
 
-impl Message {
-    /// F-7: whether it names a session, "in its route, a or b, where a and b are
-    /// sessions".
-    fn names(self, session: u8, misreading: Misreading) -> bool {
-        let in_route = self.route.session == session;
-        let in_body = self.body.sessions().is_some_and(|(a, b)| {
-            a == session && misreading != Misreading::UnseenAsA
-                || b == session && misreading != Misreading::UnseenAsB
-        });
-        in_route || in_body
-    }
-}
-
 /// The number of messages in the mail; "Mail is empty when its count is 0."
 pub fn count(mail: &[u8]) -> usize {
     read_u16(&mail[MAIL_COUNT]).into()
 }
 
 /// The route of the message at a place of well-formed mail, 0 being the oldest.
-pub fn route(mail: &[u8], place: usize) -> Option<Route> {
-    if place >= count(mail) {
-        return None;
-    }
-    Route::decode(&mail[route_at(place)], MAX_SESSIONS, MAX_ITEMS)
+pub fn route(mail: &[u8], place: usize) -> Route {
+    let route = Route::decode(&mail[route_at(place)], MAX_SESSIONS, MAX_ITEMS);
+    route.expect("a message of well-formed mail")
 }
 
 #[derive(Clone, PartialEq, Eq, Debug)]
@@ -247,11 +231,5 @@ impl Mailbox {
     pub fn take(&mut self, route: Route) -> Option<Body> {
         let place = self.messages.iter().position(|m| m.route == route)?;
         Some(self.messages.remove(place).body)
-    }
-
-    /// Whether a message names a session.
-    pub fn names(&self, session: u8, misreading: Misreading) -> bool {
-        let mut messages = self.messages.iter();
-        misreading != Misreading::MailUnseen && messages.any(|m| m.names(session, misreading))
     }
 }

@@ -1,7 +1,6 @@
 //! Seniority: the ranks of the sessions, and who is senior by them.
 
 use crate::layout::distinct;
-use crate::misreading::Misreading;
 
 /// The numbers of a byte, from 1 on.
 const NUMBERS: [u8; 255] = {
@@ -41,16 +40,8 @@ impl Ranks {
     /// The ranks of a list, if they are such numbers. S is the length of the
     /// list, which has been judged before.
     pub fn decode(list: &[u8]) -> Option<Ranks> {
-        Ranks::decode_as(Misreading::None, list)
-    }
-
-    /// The same by the rules, or by one misreading of them.
-    pub fn decode_as(misreading: Misreading, list: &[u8]) -> Option<Ranks> {
-        let first = usize::from(misreading != Misreading::AcceptsRank0);
-        let last = list.len() + usize::from(misreading == Misreading::AcceptsRankAbove);
-        let known = list.iter().all(|&r| (first..=last).contains(&r.into()));
-        let fits = known && (distinct(list) || misreading == Misreading::AcceptsRankTwice);
-        fits.then(|| Ranks(list.to_vec()))
+        let known = list.iter().all(|&r| (1..=list.len()).contains(&r.into()));
+        (known && distinct(list)).then(|| Ranks(list.to_vec()))
     }
 
     /// The ranks as they stand in a list, that of session 1 first.
@@ -80,33 +71,5 @@ impl Ranks {
     pub fn most_senior(&self, sessions: &[u8]) -> Option<usize> {
         let most = |&session: &u8| !sessions.iter().any(|&other| self.senior(other, session));
         sessions.iter().position(most)
-    }
-
-    /// As the rules of a step read them, or one misreading of them.
-    pub fn as_read(&self, misreading: Misreading) -> Ranks {
-        let mut ranks = self.unless(misreading == Misreading::SeniorByNumber);
-        match misreading {
-            Misreading::RanksReversed => {
-                let sum = ranks.0.len() as u8 + 1;
-                ranks.0.iter_mut().for_each(|rank| *rank = sum - *rank);
-            }
-            Misreading::RankOfNext => ranks.0.rotate_left(1),
-            _ => {}
-        }
-        ranks
-    }
-
-    /// A session's rank becomes its number, which only a misreading asks for.
-    pub fn reset(&mut self, session: u8) {
-        self.0[usize::from(session) - 1] = session;
-    }
-
-    /// These ranks, or the plain ones where a rule is misread.
-    pub fn unless(&self, misread: bool) -> Ranks {
-        if misread {
-            Ranks::plain(self.0.len())
-        } else {
-            self.clone()
-        }
     }
 }

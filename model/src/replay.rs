@@ -1,7 +1,8 @@
 //! The replay program, as a function from its standard input to its standard
 //! output.
 
-use crate::calls::{start, step, Answer};
+use crate::answers::Answer;
+use crate::calls::{start, step};
 use crate::config::Config;
 use crate::layout::{read_u16, within, MAX_CAPACITY, MAX_ITEMS, MAX_SESSIONS};
 use crate::mailbox::count;

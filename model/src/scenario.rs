@@ -2,11 +2,13 @@
 //! with demand 3 checked after every step and for every step of a drain. In some
 //! of them sessions are reopened, again and again.
 
-use crate::calls::{drain_as, reopen_as, start, step_as, Answer, Ending, Refusal, Verb, ACCEPTED};
+use crate::answers::{Answer, Ending, Refusal, Verb, ACCEPTED};
+use crate::calls::{start, Calls};
 use crate::config::Config;
 use crate::demand3::Demand3;
 use crate::mailbox::{count, Body, Mailbox, Message, Route};
-use crate::misreading::Misreading;
+use crate::names::by_message;
+use crate::policy::RULES;
 use crate::ranks::Ranks;
 use crate::session::Stage;
 use crate::table::Table;
@@ -187,9 +189,24 @@ const NARROW: u64 = 16;
 /// proved one.
 pub const DELIVERIES_BOUND: u64 = 5_000;
 
+/// Who answers the calls of a run.
+#[derive(Clone, Copy)]
+pub struct Answering<'a> {
+    pub calls: &'a dyn Calls,
+    /// The limit of a drain that is to go on to its end. By the rules it has one;
+    /// something wrong on purpose may deliver for ever.
+    pub to_the_end: u64,
+}
+
+/// The rules do.
+pub const BY_RULES: Answering = Answering {
+    calls: &RULES,
+    to_the_end: u64::MAX,
+};
+
 /// One lock manager with its two buffers and the check of its list of calls.
-struct Desk {
-    misreading: Misreading,
+struct Desk<'a> {
+    by: Answering<'a>,
     /// Plain; the ranks that were drawn stand in the table.
     config: Config<'static>,
     wide: bool,
@@ -204,8 +221,8 @@ struct Desk {
 
 /// One random run in which no session is reopened. It fails with the first thing
 /// that breaks demand 3, or with mail that deliveries alone do not empty.
-pub fn run(seed: u64, misreading: Misreading) -> Result<Counts, String> {
-    let mut desk = Desk::draw(seed, misreading)?;
+pub fn run(seed: u64, by: Answering) -> Result<Counts, String> {
+    let mut desk = Desk::draw(seed, by)?;
     desk.play()?;
     desk.deliver_all()?;
     Ok(desk.counted())
@@ -213,8 +230,8 @@ pub fn run(seed: u64, misreading: Misreading) -> Result<Counts, String> {
 
 /// One random run in which sessions are reopened, of so many steps or more unless
 /// its small mail can take no delivery any more.
-pub fn run_reopening(seed: u64, misreading: Misreading, steps: u64) -> Result<Counts, String> {
-    let mut desk = Desk::draw(seed, misreading)?;
+pub fn run_reopening(seed: u64, by: Answering, steps: u64) -> Result<Counts, String> {
+    let mut desk = Desk::draw(seed, by)?;
     desk.reopened = Some(vec![0; desk.config.sessions as usize]);
     while desk.counts.steps < steps && desk.counts.stuck == 0 {
         desk.play()?;
@@ -225,9 +242,9 @@ pub fn run_reopening(seed: u64, misreading: Misreading, steps: u64) -> Result<Co
     Ok(desk.counted())
 }
 
-impl Desk {
+impl<'a> Desk<'a> {
     /// A lock manager after its start, of any size and with any ranks.
-    fn draw(seed: u64, misreading: Misreading) -> Result<Desk, String> {
+    fn draw(seed: u64, by: Answering<'a>) -> Result<Desk<'a>, String> {
         let mut random = Random::new(seed);
         let sessions = random.between(SMALLEST, LARGEST);
         let items = random.between(SMALLEST, LARGEST);
@@ -249,7 +266,7 @@ impl Desk {
             return Err("start is refused".to_string());
         }
         Ok(Desk {
-            misreading,
+            by,
             config,
             wide,
             plain: Ranks::is_plain(&ranks),
@@ -311,14 +328,8 @@ impl Desk {
     /// One step, then the check.
     fn step(&mut self, verb: u64, session: u64, item: u64) -> Result<Answer, String> {
         let before = (self.table.clone(), self.mail.clone());
-        let answer = step_as(
-            self.misreading,
-            verb,
-            session,
-            item,
-            &mut self.table,
-            &mut self.mail,
-        );
+        let (table, mail) = (&mut self.table, &mut self.mail);
+        let answer = self.by.calls.step(verb, session, item, table, mail);
         self.counts.steps += 1;
         self.counts.refused += u64::from(answer.refusal != ACCEPTED);
         self.count_reused(u64::from(answer.refusal == ACCEPTED));
@@ -415,14 +426,13 @@ impl Desk {
             1 => 0,
             2 => 1,
             3 | 4 => self.random.between(2, 20),
-            _ if self.misreading == Misreading::None => u64::MAX,
-            // A misreading may deliver for ever.
-            _ => DELIVERIES_BOUND,
+            _ => self.by.to_the_end,
         };
         let before = (self.table.clone(), self.mail.clone());
-        let drained = drain_as(self.misreading, limit, &mut self.table, &mut self.mail);
+        let (table, mail) = (&mut self.table, &mut self.mail);
+        let drained = self.by.calls.drain(limit, table, mail);
         self.counts.demand3.after_drain(
-            self.misreading,
+            self.by.calls,
             limit,
             drained,
             (&before.0, &before.1),
@@ -447,7 +457,7 @@ impl Desk {
     /// names it.
     fn reopen(&mut self) -> Result<(), String> {
         let records = self.records()?;
-        let over = |&session: &u64| records.session(session as u8).may_reopen(Misreading::None);
+        let over = |&session: &u64| records.session(session as u8).may_reopen();
         let choices: Vec<u64> = (1..=self.config.sessions).filter(over).collect();
         let session = match self.random.pick(&choices) {
             _ if self.random.one_in(10) => self.random.between(0, self.config.sessions + 1),
@@ -455,7 +465,7 @@ impl Desk {
             None => return Ok(()),
         };
         let before = self.table.clone();
-        let refusal = reopen_as(self.misreading, session, &mut self.table, &self.mail);
+        let refusal = self.by.calls.reopen(session, &mut self.table, &self.mail);
         self.counts.demand3.after_reopen(
             refusal,
             (&before, &self.mail),
@@ -463,7 +473,7 @@ impl Desk {
         )?;
         let in_use = refusal == Refusal::InUse as u8;
         self.counts.in_use += u64::from(in_use);
-        if in_use && choices.contains(&session) && self.misreading == Misreading::None {
+        if in_use && choices.contains(&session) {
             self.check_named(session as u8)?;
         }
         if let (ACCEPTED, Some(reopened)) = (refusal, &mut self.reopened) {
@@ -480,7 +490,11 @@ impl Desk {
         } = self.config;
         let mailbox = Mailbox::decode(&self.mail, sessions as usize, items as usize)
             .ok_or("the mail is not well-formed")?;
-        if mailbox.names(session, Misreading::None) {
+        if !mailbox
+            .messages
+            .iter()
+            .all(|m| by_message(*m, session).is_empty())
+        {
             return Ok(());
         }
         Err(format!(

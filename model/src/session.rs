@@ -1,8 +1,8 @@
 //! The session record, its stages, and what a session does.
 
+use crate::branch::SessionBranch;
 use crate::layout::{within, AWAITED, HELD, JUNIORS, MAX_ITEMS, MAX_SESSIONS, STAGE};
 use crate::mailbox::Body;
-use crate::misreading::Misreading;
 use crate::ranks::Ranks;
 
 /// "Stages: 1 growing, 2 waiting, 3 shrinking, 4 victim whose clean is on its
@@ -51,6 +51,13 @@ pub struct Session {
 
 /// Messages to items, in order of sending.
 pub type ToItems = Vec<(u8, Body)>;
+
+/// What a session leaves after a delivery.
+pub struct Outcome {
+    pub session: Session,
+    pub sends: ToItems,
+    pub branch: SessionBranch,
+}
 
 const NO_PROBES: [u8; MAX_SESSIONS] = [0; MAX_SESSIONS];
 
@@ -106,15 +113,18 @@ impl Session {
     }
 
     /// The held items, rising.
-    fn held_items(&self) -> impl Iterator<Item = u8> + '_ {
+    pub fn held_items(&self) -> impl Iterator<Item = u8> + '_ {
         (1..=MAX_ITEMS as u8).filter(|&item| self.holds(item))
     }
 
-    /// All stored probes "by rising initiator", to one item.
+    /// The stored probes "by rising initiator": initiator and junior.
+    pub fn probes(&self) -> impl Iterator<Item = (u8, u8)> + '_ {
+        (1..).zip(self.juniors).filter(|&(_, junior)| junior != 0)
+    }
+
+    /// All of them, to one item.
     fn stored_probes(&self, item: u8) -> ToItems {
-        (1..)
-            .zip(self.juniors)
-            .filter(|&(_, junior)| junior != 0)
+        self.probes()
             .map(|(initiator, junior)| (item, Body::Probe { initiator, junior }))
             .collect()
     }
@@ -144,110 +154,98 @@ impl Session {
         (after, vec![(item, Body::Release)])
     }
 
-    /// "What a session does is settled by stage and message kind; any pair not
-    /// named, or whose named condition fails, is dropped." The session has the
-    /// number `own`, the message comes from item `from`.
-    pub fn receive(
-        self,
-        own: u8,
-        from: u8,
-        body: Body,
-        ranks: &Ranks,
-        misreading: Misreading,
-    ) -> (Session, ToItems) {
-        match (body, self.stage) {
-            (Body::Grant, Stage::Waiting) if from == self.awaited => self.granted(),
-            (Body::Probe { initiator, junior }, Stage::Growing | Stage::Waiting) => {
-                self.probed(own, initiator, junior, ranks, misreading)
-            }
-            (Body::Probe { initiator, junior }, Stage::Cleaning | Stage::Withdrawing)
-                if misreading == Misreading::VictimForwards =>
-            {
-                self.probed(own, initiator, junior, ranks, misreading)
-            }
-            (Body::Resend, Stage::Waiting) if from == self.awaited => {
-                let sends = self.stored_probes(self.awaited);
-                (self, sends)
-            }
-            (Body::Abort { victim, initiator }, Stage::Waiting) => self.aborted(victim, initiator),
-            (Body::Clean { victim, initiator }, Stage::Growing | Stage::Waiting) => {
-                self.cleaned(from, victim, initiator, misreading)
-            }
-            (Body::Clean { victim, .. }, Stage::Cleaning) if victim == own => {
-                self.clean_returned(misreading)
-            }
-            (Body::Withdrawn, Stage::Withdrawing) => self.withdrawn(),
-            _ => (self, Vec::new()),
+    fn gives(self, branch: SessionBranch, sends: ToItems) -> Outcome {
+        Outcome {
+            session: self,
+            sends,
+            branch,
         }
     }
 
-    /// "held, stage 1, awaits none".
-    fn granted(self) -> (Session, ToItems) {
+    fn drops(self, branch: SessionBranch) -> Outcome {
+        self.gives(branch, Vec::new())
+    }
+
+    /// "What a session does is settled by stage and message kind; any pair not
+    /// named, or whose named condition fails, is dropped." The session has the
+    /// number `own`, the message comes from item `from`.
+    pub fn receive(self, own: u8, from: u8, body: Body, ranks: &Ranks) -> Outcome {
+        match (body, self.stage) {
+            (Body::Grant, Stage::Waiting) => self.granted(from),
+            (Body::Probe { initiator, junior }, Stage::Growing | Stage::Waiting) => {
+                self.probed(own, initiator, junior, ranks)
+            }
+            (Body::Resend, Stage::Waiting) => self.asked_again(from),
+            (Body::Abort { victim, initiator }, Stage::Waiting) => self.aborted(victim, initiator),
+            (Body::Clean { victim, initiator }, Stage::Growing | Stage::Waiting) => {
+                self.cleaned(from, victim, initiator)
+            }
+            (Body::Clean { victim, .. }, Stage::Cleaning) => self.clean_at_victim(own, victim),
+            (Body::Withdrawn, Stage::Withdrawing) => self.withdrawn(),
+            _ => self.drops(SessionBranch::Unnamed),
+        }
+    }
+
+    /// From the awaited item: "held, stage 1, awaits none".
+    fn granted(self, from: u8) -> Outcome {
+        if from != self.awaited {
+            return self.drops(SessionBranch::GrantElsewhere);
+        }
         let after = Session {
             stage: Stage::Growing,
             held: self.held | bit(self.awaited),
             awaited: 0,
             ..self
         };
-        (after, Vec::new())
+        after.gives(SessionBranch::Granted, Vec::new())
     }
 
     /// "j becomes the more junior of j and T. Dropped unless none is stored for
     /// i or j is junior to the stored one; else stored, and in stage 2 sent to
     /// the awaited item."
-    fn probed(
-        mut self,
-        own: u8,
-        initiator: u8,
-        junior: u8,
-        ranks: &Ranks,
-        misreading: Misreading,
-    ) -> (Session, ToItems) {
-        let junior = ranks
-            .unless(misreading == Misreading::JuniorByNumber)
-            .more_junior(junior, own);
+    fn probed(mut self, own: u8, initiator: u8, junior: u8, ranks: &Ranks) -> Outcome {
+        let junior = ranks.more_junior(junior, own);
         let stored = &mut self.juniors[usize::from(initiator) - 1];
-        let changed = *stored == 0 || ranks.senior(*stored, junior);
-        if changed {
-            *stored = junior;
-        } else if misreading != Misreading::ForwardsUnchanged {
-            return (self, Vec::new());
-        }
-        // A victim comes here only by a misreading; it awaits an item too.
-        let sends = if self.stage.awaits() {
+        let branch = match *stored {
+            0 => SessionBranch::ProbeStored,
+            before if ranks.senior(before, junior) => SessionBranch::ProbeReplaces,
+            _ => return self.drops(SessionBranch::ProbeKnown),
+        };
+        *stored = junior;
+        let sends = if self.stage == Stage::Waiting {
             vec![(self.awaited, Body::Probe { initiator, junior })]
         } else {
             Vec::new()
         };
-        (self, sends)
+        self.gives(branch, sends)
+    }
+
+    /// From the awaited item: all stored probes to it.
+    fn asked_again(self, from: u8) -> Outcome {
+        if from != self.awaited {
+            return self.drops(SessionBranch::ResendElsewhere);
+        }
+        let sends = self.stored_probes(self.awaited);
+        self.gives(SessionBranch::Resent, sends)
     }
 
     /// "clean, with the abort's a and b, to the awaited item; probes cleared;
     /// stage 4".
-    fn aborted(self, victim: u8, initiator: u8) -> (Session, ToItems) {
+    fn aborted(self, victim: u8, initiator: u8) -> Outcome {
         let sends = vec![(self.awaited, Body::Clean { victim, initiator })];
         let after = Session {
             stage: Stage::Cleaning,
             juniors: NO_PROBES,
             ..self
         };
-        (after, sends)
+        after.gives(SessionBranch::Aborted, sends)
     }
 
     /// "probes cleared; rebroadcast to every held item but the sender, in
     /// rising item number; in stage 2 then the clean to the awaited item."
-    fn cleaned(
-        self,
-        from: u8,
-        victim: u8,
-        initiator: u8,
-        misreading: Misreading,
-    ) -> (Session, ToItems) {
-        let mut sends = ToItems::new();
-        if misreading != Misreading::RebuildsFromSenderOnly {
-            let others = self.held_items().filter(|&item| item != from);
-            sends.extend(others.map(|item| (item, Body::Rebroadcast)));
-        }
+    fn cleaned(self, from: u8, victim: u8, initiator: u8) -> Outcome {
+        let others = self.held_items().filter(|&item| item != from);
+        let mut sends: ToItems = others.map(|item| (item, Body::Rebroadcast)).collect();
         if self.stage == Stage::Waiting {
             sends.push((self.awaited, Body::Clean { victim, initiator }));
         }
@@ -255,25 +253,24 @@ impl Session {
             juniors: NO_PROBES,
             ..self
         };
-        (after, sends)
+        after.gives(SessionBranch::Cleaned, sends)
     }
 
     /// The victim's own clean is back: "withdraw to the awaited item, stage 5."
-    fn clean_returned(mut self, misreading: Misreading) -> (Session, ToItems) {
-        let mut sends = vec![(self.awaited, Body::Withdraw)];
-        if misreading == Misreading::ReleasesEarly {
-            sends.extend(self.held_items().map(|item| (item, Body::Release)));
-            self.held = 0;
+    fn clean_at_victim(self, own: u8, victim: u8) -> Outcome {
+        if victim != own {
+            return self.drops(SessionBranch::CleanElsewhere);
         }
+        let sends = vec![(self.awaited, Body::Withdraw)];
         let after = Session {
             stage: Stage::Withdrawing,
             ..self
         };
-        (after, sends)
+        after.gives(SessionBranch::CleanBack, sends)
     }
 
     /// "release to each held item, rising; none held or awaited; stage 6".
-    fn withdrawn(self) -> (Session, ToItems) {
+    fn withdrawn(self) -> Outcome {
         let sends = self
             .held_items()
             .map(|item| (item, Body::Release))
@@ -284,37 +281,15 @@ impl Session {
             awaited: 0,
             ..self
         };
-        (after, sends)
+        after.gives(SessionBranch::RolledBack, sends)
     }
 
     /// F-7: "at stage 3 holding nothing, or at stage 6".
-    pub fn may_reopen(&self, misreading: Misreading) -> bool {
+    pub fn may_reopen(&self) -> bool {
         match self.stage {
-            Stage::Shrinking => self.held == 0 || misreading == Misreading::ReopensHolder,
-            Stage::RolledBack => self.held == 0 || misreading != Misreading::RefusesMask,
-            Stage::Withdrawing => misreading == Misreading::ReopensWithdrawing,
-            Stage::Growing | Stage::Waiting | Stage::Cleaning => false,
+            Stage::Shrinking => self.held == 0,
+            Stage::RolledBack => true,
+            Stage::Growing | Stage::Waiting | Stage::Cleaning | Stage::Withdrawing => false,
         }
-    }
-
-    /// Whether a stored probe names a session as initiator.
-    pub fn stores_initiator(&self, session: u8) -> bool {
-        self.juniors[usize::from(session) - 1] != 0
-    }
-
-    /// Whether a stored probe names a session as junior.
-    pub fn stores_junior(&self, session: u8) -> bool {
-        self.juniors.contains(&session)
-    }
-
-    /// F-7: "stage 1, nothing held, no probes".
-    pub fn reopened(self, misreading: Misreading) -> Session {
-        let mut after = Session::fresh();
-        match misreading {
-            Misreading::KeepsMask => after.held = self.held,
-            Misreading::KeepsProbes => after.juniors = self.juniors,
-            _ => {}
-        }
-        after
     }
 }

@@ -2,7 +2,6 @@
 //! standard input to its standard output.
 
 use crate::layout::{read_u16, within};
-use crate::misreading::Misreading;
 
 /// F-5: "the number of days (2 bytes, 1 to 366)", then "2-byte values".
 pub const MAX_DAYS: usize = 366;
@@ -25,33 +24,22 @@ pub fn input(count: u16, days: &[Day]) -> Vec<u8> {
     values.flat_map(u16::to_le_bytes).collect()
 }
 
+/// F-5: "A refused list prints its number alone."
 pub fn statement(input: &[u8]) -> Vec<u8> {
-    statement_as(Misreading::None, input)
-}
-
-/// A statement by the rules, or by one misreading of them. F-5: "A refused list
-/// prints its number alone."
-pub fn statement_as(misreading: Misreading, input: &[u8]) -> Vec<u8> {
-    try_statement(misreading, input)
+    written(input)
         .unwrap_or_else(|refusal| format!("{refusal}\n"))
         .into_bytes()
 }
 
 /// The refusals "in that order", then the text.
-fn try_statement(misreading: Misreading, input: &[u8]) -> Result<String, u8> {
-    let days = read(misreading, input).ok_or(BAD_LIST)?;
-    let summed = match misreading {
-        Misreading::OmitsDay366 => &days[..days.len().min(365)],
-        _ => &days,
-    };
-    let taken_part: u64 = summed.iter().map(|day| u64::from(day.0)).sum();
-    let rolled_back: u64 = summed.iter().map(|day| u64::from(day.1)).sum();
-    if taken_part == 0 && misreading == Misreading::NobodyFirst {
-        return Err(NOBODY);
-    }
-    if days.iter().any(|&day| too_many(misreading, day)) {
+fn written(input: &[u8]) -> Result<String, u8> {
+    let days = days(input).ok_or(BAD_LIST)?;
+    // F-5: "a day that has more rolled back than taken part"
+    if days.iter().any(|day| day.1 > day.0) {
         return Err(BAD_LIST);
     }
+    let taken_part: u64 = days.iter().map(|day| u64::from(day.0)).sum();
+    let rolled_back: u64 = days.iter().map(|day| u64::from(day.1)).sum();
     if taken_part == 0 {
         return Err(NOBODY);
     }
@@ -62,61 +50,30 @@ fn try_statement(misreading: Misreading, input: &[u8]) -> Result<String, u8> {
     for (number, day) in (1..).zip(&days) {
         text += &format!("{number} {} {}\n", day.0, day.1);
     }
-    let rate = rate(misreading, taken_part, rolled_back);
+    let rate = rate(taken_part, rolled_back);
     text += &format!("{taken_part} {rolled_back} {rate}\n");
     Ok(text)
 }
 
 /// The days of a list of the right length and day count. F-5: "then two parallel
 /// arrays of 2-byte values, sessions taken part and sessions rolled back".
-fn read(misreading: Misreading, input: &[u8]) -> Option<Vec<Day>> {
+pub fn days(input: &[u8]) -> Option<Vec<Day>> {
     let (days, rest) = input.split_at_checked(VALUE)?;
     let days = within(read_u16(days).into(), MAX_DAYS)?;
-    let (first, rest) = rest.split_at_checked(VALUE * days)?;
-    let (second, rest) = rest.split_at_checked(VALUE * days)?;
-    if rest.len() > usize::from(misreading == Misreading::AcceptsLonger) {
+    if rest.len() != 2 * VALUE * days {
         return None;
     }
-    let (taken_part, rolled_back) = match misreading {
-        Misreading::ExchangesArrays => (second, first),
-        _ => (first, second),
-    };
+    let (taken_part, rolled_back) = rest.split_at(VALUE * days);
     let pairs = taken_part.chunks(VALUE).zip(rolled_back.chunks(VALUE));
     Some(pairs.map(|(t, r)| (read_u16(t), read_u16(r))).collect())
-}
-
-/// F-5: "a day that has more rolled back than taken part".
-fn too_many(misreading: Misreading, (taken_part, rolled_back): Day) -> bool {
-    match misreading {
-        Misreading::RefusesEqual => rolled_back >= taken_part,
-        _ => rolled_back > taken_part,
-    }
 }
 
 /// F-5: "rolled back per thousand taken part". F-8: "rounded to the nearest whole,
 /// a tie going to the even one". The exact rate is a fraction, and every whole
 /// number is held against it over the same denominator, `taken_part`. Somebody
 /// took part, and no more were rolled back, so none above 1000 is the nearest.
-fn rate(misreading: Misreading, taken_part: u64, rolled_back: u64) -> u64 {
-    let exact = 1000 * rolled_back;
-    let distance = |whole: u64| {
-        let numerator = whole * taken_part;
-        match misreading {
-            Misreading::RoundsDown if numerator > exact => u64::MAX,
-            Misreading::RoundsUp if numerator < exact => u64::MAX,
-            Misreading::WholeHalf if numerator > exact => numerator - exact - taken_part % 2,
-            _ => numerator.abs_diff(exact),
-        }
-    };
-    // Of two that are as near, the one for which this is less.
-    let order = |whole: u64| match misreading {
-        Misreading::TiesDown => whole,
-        Misreading::TiesUp => 1000 - whole,
-        Misreading::TiesToOdd => 1 - whole % 2,
-        Misreading::TiesByRolledBack if rolled_back % 2 == 0 => whole,
-        Misreading::TiesByRolledBack => 1000 - whole,
-        _ => whole % 2,
-    };
-    let nearest = (0..=1000).min_by_key(|&whole| (distance(whole), order(whole)));
+fn rate(taken_part: u64, rolled_back: u64) -> u64 {
+    let distance = |whole: u64| (whole * taken_part).abs_diff(1000 * rolled_back);
+    let nearest = (0..=1000).min_by_key(|&whole| (distance(whole), whole % 2));
     nearest.expect("a whole number")
 }

@@ -6,7 +6,6 @@ use crate::layout::{
     item_at, ranks_at, session_at, table_length, within, MAX_ITEMS, MAX_SESSIONS, TABLE_HEADER,
     TABLE_ITEMS, TABLE_SESSIONS,
 };
-use crate::misreading::Misreading;
 use crate::ranks::Ranks;
 use crate::session::{Session, Stage};
 
@@ -80,23 +79,6 @@ impl Table {
 
     pub fn item_mut(&mut self, number: u8) -> &mut Item {
         &mut self.items[usize::from(number) - 1]
-    }
-
-    /// F-7: whether a line, a holder or a "stored probe (as initiator or junior)
-    /// names" a session. Its own record counts too.
-    pub fn names(&self, session: u8, misreading: Misreading) -> bool {
-        let by_item = self.items.iter().any(|i| i.names(session, misreading));
-        let by_probe = (1..).zip(&self.sessions).any(|(owner, record)| {
-            let initiator = record.stores_initiator(session);
-            let junior = record.stores_junior(session);
-            match misreading {
-                Misreading::OwnProbesUnseen if owner == session => false,
-                Misreading::StoredInitiatorUnseen if owner != session => junior,
-                Misreading::StoredJuniorUnseen if owner != session => initiator,
-                _ => initiator || junior,
-            }
-        });
-        by_item || by_probe
     }
 }
 

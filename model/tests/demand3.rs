@@ -1,14 +1,14 @@
 //! Demand 3 on two million random accepted steps with ranks that are not plain,
 //! and on more that are refused or have plain ones, checked after every step.
 
-use model::calls::Answer;
+use model::answers::Answer;
 use model::demand3::Demand3;
 use model::item::Item;
 use model::layout::{mail_length, table_length};
 use model::mailbox::Mailbox;
-use model::scenario::{run, Counts, DELIVERIES_BOUND};
+use model::scenario::{run, Counts, BY_RULES, DELIVERIES_BOUND};
 use model::table::Table;
-use model::{Misreading, Ranks, Refusal};
+use model::{Ranks, Refusal};
 
 /// Accepted steps with ranks that are not plain, in all runs.
 const STEPS: u64 = 2_000_000;
@@ -17,7 +17,7 @@ const STEPS: u64 = 2_000_000;
 fn holds_after_every_step() {
     let mut total = Counts::default();
     for seed in 0.. {
-        match run(seed, Misreading::None) {
+        match run(seed, BY_RULES) {
             Ok(counts) => total.add(counts),
             Err(reason) => panic!("seed {seed}: {reason}"),
         }

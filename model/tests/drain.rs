@@ -10,7 +10,7 @@ use model::mailbox::{count, Body, Direction, Mailbox, Message, Route};
 use model::scenario::Random;
 use model::session::Stage;
 use model::table::Table;
-use model::{Answer, Drained, Ending, Misreading, Refusal, ACCEPTED};
+use model::{Answer, Drained, Ending, Refusal, ACCEPTED, RULES};
 
 fn drained(made: u64, ending: Ending) -> Drained {
     Drained {
@@ -222,7 +222,7 @@ fn check(
     after: &Desk,
 ) -> Result<(), String> {
     demand3.after_drain(
-        Misreading::None,
+        &RULES,
         limit,
         drained,
         (&before.table, &before.mail),

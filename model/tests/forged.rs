@@ -10,7 +10,7 @@ use model::scenario::Random;
 use model::session::{Session, Stage};
 use model::table::Table;
 use model::waits::{cycle_members, standing_cycles, waits_for};
-use model::{reopen, report, start, step, Config, Misreading, Ranks, Refusal, Verb};
+use model::{reopen, report, start, step, Config, Ranks, Refusal, Verb};
 
 fn item(holder: u8, queue: &[u8]) -> Item {
     Item {
@@ -39,7 +39,7 @@ fn item_does(
     declared: Option<(u8, u8)>,
 ) {
     let ranks = Ranks::plain(MAX_SESSIONS);
-    let outcome = before.receive(from, body, &ranks, Misreading::None);
+    let outcome = before.receive(from, body, &ranks);
     assert_eq!(outcome.item, after);
     assert_eq!(outcome.sends, sends);
     assert_eq!(outcome.declared, declared);
@@ -223,9 +223,9 @@ fn session_does(
     let mut expected = before.clone();
     change(&mut expected);
     let ranks = Ranks::plain(MAX_SESSIONS);
-    let (after, sent) = before.receive(3, from, body, &ranks, Misreading::None);
-    assert_eq!(after, expected);
-    assert_eq!(sent, sends);
+    let outcome = before.receive(3, from, body, &ranks);
+    assert_eq!(outcome.session, expected);
+    assert_eq!(outcome.sends, sends);
 }
 
 /// Dropped in every stage but those given.
@@ -335,18 +335,14 @@ fn session_withdrawn() {
     session_does(withdrawing, 5, Body::Withdrawn, ends, &sends);
 }
 
-/// Of a reopened session nothing is left but its number, whatever was stored or
-/// held; what it may be at that point is the rule of `may_reopen`.
 #[test]
-fn session_reopened() {
+fn session_may_be_reopened() {
     for before in all_stages() {
         let (stage, mut nothing_held) = (before.stage, before.clone());
         nothing_held.held = 0;
-        let may = |session: &Session| session.may_reopen(Misreading::None);
-        assert_eq!(may(&before), stage == Stage::RolledBack);
+        assert_eq!(before.may_reopen(), stage == Stage::RolledBack);
         let done = matches!(stage, Stage::Shrinking | Stage::RolledBack);
-        assert_eq!(may(&nothing_held), done);
-        assert_eq!(before.reopened(Misreading::None), Session::fresh());
+        assert_eq!(nothing_held.may_reopen(), done);
     }
 }
 

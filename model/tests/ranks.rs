@@ -4,7 +4,7 @@
 mod desk;
 
 use desk::{Desk, RELEASE, REQUEST, TO_ITEM, TO_SESSION};
-use model::calls::deliver_as;
+use model::calls::deliver;
 use model::demand3::Demand3;
 use model::item::Item;
 use model::layout::{ranks_at, session_at, MAIL_COUNT, STAGE};
@@ -12,7 +12,7 @@ use model::mailbox::{count, Body};
 use model::scenario::Random;
 use model::session::{Session, Stage};
 use model::table::Table;
-use model::{cycle_text, report, start, Config, Misreading, Ranks, Refusal, ACCEPTED};
+use model::{cycle_text, report, start, Config, Ranks, Refusal, ACCEPTED, RULES};
 
 /// The ranks of three sessions, in every order.
 const ORDERS: [[u8; 3]; 6] = [
@@ -56,7 +56,7 @@ fn settle(desk: &mut Desk, random: &mut Random) -> (Demand3, Vec<(u8, u8)>) {
         let before = desk.clone();
         let place = random.between(0, count(&desk.mail) as u64 - 1) as usize;
         let Desk { table, mail } = desk;
-        let answer = deliver_as(Misreading::None, place, table, mail).unwrap();
+        let answer = deliver(&RULES, place, table, mail).unwrap();
         demand3
             .after_step(answer, (&before.table, &before.mail), (table, mail))
             .unwrap();
@@ -149,7 +149,7 @@ fn an_item_goes_by_rank() {
         queue: queue.to_vec(),
     };
     let receive = |before: Item, from, body| {
-        let outcome = before.receive(from, body, &ranks(&BACKWARDS), Misreading::None);
+        let outcome = before.receive(from, body, &ranks(&BACKWARDS));
         (outcome.item, outcome.sends, outcome.declared)
     };
     let grant = |session| (session, Body::Grant);
@@ -193,7 +193,7 @@ fn a_session_goes_by_rank() {
     };
     let sends = |before: Session, own, body| {
         let ranks = ranks(&BACKWARDS);
-        before.receive(own, 1, body, &ranks, Misreading::None).1
+        before.receive(own, 1, body, &ranks).sends
     };
     // The more junior of the probe's junior and the session.
     assert_eq!(sends(waiting(&[]), 2, probe(4, 3)), [(1, probe(4, 2))]);

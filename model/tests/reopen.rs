@@ -8,10 +8,10 @@ use model::demand3::Demand3;
 use model::item::Item;
 use model::layout::{ranks_at, session_at, MAIL_COUNT, MAX_SESSIONS, STAGE};
 use model::mailbox::{count, Body, Direction, Mailbox, Message, Route};
-use model::scenario::{run_reopening, Counts};
+use model::scenario::{run_reopening, Counts, BY_RULES};
 use model::session::{Session, Stage};
 use model::table::Table;
-use model::{Config, Misreading, Refusal, ACCEPTED};
+use model::{Config, Refusal, ACCEPTED, RULES};
 
 /// The session that is reopened, and two others.
 const OWN: u8 = 2;
@@ -347,13 +347,7 @@ fn settles(desk: &mut Desk, demand3: &mut Demand3, steps: &[(u64, u64, u64)]) {
     let before = desk.clone();
     let drained = desk.drain(u64::MAX);
     demand3
-        .after_drain(
-            Misreading::None,
-            u64::MAX,
-            drained,
-            bytes(&before),
-            bytes(desk),
-        )
+        .after_drain(&RULES, u64::MAX, drained, bytes(&before), bytes(desk))
         .unwrap();
 }
 
@@ -436,7 +430,7 @@ fn steps(seed: u64) -> u64 {
 fn demand_3_holds_after_every_step() {
     let mut total = Counts::default();
     for seed in 0.. {
-        match run_reopening(seed, Misreading::None, steps(seed)) {
+        match run_reopening(seed, BY_RULES, steps(seed)) {
             Ok(counts) => total.add(counts),
             Err(reason) => panic!("seed {seed}: {reason}"),
         }

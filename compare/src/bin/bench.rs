@@ -4,9 +4,10 @@
 //! earlier one beside this one, both loaded in the same way. All are measured in
 //! turn in one run, so that the ratios hold where the times do not.
 
-use compare::calls::{Calls, Fast, Library, Model};
 use compare::comparison::Buffers;
+use compare::fast::Fast;
 use compare::forge::{clear_route, full_mail, reopenable, set_item, well_formed, Routes};
+use compare::library::Library;
 use compare::numbers::{
     kind, DELIVER_TO_ITEM, DELIVER_TO_SESSION, GROWING, RELEASE, REQUEST, ROLLED_BACK, SHRINKING,
     TO_ITEM, TO_SESSION, WAITING,
@@ -15,7 +16,7 @@ use model::layout::{
     route_at, AWAITED, HELD, HOLDER, JUNIORS, MAX_TEXT, QUEUE, QUEUE_LENGTH, ROUTE_ITEM, STAGE,
 };
 use model::scenario::Random;
-use model::{Config, Drained, Ranks, ACCEPTED};
+use model::{Calls, Config, Drained, Ranks, ACCEPTED, RULES};
 use std::env;
 use std::hint::black_box;
 use std::process::ExitCode;
@@ -408,7 +409,7 @@ fn measure_call(row: &Row, libraries: &Libraries) -> Vec<f64> {
     let call = row.call;
     let mut subjects = vec![
         by(&libraries.library, call),
-        by(&Model, call),
+        by(&RULES, call),
         Box::new(|copy| {
             black_box(floor(call, copy));
         }),
@@ -472,12 +473,12 @@ struct DrainRow {
 fn reached(lists: &[&[(u64, u64)]]) -> Buffers {
     let mut buffers = Buffers::filled(&LARGEST, 0);
     let Buffers { table, mail } = &mut buffers;
-    let refusal = Model.start(&LARGEST, table, mail);
+    let refusal = RULES.start(&LARGEST, table, mail);
     assert_eq!(refusal, ACCEPTED);
     for requests in lists {
-        Model.drain(u64::MAX, table, mail);
+        RULES.drain(u64::MAX, table, mail);
         for &(session, item) in *requests {
-            let answer = Model.step(REQUEST, session, item, table, mail);
+            let answer = RULES.step(REQUEST, session, item, table, mail);
             assert_eq!(answer.refusal, ACCEPTED);
         }
     }
@@ -558,7 +559,7 @@ fn print_drains(libraries: &Libraries, missed: &mut usize) {
         let mut subjects = vec![
             by(library, limit),
             Box::new(|copy| single_steps(library, made, copy)),
-            by(&Model, limit),
+            by(&RULES, limit),
             by(&Fast, limit),
         ];
         subjects.extend(before.as_ref().map(|before| by(before, limit)));

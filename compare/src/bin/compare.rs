@@ -1,9 +1,9 @@
 //! Compares the library with the model on fixed seeds, and prints what the
 //! calls have met.
 
-use compare::calls::Library;
 use compare::cases::all;
 use compare::comparison::Comparison;
+use compare::library::Library;
 use std::process::ExitCode;
 use std::time::Instant;
 

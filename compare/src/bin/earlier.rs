@@ -2,10 +2,10 @@
 //! BEFORE`. Both get the calls of the comparison on the same bytes. Every answer and
 //! every byte left must be equal.
 
-use compare::calls::{Calls, Library};
 use compare::cases::all;
 use compare::comparison::Comparison;
-use model::{Answer, Config, Cycle, Drained, Text};
+use compare::library::Library;
+use model::{Answer, Calls, Config, Cycle, Drained, Text};
 use std::cell::RefCell;
 use std::collections::BTreeMap;
 use std::env;

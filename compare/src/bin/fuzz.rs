@@ -1,9 +1,9 @@
 //! Compares the library with the model on new seeds: `fuzz SECONDS [SEED]`.
 //! The first seed comes from the clock unless it is given.
 
-use compare::calls::Library;
 use compare::cases::round;
 use compare::comparison::Comparison;
+use compare::library::Library;
 use std::env;
 use std::process::ExitCode;
 use std::time::{Duration, Instant, SystemTime, UNIX_EPOCH};

@@ -4,10 +4,11 @@
 //! print the same. `statements PROGRAM bench` times the longest list instead.
 
 use compare::program::Program;
+use misread::StatementMisreading;
 use model::layout::read_u16;
 use model::scenario::Random;
+use model::statement;
 use model::statement::{input, Day, BAD_LIST, MAX_DAYS, NOBODY};
-use model::{statement, statement_as, Misreading};
 use std::collections::BTreeMap;
 use std::process::ExitCode;
 
@@ -304,8 +305,10 @@ fn main() -> ExitCode {
         }
     };
     let mut groups: BTreeMap<&str, Places<u64>> = BTreeMap::new();
-    let misreadings = Misreading::OF_F5.iter().chain(&Misreading::OF_F8);
-    let mut misread: Vec<(Misreading, u64)> = misreadings.map(|&m| (m, 0)).collect();
+    let misreadings = StatementMisreading::OF_F5
+        .iter()
+        .chain(&StatementMisreading::OF_F8);
+    let mut misread: Vec<(StatementMisreading, u64)> = misreadings.map(|&m| (m, 0)).collect();
     for (input, output) in inputs.iter().zip(&expected) {
         let (group, places) = reached(input, output);
         let none = || places.iter().map(|&(name, _)| (name, 0)).collect();
@@ -314,7 +317,7 @@ fn main() -> ExitCode {
             *count += u64::from(*reached);
         }
         for (misreading, count) in &mut misread {
-            *count += u64::from(statement_as(*misreading, input) != *output);
+            *count += u64::from(misreading.statement(input) != *output);
         }
     }
     let longest = expected.iter().map(Vec::len).max().unwrap_or_default();

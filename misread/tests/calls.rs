@@ -3,8 +3,8 @@
 //! check. The rules themselves pass it on the same seeds, and so do those that
 //! change answers and bytes alone.
 
-use model::scenario::{run, run_reopening, Counts};
-use model::Misreading;
+use misread::Misreading;
+use model::scenario::{run, run_reopening, Answering, Counts, BY_RULES, DELIVERIES_BOUND};
 
 /// A misreading, a seed whose run catches it, and what the check then says.
 const CAUGHT: [(Misreading, u64, &str); 28] = [
@@ -66,8 +66,15 @@ const CAUGHT_REOPENING: [(Misreading, u64, &str); 5] = [
 /// The steps of such a run.
 const STEPS: u64 = 2_000;
 
-fn reopening(seed: u64, misreading: Misreading) -> Result<Counts, String> {
-    run_reopening(seed, misreading, STEPS)
+fn reopening(seed: u64, by: Answering) -> Result<Counts, String> {
+    run_reopening(seed, by, STEPS)
+}
+
+fn misread(misreading: &Misreading) -> Answering<'_> {
+    Answering {
+        calls: misreading,
+        to_the_end: DELIVERIES_BOUND,
+    }
 }
 
 /// Those that the check of the model catches.
@@ -76,15 +83,15 @@ fn misreadings() -> impl Iterator<Item = Misreading> {
     of_01.into_iter().chain(of_f2).chain(Misreading::OF_F6)
 }
 
-type Run = fn(u64, Misreading) -> Result<Counts, String>;
+type Run = fn(u64, Answering) -> Result<Counts, String>;
 
 /// The run of each seed catches its misreading and passes the rules.
 fn catches(run: Run, caught: &[(Misreading, u64, &str)]) {
     for &(misreading, seed, expected) in caught {
-        let reason = run(seed, misreading).expect_err("the misreading passes the check");
+        let reason = run(seed, misread(&misreading)).expect_err("the misreading passes the check");
         println!("{misreading:?}, seed {seed}: {reason}");
         assert!(reason.contains(expected), "{misreading:?}: {reason}");
-        assert!(run(seed, Misreading::None).is_ok());
+        assert!(run(seed, BY_RULES).is_ok());
     }
 }
 
@@ -102,27 +109,27 @@ const SEEDS: u64 = 2_000;
 const REOPENING_SEEDS: u64 = 10;
 
 /// How many of the runs fail the check.
-fn failures(misreading: Misreading) -> usize {
-    (0..SEEDS).filter(|&s| run(s, misreading).is_err()).count()
+fn failures(by: Answering) -> usize {
+    (0..SEEDS).filter(|&s| run(s, by).is_err()).count()
 }
 
-fn reopening_failures(misreading: Misreading) -> usize {
+fn reopening_failures(by: Answering) -> usize {
     (0..REOPENING_SEEDS)
-        .filter(|&s| reopening(s, misreading).is_err())
+        .filter(|&s| reopening(s, by).is_err())
         .count()
 }
 
 #[test]
 fn on_the_same_seeds_only_the_rules_pass() {
-    assert_eq!(failures(Misreading::None), 0);
+    assert_eq!(failures(BY_RULES), 0);
     for misreading in misreadings() {
-        let failures = failures(misreading);
+        let failures = failures(misread(&misreading));
         println!("{misreading:?}: caught by {failures} of {SEEDS} runs");
         assert!(failures > 0);
     }
-    assert_eq!(reopening_failures(Misreading::None), 0);
+    assert_eq!(reopening_failures(BY_RULES), 0);
     for misreading in Misreading::OF_F7 {
-        let failures = reopening_failures(misreading);
+        let failures = reopening_failures(misread(&misreading));
         println!("{misreading:?}: caught by {failures} of {REOPENING_SEEDS} runs");
         assert!(failures > 0);
     }
@@ -132,9 +139,9 @@ fn on_the_same_seeds_only_the_rules_pass() {
 #[test]
 fn those_in_bytes_alone_pass_too() {
     for passes in Misreading::IN_BYTES {
-        assert_eq!(failures(passes), 0, "{passes:?}");
+        assert_eq!(failures(misread(&passes)), 0, "{passes:?}");
     }
     for passes in Misreading::OF_F7_IN_BYTES {
-        assert_eq!(reopening_failures(passes), 0, "{passes:?}");
+        assert_eq!(reopening_failures(misread(&passes)), 0, "{passes:?}");
     }
 }

@@ -1,12 +1,21 @@
-//! The entries of 01's "Plausible misreadings", misreadings of a later request,
-//! and rules that a later request has replaced. Each can be switched on, to show
-//! that the tests would notice.
+//! The entries of 01's "Plausible misreadings", misreadings of a later request, and
+//! rules that a later request has replaced, to show that the tests would notice. A
+//! misreading of what an item or a session does is a policy that a step is given;
+//! every other one is put around the right answer.
 
-#[derive(Clone, Copy, PartialEq, Eq, Debug, Default)]
+mod drain;
+mod reopen;
+mod start;
+mod statement;
+mod step;
+mod text;
+
+use model::{Answer, Calls, Config, Drained, Text};
+
+pub use statement::StatementMisreading;
+
+#[derive(Clone, Copy, PartialEq, Eq, Debug)]
 pub enum Misreading {
-    /// The rules as they are.
-    #[default]
-    None,
     /// "A victim that still forwards probes after its abort."
     VictimForwards,
     /// "Rebuilding only from the item that brought the clean."
@@ -29,16 +38,6 @@ pub enum Misreading {
     LimitBeforeEmpty,
     /// F-2 with the limit judged before the next delivery is tried.
     LimitBeforeFull,
-    /// F-5 with the sums of the first 365 days.
-    OmitsDay366,
-    /// F-5 with 13 judged before a day that has more rolled back than taken part.
-    NobodyFirst,
-    /// F-5 with a day refused that has as many rolled back as taken part.
-    RefusesEqual,
-    /// F-5 with the array of sessions rolled back first.
-    ExchangesArrays,
-    /// F-5 with a list accepted that is one byte too long.
-    AcceptsLonger,
     /// 01's rule before F-6, "Session 1 is the most senior."
     SeniorByNumber,
     /// F-6 with rank S for the most senior.
@@ -97,21 +96,6 @@ pub enum Misreading {
     InUseFirst,
     /// F-7 with mail not in form taken for empty mail.
     MailFormUnseen,
-    /// F-5's rule before F-8, "rounded down".
-    RoundsDown,
-    /// F-8 with the rate rounded up.
-    RoundsUp,
-    /// F-8 with a tie going down.
-    TiesDown,
-    /// F-8 with a tie going up.
-    TiesUp,
-    /// F-8 with a tie going to the odd one.
-    TiesToOdd,
-    /// F-8 with a tie going up if the number of sessions rolled back is odd.
-    TiesByRolledBack,
-    /// F-8 with half of an odd number of sessions taken part rounded down, so that a
-    /// rate just below the middle of two is taken for a tie.
-    WholeHalf,
 }
 
 impl Misreading {
@@ -131,15 +115,6 @@ impl Misreading {
         Misreading::CountsRefused,
         Misreading::LimitBeforeEmpty,
         Misreading::LimitBeforeFull,
-    ];
-
-    /// Those of F-5. The comparison of the statement program notices each.
-    pub const OF_F5: [Misreading; 5] = [
-        Misreading::OmitsDay366,
-        Misreading::NobodyFirst,
-        Misreading::RefusesEqual,
-        Misreading::ExchangesArrays,
-        Misreading::AcceptsLonger,
     ];
 
     /// Those of F-6 that name other sessions in a declaration. The check of
@@ -183,18 +158,6 @@ impl Misreading {
         Misreading::MailFormUnseen,
     ];
 
-    /// Those of F-8, and the rule that it has replaced. The comparison of the
-    /// statement program notices each.
-    pub const OF_F8: [Misreading; 7] = [
-        Misreading::RoundsDown,
-        Misreading::RoundsUp,
-        Misreading::TiesDown,
-        Misreading::TiesUp,
-        Misreading::TiesToOdd,
-        Misreading::TiesByRolledBack,
-        Misreading::WholeHalf,
-    ];
-
     /// Those of F-6 in a text and at a start, which no step shows.
     pub const OUTSIDE_STEPS: [Misreading; 6] = [
         Misreading::TextByNumber,
@@ -204,4 +167,26 @@ impl Misreading {
         Misreading::AcceptsRank0,
         Misreading::AcceptsRankAbove,
     ];
+}
+
+impl Calls for Misreading {
+    fn start(&self, config: &Config, table: &mut [u8], mail: &mut [u8]) -> u8 {
+        start::start(*self, config, table, mail)
+    }
+
+    fn step(&self, v: u64, s: u64, i: u64, table: &mut [u8], mail: &mut [u8]) -> Answer {
+        step::step(*self, [v, s, i], table, mail)
+    }
+
+    fn drain(&self, limit: u64, table: &mut [u8], mail: &mut [u8]) -> Drained {
+        drain::drain(*self, limit, table, mail)
+    }
+
+    fn cycle_text(&self, session: u64, table: &[u8], text: &mut [u8]) -> Text {
+        text::cycle_text(*self, session, table, text)
+    }
+
+    fn reopen(&self, session: u64, table: &mut [u8], mail: &[u8]) -> u8 {
+        reopen::reopen(*self, session, table, mail)
+    }
 }
