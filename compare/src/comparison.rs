@@ -3,11 +3,13 @@
 
 use crate::coverage::Coverage;
 use crate::numbers::{DELIVER_TO_ITEM, DELIVER_TO_SESSION, GROWING, TO_ITEM};
+use model::item::Item;
 use model::layout::{
     body_at, item_at, ranks_at, read_u16, route_at, session_at, write_u16, BODY_SIZE, DIRECTION,
     HELD, MAIL_CAPACITY, MAIL_COUNT, MAIL_HEADER, QUEUE, QUEUE_LENGTH, ROUTE_ITEM, ROUTE_SESSION,
     ROUTE_SIZE, STAGE, TABLE_HEADER, TABLE_ITEMS, TABLE_SESSIONS,
 };
+use model::session::Session;
 use model::{Answer, Calls, Config, Cycle, Drained, Text, ACCEPTED};
 use std::fmt::Debug;
 
@@ -50,6 +52,17 @@ impl Buffers {
 
     pub fn session(&self, session: usize) -> &[u8] {
         &self.table[session_at(session)]
+    }
+
+    /// The records of a well-formed table.
+    pub fn session_record(&self, session: u8) -> Session {
+        let record = Session::decode(self.session(session.into()), self.sessions(), self.items());
+        record.expect("a table that was judged")
+    }
+
+    pub fn item_record(&self, item: u8) -> Item {
+        let record = Item::decode(self.item(item.into()), self.sessions());
+        record.expect("a table that was judged")
     }
 
     pub fn session_mut(&mut self, session: usize) -> &mut [u8] {

@@ -10,6 +10,8 @@ use model::layout::{
     HELD, HOLDER, JUNIORS, KIND, MAX_ITEMS, MAX_SESSIONS, QUEUE, QUEUE_LENGTH, ROUTE_ITEM,
     ROUTE_SESSION, ROUTE_SIZE, STAGE,
 };
+use model::mailbox::{self, Direction};
+use model::names::{by_message, Named, Part};
 use model::scenario::Random;
 use model::{Config, Ranks, Refusal};
 
@@ -312,27 +314,10 @@ pub fn clear_route(
     }
 }
 
-/// Which part of a message names a session. An abort's route and a are one.
-#[derive(Clone, Copy, PartialEq, Eq, Debug)]
-pub enum Part {
-    Route,
-    A,
-    B,
-}
-
-/// A place at which a session is named, so that it may not be reopened.
-#[derive(Clone, Copy, PartialEq, Eq, Debug)]
-pub enum Named {
-    Message { part: Part, direction: u8, kind: u8 },
-    Queue,
-    Holder,
-    Probe { own: bool, initiator: bool },
-}
-
 const fn to_item(part: Part, kind: u8) -> Named {
     Named::Message {
         part,
-        direction: TO_ITEM,
+        direction: Direction::ToItem,
         kind,
     }
 }
@@ -340,7 +325,7 @@ const fn to_item(part: Part, kind: u8) -> Named {
 const fn to_session(part: Part, kind: u8) -> Named {
     Named::Message {
         part,
-        direction: TO_SESSION,
+        direction: Direction::ToSession,
         kind,
     }
 }
@@ -349,7 +334,7 @@ const fn probe(own: bool, initiator: bool) -> Named {
     Named::Probe { own, initiator }
 }
 
-/// All such places.
+/// All places at which a session can be named. The route and the a of an abort are one.
 pub const NAMED: [(&str, Named); 27] = [
     ("route: request", to_item(Part::Route, kind::REQUEST)),
     ("route: release", to_item(Part::Route, kind::RELEASE)),
@@ -389,25 +374,6 @@ pub const NAMED: [(&str, Named); 27] = [
     ("probe of its own: junior", probe(true, false)),
 ];
 
-/// Where a message names a session: a and b are zeros where they are none.
-pub fn named_by(buffers: &Buffers, place: usize, session: u8) -> Vec<Named> {
-    let (route, body) = (buffers.route(place), buffers.body(place));
-    let (direction, kind) = (route[DIRECTION], body[KIND]);
-    let in_route = route[ROUTE_SESSION] == session;
-    // An abort goes to its a.
-    let in_a = body[BODY_A] == session && !(in_route && kind == kind::ABORT);
-    let in_b = body[BODY_B] == session;
-    [(in_route, Part::Route), (in_a, Part::A), (in_b, Part::B)]
-        .into_iter()
-        .filter(|&(named, _)| named)
-        .map(|(_, part)| Named::Message {
-            part,
-            direction,
-            kind,
-        })
-        .collect()
-}
-
 /// Well-formed buffers that do not name this session, which is shrinking and holds
 /// nothing or is rolled back: it may be reopened. It can have stored probes and,
 /// if it is rolled back, items in its mask. Every message names a session, so
@@ -438,7 +404,7 @@ pub fn reopenable(
         set_queue(record, &queue);
     }
     for place in 0..buffers.count() {
-        while !named_by(&buffers, place, session).is_empty() {
+        while !by_message(mailbox::message(&buffers.mail, place), session).is_empty() {
             let (route, body) = message(random, config);
             buffers.set_message(place, route, body);
         }
@@ -480,7 +446,7 @@ pub fn name(
             direction,
             kind,
         } => {
-            let mut route = [direction, one, item as u8];
+            let mut route = [direction as u8, one, item as u8];
             let mut body = [kind, 0, 0];
             if has_sessions(kind) {
                 body = [kind, another, one];

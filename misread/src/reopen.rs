@@ -3,7 +3,7 @@
 use crate::Misreading;
 use model::layout::{mail_length, session_at, MAX_CAPACITY};
 use model::mailbox::{Mailbox, Message};
-use model::names::{by_message, Named};
+use model::names::{by_message, Named, Part};
 use model::session::{Session, Stage};
 use model::table::Table;
 use model::{reopen as right_reopen, Refusal, ACCEPTED};
@@ -87,14 +87,16 @@ fn in_use(misreading: Misreading, session: u8, table: &mut [u8], mail: &[u8]) ->
 /// Takes away what a misreading does not see.
 fn overlook(misreading: Misreading, session: u8, records: &mut Table, mailbox: &mut Mailbox) {
     let messages = &mut mailbox.messages;
-    let named = |message: &Message, seen: fn(&Named) -> bool| {
-        by_message(*message, session).iter().any(seen)
+    // All others do not name it anyway.
+    let named_but_as = |message: &Message, unseen: Part| {
+        let mut names = by_message(*message, session).into_iter();
+        names.any(|named| !matches!(named, Named::Message { part, .. } if part == unseen))
     };
     let place = usize::from(session) - 1;
     match misreading {
         Misreading::MailUnseen => messages.clear(),
-        Misreading::UnseenAsA => messages.retain(|m| named(m, |n| !matches!(n, Named::A(_)))),
-        Misreading::UnseenAsB => messages.retain(|m| named(m, |n| !matches!(n, Named::B(_)))),
+        Misreading::UnseenAsA => messages.retain(|m| named_but_as(m, Part::A)),
+        Misreading::UnseenAsB => messages.retain(|m| named_but_as(m, Part::B)),
         Misreading::QueueUnseen => {
             for item in &mut records.items {
                 item.queue.retain(|&waiting| waiting != session);

@@ -4,7 +4,7 @@ use crate::answers::{Answer, Cycle, Drained, Ending, Refusal, Text, Verb, ACCEPT
 use crate::config::Config;
 use crate::item::ToSessions;
 use crate::layout::{within, MAX_CAPACITY, MAX_ITEMS, MAX_SESSIONS};
-use crate::mailbox::{count, route, Direction, Mailbox, Message, Route};
+use crate::mailbox::{count, message, Direction, Mailbox, Message, Route};
 use crate::names::names;
 use crate::policy::{Policy, RULES};
 use crate::ranks::Ranks;
@@ -302,7 +302,7 @@ pub fn deliver(
         direction,
         session,
         item,
-    } = route(mail, place);
+    } = message(mail, place).route;
     let verb = Verb::delivers(direction) as u64;
     Some(calls.step(verb, session.into(), item.into(), table, mail))
 }

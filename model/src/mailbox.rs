@@ -67,6 +67,11 @@ impl Body {
         }
     }
 
+    /// Its number.
+    pub fn kind(self) -> u8 {
+        self.encode()[KIND]
+    }
+
     /// "Kinds 3, 4 and 9 have a and b in 1 to S; the others have zeros."
     fn decode(bytes: &[u8], sessions: usize) -> Option<Body> {
         let (a, b) = (bytes[BODY_A], bytes[BODY_B]);
@@ -155,15 +160,31 @@ pub struct Message {
     pub body: Body,
 }
 
+impl Message {
+    /// The message at a place, if it is well-formed.
+    fn decode(
+        mail: &[u8],
+        capacity: usize,
+        place: usize,
+        sessions: usize,
+        items: usize,
+    ) -> Option<Message> {
+        let route = Route::decode(&mail[route_at(place)], sessions, items)?;
+        let body = Body::decode(&mail[body_at(capacity, place)], sessions)?;
+        body.may_travel(route).then_some(Message { route, body })
+    }
+}
+
 /// The number of messages in the mail; "Mail is empty when its count is 0."
 pub fn count(mail: &[u8]) -> usize {
     read_u16(&mail[MAIL_COUNT]).into()
 }
 
-/// The route of the message at a place of well-formed mail, 0 being the oldest.
-pub fn route(mail: &[u8], place: usize) -> Route {
-    let route = Route::decode(&mail[route_at(place)], MAX_SESSIONS, MAX_ITEMS);
-    route.expect("a message of well-formed mail")
+/// The message at a place of well-formed mail, 0 being the oldest.
+pub fn message(mail: &[u8], place: usize) -> Message {
+    let capacity = read_u16(&mail[MAIL_CAPACITY]).into();
+    let message = Message::decode(mail, capacity, place, MAX_SESSIONS, MAX_ITEMS);
+    message.expect("a message of well-formed mail")
 }
 
 #[derive(Clone, PartialEq, Eq, Debug)]
@@ -205,11 +226,7 @@ impl Mailbox {
         if unused_routes.iter().chain(unused_bodies).any(|&b| b != 0) {
             return None;
         }
-        let message = |place| {
-            let route = Route::decode(&mail[route_at(place)], sessions, items)?;
-            let body = Body::decode(&mail[body_at(capacity, place)], sessions)?;
-            body.may_travel(route).then_some(Message { route, body })
-        };
+        let message = |place| Message::decode(mail, capacity, place, sessions, items);
         Some(Mailbox {
             capacity,
             messages: (0..count).map(message).collect::<Option<_>>()?,

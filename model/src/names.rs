@@ -2,24 +2,33 @@
 //! sessions)", a line, a holder or a "stored probe (as initiator or junior)" names a
 //! session.
 
-use crate::mailbox::{Mailbox, Message};
+use crate::mailbox::{Direction, Mailbox, Message};
 use crate::table::Table;
 
 /// A place at which a session is named, so that it may not be reopened.
 #[derive(Clone, Copy, PartialEq, Eq, Debug)]
 pub enum Named {
-    Route(Message),
-    A(Message),
-    B(Message),
+    Message {
+        part: Part,
+        direction: Direction,
+        kind: u8,
+    },
     Queue,
     Holder,
-    /// Of a probe that is stored by the session itself, or by another.
-    Initiator {
+    /// In a probe that is stored by the session itself or by another, as initiator
+    /// or as junior.
+    Probe {
         own: bool,
+        initiator: bool,
     },
-    Junior {
-        own: bool,
-    },
+}
+
+/// Which part of a message names a session.
+#[derive(Clone, Copy, PartialEq, Eq, Debug)]
+pub enum Part {
+    Route,
+    A,
+    B,
 }
 
 /// All such places, in both buffers. The session's own record counts too.
@@ -38,10 +47,12 @@ pub fn names(table: &Table, mailbox: &Mailbox, session: u8) -> Vec<Named> {
         let own = owner == session;
         for (initiator, junior) in record.probes() {
             if initiator == session {
-                names.push(Named::Initiator { own });
+                let initiator = true;
+                names.push(Named::Probe { own, initiator });
             }
             if junior == session {
-                names.push(Named::Junior { own });
+                let initiator = false;
+                names.push(Named::Probe { own, initiator });
             }
         }
     }
@@ -50,10 +61,16 @@ pub fn names(table: &Table, mailbox: &Mailbox, session: u8) -> Vec<Named> {
 
 /// Those in one message.
 pub fn by_message(message: Message, session: u8) -> Vec<Named> {
-    let mut all = vec![(message.route.session, Named::Route(message))];
-    if let Some((a, b)) = message.body.sessions() {
-        all.extend([(a, Named::A(message)), (b, Named::B(message))]);
+    let Message { route, body } = message;
+    let mut parts = vec![(Part::Route, route.session)];
+    if let Some((a, b)) = body.sessions() {
+        parts.extend([(Part::A, a), (Part::B, b)]);
     }
-    let named = all.into_iter().filter(|&(name, _)| name == session);
-    named.map(|(_, place)| place).collect()
+    parts.retain(|&(_, name)| name == session);
+    let named = |(part, _)| Named::Message {
+        part,
+        direction: route.direction,
+        kind: body.kind(),
+    };
+    parts.into_iter().map(named).collect()
 }
