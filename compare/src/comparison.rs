@@ -308,7 +308,7 @@ impl Comparison {
         same_answer(&call, buffers, found, expected)?;
         same_bytes(&call, buffers, "text", &self.text, &text)?;
         same_bytes(&call, buffers, "table", &self.table, &buffers.table)?;
-        self.coverage.cycle_text(session, buffers, expected, &text);
+        self.coverage.cycle_text(session, buffers, expected, room);
         Ok(expected)
     }
 

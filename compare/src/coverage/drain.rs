@@ -1,6 +1,6 @@
 //! Drains.
 
-use super::group::Group;
+use super::group::{Group, Place, Places};
 use super::{is_largest, Coverage, AT_LEAST, DRAIN};
 use crate::comparison::Buffers;
 use model::{Drained, Ending};
@@ -8,53 +8,119 @@ use model::{Drained, Ending};
 /// In the order of their numbers.
 const ENDINGS: &[&str] = &["1 Empty", "2 Full", "3 Limit"];
 
-/// Drains that are accepted. "More deliveries than C" uses every place of the
-/// mail again.
-const DRAINS: &[&str] = &[
-    "limit 0",
-    "limit 1",
-    "limit 2",
-    "limit 3 to 2^32 - 1",
-    "limit 2^32 to 2^64 - 2",
-    "limit 2^64 - 1",
-    "empty mail at limit 0",
-    "empty mail at another limit",
-    "next refused with 9 at limit 0",
-    "next refused with 9 at another limit",
-    "capacity 1, empty mail after deliveries",
-    "capacity 1, next refused with 9",
-    "capacity 1, limit",
-    "capacity 2, empty mail after deliveries",
-    "capacity 2, next refused with 9",
-    "capacity 2, limit",
-    "capacity 3 to 64, more deliveries than C",
-    "capacity 65 to 200, more deliveries than C",
-    "full mail, more deliveries than C",
-    "256 deliveries or more",
-    "65536 deliveries or more",
-    "64 sessions, 64 items, capacity 4096, empty mail",
-    "64 sessions, 64 items, capacity 4096, next refused with 9",
-    "64 sessions, 64 items, capacity 4096, limit",
-    "64 sessions, 64 items, capacity 4096, 3900 messages or more",
-    "64 sessions, 64 items, capacity 4096, mail full",
-    "empty mail on a list from start, demand 3 checked",
+/// A drain that is accepted.
+pub struct Drain {
+    limit: u64,
+    made: u64,
+    ending: Ending,
+    capacity: u64,
+    /// Messages before it.
+    count: u64,
+    /// S, M and C are as large as can be.
+    largest: bool,
+}
+
+impl Drain {
+    fn ends(&self, capacity: u64, ending: Ending) -> bool {
+        self.capacity == capacity && self.ending == ending
+    }
+
+    /// It ends so where it has also made as many as it may.
+    fn at_limit(&self, ending: Ending) -> bool {
+        self.made == self.limit && self.ending == ending
+    }
+
+    /// More deliveries than C use every place of the mail again.
+    fn more_than_capacity(&self) -> bool {
+        self.made > self.capacity
+    }
+}
+
+const DRAINS: &[Place<Drain>] = &[
+    ("limit 0", |d| d.limit == 0),
+    ("limit 1", |d| d.limit == 1),
+    ("limit 2", |d| d.limit == 2),
+    ("limit 3 to 2^32 - 1", |d| (3..1 << 32).contains(&d.limit)),
+    ("limit 2^32 to 2^64 - 2", |d| {
+        (1 << 32..u64::MAX).contains(&d.limit)
+    }),
+    ("limit 2^64 - 1", |d| d.limit == u64::MAX),
+    ("empty mail at limit 0", |d| {
+        d.limit == 0 && d.at_limit(Ending::Empty)
+    }),
+    ("empty mail at another limit", |d| {
+        d.limit > 0 && d.at_limit(Ending::Empty)
+    }),
+    ("next refused with 9 at limit 0", |d| {
+        d.limit == 0 && d.at_limit(Ending::Full)
+    }),
+    ("next refused with 9 at another limit", |d| {
+        d.limit > 0 && d.at_limit(Ending::Full)
+    }),
+    ("capacity 1, empty mail after deliveries", |d| {
+        d.made > 0 && d.ends(1, Ending::Empty)
+    }),
+    ("capacity 1, next refused with 9", |d| {
+        d.ends(1, Ending::Full)
+    }),
+    ("capacity 1, limit", |d| d.ends(1, Ending::Limit)),
+    ("capacity 2, empty mail after deliveries", |d| {
+        d.made > 0 && d.ends(2, Ending::Empty)
+    }),
+    ("capacity 2, next refused with 9", |d| {
+        d.ends(2, Ending::Full)
+    }),
+    ("capacity 2, limit", |d| d.ends(2, Ending::Limit)),
+    ("capacity 3 to 64, more deliveries than C", |d| {
+        d.more_than_capacity() && (3..=64).contains(&d.capacity)
+    }),
+    ("capacity 65 to 200, more deliveries than C", |d| {
+        d.more_than_capacity() && (65..=200).contains(&d.capacity)
+    }),
+    ("full mail, more deliveries than C", |d| {
+        d.more_than_capacity() && d.count == d.capacity
+    }),
+    ("256 deliveries or more", |d| d.made >= 1 << 8),
+    ("65536 deliveries or more", |d| d.made >= 1 << 16),
+    ("64 sessions, 64 items, capacity 4096, empty mail", |d| {
+        d.largest && d.ending == Ending::Empty
+    }),
+    (
+        "64 sessions, 64 items, capacity 4096, next refused with 9",
+        |d| d.largest && d.ending == Ending::Full,
+    ),
+    ("64 sessions, 64 items, capacity 4096, limit", |d| {
+        d.largest && d.ending == Ending::Limit
+    }),
+    (
+        "64 sessions, 64 items, capacity 4096, 3900 messages or more",
+        |d| d.largest && d.count >= 3900,
+    ),
+    ("64 sessions, 64 items, capacity 4096, mail full", |d| {
+        d.largest && d.count == d.capacity
+    }),
 ];
+
+/// What a list from a start adds.
+const SETTLED: &str = "empty mail on a list from start, demand 3 checked";
 
 pub struct Drains {
     endings: Group,
-    drains: Group,
+    drains: Places<Drain>,
+    settled: Group,
 }
 
 impl Drains {
     pub fn new() -> Drains {
         Drains {
             endings: Group::new("Drains by ending", AT_LEAST, ENDINGS),
-            drains: Group::new("Drains", 1, DRAINS),
+            drains: Places::new("Drains", 1, DRAINS),
+            settled: Group::new("Drains in lists", 1, &[SETTLED]),
         }
     }
 
-    pub fn groups(&self) -> [&Group; 2] {
-        [&self.endings, &self.drains]
+    pub fn groups(&self) -> [&Group; 3] {
+        [&self.endings, &self.drains.group, &self.settled]
     }
 }
 
@@ -65,70 +131,18 @@ impl Coverage {
             return;
         };
         self.drains.endings.hit(ENDINGS[ending as usize - 1]);
-        let made = drained.made;
-        let (capacity, count) = (before.capacity(), before.count());
-        let drains = &mut self.drains.drains;
-        drains.hit(match limit {
-            0 => "limit 0",
-            1 => "limit 1",
-            2 => "limit 2",
-            u64::MAX => "limit 2^64 - 1",
-            _ if limit < 1 << 32 => "limit 3 to 2^32 - 1",
-            _ => "limit 2^32 to 2^64 - 2",
+        self.drains.drains.meet(&Drain {
+            limit,
+            made: drained.made,
+            ending,
+            capacity: before.capacity() as u64,
+            count: before.count() as u64,
+            largest: is_largest(before),
         });
-        match (ending, limit) {
-            (Ending::Empty, 0) => drains.hit("empty mail at limit 0"),
-            (Ending::Empty, _) if made == limit => drains.hit("empty mail at another limit"),
-            (Ending::Full, 0) => drains.hit("next refused with 9 at limit 0"),
-            (Ending::Full, _) if made == limit => {
-                drains.hit("next refused with 9 at another limit")
-            }
-            _ => {}
-        }
-        match (capacity, ending) {
-            (1 | 2, Ending::Empty) if made == 0 => {}
-            (1, Ending::Empty) => drains.hit("capacity 1, empty mail after deliveries"),
-            (1, Ending::Full) => drains.hit("capacity 1, next refused with 9"),
-            (1, Ending::Limit) => drains.hit("capacity 1, limit"),
-            (2, Ending::Empty) => drains.hit("capacity 2, empty mail after deliveries"),
-            (2, Ending::Full) => drains.hit("capacity 2, next refused with 9"),
-            (2, Ending::Limit) => drains.hit("capacity 2, limit"),
-            _ => {}
-        }
-        if made > capacity as u64 {
-            match capacity {
-                3..=64 => drains.hit("capacity 3 to 64, more deliveries than C"),
-                65..=200 => drains.hit("capacity 65 to 200, more deliveries than C"),
-                _ => {}
-            }
-            if count == capacity {
-                drains.hit("full mail, more deliveries than C");
-            }
-        }
-        if made >= 1 << 8 {
-            drains.hit("256 deliveries or more");
-        }
-        if made >= 1 << 16 {
-            drains.hit("65536 deliveries or more");
-        }
-        if is_largest(before) {
-            drains.hit(match ending {
-                Ending::Empty => "64 sessions, 64 items, capacity 4096, empty mail",
-                Ending::Full => "64 sessions, 64 items, capacity 4096, next refused with 9",
-                Ending::Limit => "64 sessions, 64 items, capacity 4096, limit",
-            });
-            if count >= 3900 {
-                drains.hit("64 sessions, 64 items, capacity 4096, 3900 messages or more");
-            }
-            if count == capacity {
-                drains.hit("64 sessions, 64 items, capacity 4096, mail full");
-            }
-        }
     }
 
     /// Demand 3 was checked after a drain that emptied the mail.
     pub fn settled(&mut self) {
-        let drains = &mut self.drains.drains;
-        drains.hit("empty mail on a list from start, demand 3 checked");
+        self.drains.settled.hit(SETTLED);
     }
 }

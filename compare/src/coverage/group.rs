@@ -3,7 +3,7 @@
 use std::collections::BTreeMap;
 use std::fmt::{self, Display, Formatter};
 
-/// Each of its places must be met so often.
+/// Each of its names must be met so often.
 pub struct Group {
     title: &'static str,
     at_least: u64,
@@ -34,9 +34,10 @@ impl Group {
         }
     }
 
-    fn place(&self, name: &str) -> usize {
-        let place = self.places.get(name);
-        *place.unwrap_or_else(|| panic!("no place is called {name}"))
+    fn count(&mut self, name: &str, column: usize) -> &mut u64 {
+        let row = self.places.get(name);
+        let row = *row.unwrap_or_else(|| panic!("no place is called {name}"));
+        &mut self.counts[row][column]
     }
 
     pub fn hit(&mut self, name: &str) {
@@ -44,19 +45,17 @@ impl Group {
     }
 
     pub fn hit_at(&mut self, name: &str, column: usize) {
-        let row = self.place(name);
-        self.counts[row][column] += 1;
+        *self.count(name, column) += 1;
     }
 
     pub fn add(&mut self, name: &str, more: u64) {
-        let row = self.place(name);
-        self.counts[row][0] += more;
+        *self.count(name, 0) += more;
     }
 
     /// Counts the most that was met at once.
     pub fn most(&mut self, name: &str, met: u64) {
-        let row = self.place(name);
-        self.counts[row][0] = self.counts[row][0].max(met);
+        let count = self.count(name, 0);
+        *count = met.max(*count);
     }
 
     /// The places that were met too seldom.
@@ -71,6 +70,38 @@ impl Group {
         }
         missing
     }
+}
+
+/// A name, and when a call meets it.
+pub type Place<Call> = (&'static str, fn(&Call) -> bool);
+
+/// Places at which the calls are looked for.
+pub struct Places<Call: 'static> {
+    places: &'static [Place<Call>],
+    pub group: Group,
+}
+
+impl<Call> Places<Call> {
+    pub fn new(title: &'static str, at_least: u64, places: &'static [Place<Call>]) -> Places<Call> {
+        let names: Vec<_> = places.iter().map(|&(name, _)| name).collect();
+        Places {
+            places,
+            group: Group::new(title, at_least, &names),
+        }
+    }
+
+    /// Counts every place that a call meets.
+    pub fn meet(&mut self, call: &Call) {
+        for (&(_, met), counts) in self.places.iter().zip(&mut self.group.counts) {
+            counts[0] += u64::from(met(call));
+        }
+    }
+}
+
+/// The names of the places that a call meets.
+pub fn met<Call>(places: &[Place<Call>], call: &Call) -> Vec<&'static str> {
+    let met = places.iter().filter(|(_, met)| met(call));
+    met.map(|&(name, _)| name).collect()
 }
 
 impl Display for Group {

@@ -13,8 +13,8 @@ mod text;
 
 use crate::comparison::Buffers;
 use crate::forge::breaks;
-use group::Group;
-use model::{Config, Refusal, ACCEPTED};
+use group::{Group, Places};
+use model::{Config, Cycle, Refusal, ACCEPTED};
 use std::fmt::{self, Display, Formatter};
 
 /// Refusals of each call, endings of drains, bad ranks and reasons not to reopen a
@@ -69,7 +69,7 @@ pub struct Coverage {
     breaks: Group,
     starts: start::Starts,
     steps: step::Steps,
-    reports: report::Reports,
+    reports: Places<Cycle>,
     drains: drain::Drains,
     texts: text::Texts,
     reopenings: reopen::Reopenings,
@@ -85,7 +85,7 @@ impl Coverage {
             breaks: Group::new("Ways to break the form", 1, &breaks),
             starts: start::Starts::new(),
             steps: step::Steps::new(),
-            reports: report::Reports::new(),
+            reports: report::reports(),
             drains: drain::Drains::new(),
             texts: text::Texts::new(),
             reopenings: reopen::Reopenings::new(),
@@ -120,7 +120,7 @@ impl Coverage {
         let mut groups = vec![&self.any_call];
         groups.extend(self.starts.groups());
         groups.extend(self.steps.groups());
-        groups.extend(self.reports.groups());
+        groups.push(&self.reports.group);
         groups.extend(self.drains.groups());
         groups.extend(self.texts.groups());
         groups.extend(self.reopenings.groups());

@@ -1,19 +1,131 @@
 //! Reopenings.
 
-use super::group::Group;
+use super::group::{Group, Place, Places};
 use super::{is_largest, Coverage, AT_LEAST, REOPEN};
 use crate::comparison::Buffers;
 use crate::forge::NAMED;
-use model::layout::{MAX_CAPACITY, ROUTE_ITEM, TABLE_ITEMS, TABLE_SESSIONS};
+use model::layout::{ROUTE_ITEM, TABLE_ITEMS, TABLE_SESSIONS};
 use model::mailbox::{kind, message, Direction, Mailbox};
 use model::names::{by_message, names, Named, Part};
 use model::session::{Session, Stage};
 use model::table::Table;
 use model::{Refusal, ACCEPTED};
 
+/// A session that was reopened, as it was before.
+pub struct Reopened {
+    number: u8,
+    record: Session,
+    rank: u8,
+    items: u8,
+    /// A message names the item of the same number.
+    item_named: bool,
+    mail: Filled,
+}
+
+/// How full the mail is.
+#[derive(Clone, Copy)]
+pub struct Filled {
+    count: usize,
+    full: bool,
+    /// S, M and C are as large as can be.
+    largest: bool,
+}
+
+impl Filled {
+    fn of(buffers: &Buffers) -> Filled {
+        Filled {
+            count: buffers.count(),
+            full: buffers.count() == buffers.capacity(),
+            largest: is_largest(buffers),
+        }
+    }
+}
+
+impl Reopened {
+    fn stores(&self) -> bool {
+        self.record.probes().next().is_some()
+    }
+}
+
+const REOPENED: &[Place<Reopened>] = &[
+    ("shrinking", |r| r.record.stage == Stage::Shrinking),
+    ("shrinking, stored probes", |r| {
+        r.record.stage == Stage::Shrinking && r.stores()
+    }),
+    ("rolled back", |r| r.record.stage == Stage::RolledBack),
+    ("rolled back, stored probes", |r| {
+        r.record.stage == Stage::RolledBack && r.stores()
+    }),
+    ("rolled back, items in its mask", |r| r.record.held != 0),
+    ("number above M", |r| r.number > r.items),
+    ("rank other than its number", |r| r.rank != r.number),
+    ("item of its number in a message", |r| r.item_named),
+    ("empty mail", |r| r.mail.count == 0),
+    ("full mail", |r| r.mail.full),
+];
+
+const REOPENED_LARGEST: &[Place<Reopened>] =
+    &[("reopened: 64 sessions, 64 items, 4096 messages", |r| {
+        r.mail.full && r.mail.largest
+    })];
+
+/// A session that was not reopened because messages alone name it, all of them at one
+/// kind of place.
+pub struct NamedByMessage {
+    first: bool,
+    last: bool,
+    mail: Filled,
+}
+
+const BY_MESSAGE: &[Place<NamedByMessage>] = &[
+    ("by the first of several messages alone", |n| n.first),
+    ("by the last of several messages alone", |n| n.last),
+    ("by the last message of a full mail alone", |n| {
+        n.last && n.mail.full
+    }),
+];
+
+const BY_MESSAGE_LARGEST: &[Place<NamedByMessage>] = &[
+    (
+        "by the first of 4096 messages alone, 64 sessions, 64 items",
+        |n| n.first && n.mail.full && n.mail.largest,
+    ),
+    (
+        "by the last of 4096 messages alone, 64 sessions, 64 items",
+        |n| n.last && n.mail.full && n.mail.largest,
+    ),
+];
+
+/// A number that is no session.
+pub struct NoSession {
+    number: u64,
+    sessions: u64,
+}
+
+const NO_SESSION: &[Place<NoSession>] = &[
+    ("number 0", |n| n.number == 0),
+    ("number S + 1", |n| n.number == n.sessions + 1),
+    ("number of 256 to 2^32 - 1", |n| {
+        (1 << 8..1 << 32).contains(&n.number)
+    }),
+    ("number of 2^32 and more", |n| n.number >= 1 << 32),
+];
+
+/// Where nothing names a session, its stage alone can be the reason.
+const WRONG_STAGES: &[Place<Session>] = &[
+    ("growing", |s| s.stage == Stage::Growing),
+    ("waiting", |s| s.stage == Stage::Waiting),
+    ("cleaning", |s| s.stage == Stage::Cleaning),
+    ("withdrawing", |s| s.stage == Stage::Withdrawing),
+    ("shrinking, holding items", |s| s.stage == Stage::Shrinking),
+];
+
 /// The stages of a session that is named at one place alone, which is then the one
 /// reason not to reopen it.
-const DONE: [&str; 2] = ["shrinking", "rolled back"];
+const DONE: [(Stage, &str); 2] = [
+    (Stage::Shrinking, "shrinking"),
+    (Stage::RolledBack, "rolled back"),
+];
 
 /// The a of an abort is the session of its route: the two are one place.
 const ABORTED: Named = Named::Message {
@@ -22,203 +134,100 @@ const ABORTED: Named = Named::Message {
     kind: kind::ABORT,
 };
 
-/// Where nothing names a session, its stage alone can be the reason.
-const WRONG_STAGES: &[&str] = &[
-    "growing",
-    "waiting",
-    "cleaning",
-    "withdrawing",
-    "shrinking, holding items",
-];
-
-/// Sessions that are reopened.
-const REOPENED: &[&str] = &[
-    "shrinking",
-    "shrinking, stored probes",
-    "rolled back",
-    "rolled back, stored probes",
-    "rolled back, items in its mask",
-    "number above M",
-    "rank other than its number",
-    "item of its number in a message",
-    "empty mail",
-    "full mail",
-];
-
-/// The same with S, M and C as large as can be, and the mail full.
-const LARGEST: &[&str] = &[
-    "accepted",
-    "named by the first message alone",
-    "named by the last message alone",
-];
-
-/// Others that are not.
-const NOT_REOPENED: &[&str] = &[
-    "named by the first of several messages alone",
-    "named by the last of several messages alone",
-    "named by the last message of a full mail alone",
-    "number 0",
-    "number S + 1",
-    "number of 256 to 2^32 - 1",
-    "number of 2^32 and more",
-];
-
 pub struct Reopenings {
+    reopened: Places<Reopened>,
+    reopened_largest: Places<Reopened>,
     named: Group,
-    wrong_stages: Group,
-    reopened: Group,
-    not_reopened: Group,
-    largest: Group,
+    by_message: Places<NamedByMessage>,
+    by_message_largest: Places<NamedByMessage>,
+    wrong_stages: Places<Session>,
+    no_session: Places<NoSession>,
 }
 
 impl Reopenings {
     pub fn new() -> Reopenings {
         Reopenings {
+            reopened: Places::new("Reopened", AT_LEAST, REOPENED),
+            reopened_largest: Places::new("Reopened, largest", 1, REOPENED_LARGEST),
             named: Group::with_columns(
                 "Not reopened for one name alone, by stage",
                 AT_LEAST,
                 &NAMED.map(|(name, _)| name),
-                &DONE,
+                &DONE.map(|(_, name)| name),
             ),
-            wrong_stages: Group::new("Not reopened for the stage alone", AT_LEAST, WRONG_STAGES),
-            reopened: Group::new("Reopened", AT_LEAST, REOPENED),
-            not_reopened: Group::new("Not reopened", AT_LEAST, NOT_REOPENED),
-            largest: Group::new(
-                "Reopenings with 64 sessions, 64 items and 4096 messages",
-                1,
-                LARGEST,
-            ),
+            by_message: Places::new("Not reopened, named", AT_LEAST, BY_MESSAGE),
+            by_message_largest: Places::new("Not reopened, named, largest", 1, BY_MESSAGE_LARGEST),
+            wrong_stages: Places::new("Not reopened for the stage alone", AT_LEAST, WRONG_STAGES),
+            no_session: Places::new("Not reopened, no session", AT_LEAST, NO_SESSION),
         }
     }
 
-    pub fn groups(&self) -> [&Group; 5] {
+    pub fn groups(&self) -> [&Group; 7] {
         [
+            &self.reopened.group,
+            &self.reopened_largest.group,
             &self.named,
-            &self.wrong_stages,
-            &self.reopened,
-            &self.not_reopened,
-            &self.largest,
+            &self.by_message.group,
+            &self.by_message_largest.group,
+            &self.wrong_stages.group,
+            &self.no_session.group,
         ]
     }
 
-    /// A session that was reopened.
-    fn reopened(&mut self, own: u8, record: &Session, before: &Buffers) {
-        let stored = record.probes().next().is_some();
-        let group = &mut self.reopened;
-        if record.stage == Stage::Shrinking {
-            group.hit("shrinking");
-            if stored {
-                group.hit("shrinking, stored probes");
-            }
-        } else {
-            group.hit("rolled back");
-            if stored {
-                group.hit("rolled back, stored probes");
-            }
-            if record.held != 0 {
-                group.hit("rolled back, items in its mask");
-            }
-        }
-        if own > before.table[TABLE_ITEMS] {
-            group.hit("number above M");
-        }
-        if before.ranks()[usize::from(own) - 1] != own {
-            group.hit("rank other than its number");
-        }
-        let count = before.count();
-        if (0..count).any(|place| before.route(place)[ROUTE_ITEM] == own) {
-            group.hit("item of its number in a message");
-        }
-        if count == 0 {
-            group.hit("empty mail");
-        }
-        if count == before.capacity() {
-            group.hit("full mail");
-        }
-        if is_largest(before) && count == MAX_CAPACITY {
-            self.largest.hit("accepted");
-        }
+    fn reopened(&mut self, number: u8, before: &Buffers) {
+        let reopened = Reopened {
+            number,
+            record: before.session_record(number),
+            rank: before.ranks()[usize::from(number) - 1],
+            items: before.table[TABLE_ITEMS],
+            item_named: (0..before.count()).any(|k| before.route(k)[ROUTE_ITEM] == number),
+            mail: Filled::of(before),
+        };
+        self.reopened.meet(&reopened);
+        self.reopened_largest.meet(&reopened);
     }
 
-    /// A session that was refused with 15. If there is one reason alone it counts.
-    fn in_use(&mut self, own: u8, record: &Session, before: &Buffers) {
-        let names = names_of(before, own);
-        let named = match (record.may_reopen(), &names[..]) {
-            (false, []) => return self.wrong_stages.hit(wrong_stage(record.stage)),
+    /// If there is one reason alone it counts.
+    fn in_use(&mut self, own: u8, before: &Buffers) {
+        let record = before.session_record(own);
+        let named = match (record.may_reopen(), &names_of(before, own)[..]) {
+            (false, []) => return self.wrong_stages.meet(&record),
             (true, &[named]) => named,
             _ => return,
         };
-        let all = NAMED.iter().find(|&&(_, other)| other == named);
-        let (row, _) = all.expect("one of the places at which a session is named");
-        let column = usize::from(record.stage != Stage::Shrinking);
-        self.named.hit_at(row, column);
-        let (count, capacity) = (before.count(), before.capacity());
-        if !matches!(named, Named::Message { .. }) || count < 2 {
+        let mut all = NAMED.iter();
+        let (row, _) = all.find(|&&(_, other)| other == named).expect("a place");
+        let column = DONE.iter().position(|&(stage, _)| stage == record.stage);
+        self.named.hit_at(row, column.expect("a stage"));
+        let mail = Filled::of(before);
+        if !matches!(named, Named::Message { .. }) || mail.count < 2 {
             return;
         }
         let named_at = |place| !by_message(message(&before.mail, place), own).is_empty();
-        let (first, last) = (named_at(0), named_at(count - 1));
-        let largest = is_largest(before) && count == capacity;
-        if first {
-            let group = &mut self.not_reopened;
-            group.hit("named by the first of several messages alone");
-            if largest {
-                self.largest.hit("named by the first message alone");
-            }
-        }
-        if last {
-            let group = &mut self.not_reopened;
-            group.hit("named by the last of several messages alone");
-            if count == capacity {
-                group.hit("named by the last message of a full mail alone");
-            }
-            if largest {
-                self.largest.hit("named by the last message alone");
-            }
-        }
+        let by_message = NamedByMessage {
+            first: named_at(0),
+            last: named_at(mail.count - 1),
+            mail,
+        };
+        self.by_message.meet(&by_message);
+        self.by_message_largest.meet(&by_message);
     }
 }
 
 impl Coverage {
-    pub(crate) fn reopen(&mut self, session: u64, before: &Buffers, refusal: u8) {
+    pub(crate) fn reopen(&mut self, number: u64, before: &Buffers, refusal: u8) {
         const BAD_NUMBER: u8 = Refusal::BadNumber as u8;
         const IN_USE: u8 = Refusal::InUse as u8;
-        self.count(REOPEN, refusal, &[session], before);
-        let reopenings = &mut self.reopenings;
+        self.count(REOPEN, refusal, &[number], before);
         match refusal {
-            ACCEPTED => {
-                let record = before.session_record(session as u8);
-                reopenings.reopened(session as u8, &record, before);
-            }
-            IN_USE => {
-                let record = before.session_record(session as u8);
-                reopenings.in_use(session as u8, &record, before);
-            }
-            BAD_NUMBER => {
-                let sessions = u64::from(before.table[TABLE_SESSIONS]);
-                let group = &mut reopenings.not_reopened;
-                match session {
-                    0 => group.hit("number 0"),
-                    _ if session == sessions + 1 => group.hit("number S + 1"),
-                    0x100..=0xFFFF_FFFF => group.hit("number of 256 to 2^32 - 1"),
-                    0x1_0000_0000.. => group.hit("number of 2^32 and more"),
-                    _ => {}
-                }
-            }
+            ACCEPTED => self.reopenings.reopened(number as u8, before),
+            IN_USE => self.reopenings.in_use(number as u8, before),
+            BAD_NUMBER => self.reopenings.no_session.meet(&NoSession {
+                number,
+                sessions: before.table[TABLE_SESSIONS].into(),
+            }),
             _ => {}
         }
-    }
-}
-
-/// The stage of a session that may not be reopened.
-fn wrong_stage(stage: Stage) -> &'static str {
-    match stage {
-        Stage::Growing => "growing",
-        Stage::Waiting => "waiting",
-        Stage::Cleaning => "cleaning",
-        Stage::Withdrawing => "withdrawing",
-        Stage::Shrinking => "shrinking, holding items",
-        Stage::RolledBack => unreachable!("a session that was rolled back may be reopened"),
     }
 }
 

@@ -1,204 +1,210 @@
 //! Texts of cycles.
 
-use super::group::Group;
+use super::group::{Group, Place, Places};
 use super::{Coverage, BY_RANK_AT_LEAST, CYCLE_TEXT};
-use crate::comparison::{queue, Buffers};
-use model::layout::{HOLDER, MAX_TEXT, TABLE_ITEMS};
+use crate::comparison::Buffers;
+use model::layout::MAX_TEXT;
 use model::table::Table;
-use model::waits::waits_for;
+use model::waits::{cycle_waits, text_of, waits_for, Wait};
 use model::{Refusal, Text, ACCEPTED};
 
-/// The members of a cycle are at least so many.
-const SHORTEST_CYCLE: usize = 2;
+/// Whether session, item and holder have so many digits.
+fn has_digits(wait: &Wait, digits: [usize; 3]) -> bool {
+    [wait.session, wait.item, wait.holder].map(|number| number.to_string().len()) == digits
+}
+
+const LINES: &[Place<Wait>] = &[
+    ("1, 1 and 1 digits", |wait| has_digits(wait, [1, 1, 1])),
+    ("1, 1 and 2 digits", |wait| has_digits(wait, [1, 1, 2])),
+    ("1, 2 and 1 digits", |wait| has_digits(wait, [1, 2, 1])),
+    ("1, 2 and 2 digits", |wait| has_digits(wait, [1, 2, 2])),
+    ("2, 1 and 1 digits", |wait| has_digits(wait, [2, 1, 1])),
+    ("2, 1 and 2 digits", |wait| has_digits(wait, [2, 1, 2])),
+    ("2, 2 and 1 digits", |wait| has_digits(wait, [2, 2, 1])),
+    ("2, 2 and 2 digits", |wait| has_digits(wait, [2, 2, 2])),
+];
+
+/// A text that was written.
+pub struct Written {
+    asked: u64,
+    records: Table,
+    waits: Vec<Wait>,
+    length: usize,
+    /// The length of the buffer.
+    room: usize,
+}
+
+impl Written {
+    /// Whether a member stands in a queue besides the one at which it waits.
+    fn stands_too(&self, at: fn(item: u8, holder: u8, wait: &Wait) -> bool) -> bool {
+        self.waits.iter().any(|wait| {
+            let mut items = (1..).zip(&self.records.items);
+            items.any(|(item, record)| {
+                record.queue.contains(&wait.session) && at(item, record.holder, wait)
+            })
+        })
+    }
+}
 
 /// One byte less than the longest text has.
 const ONE_LESS: usize = MAX_TEXT - 1;
 
-/// Lines of texts by the digits of session, item and holder.
-const LINES: [&str; 8] = [
-    "a line with 1, 1 and 1 digits",
-    "a line with 1, 1 and 2 digits",
-    "a line with 1, 2 and 1 digits",
-    "a line with 1, 2 and 2 digits",
-    "a line with 2, 1 and 1 digits",
-    "a line with 2, 1 and 2 digits",
-    "a line with 2, 2 and 1 digits",
-    "a line with 2, 2 and 2 digits",
+const WRITTEN: &[Place<Written>] = &[
+    ("asked about the most senior member", |w| {
+        w.asked == w.waits[0].session.into()
+    }),
+    ("asked about another member", |w| {
+        w.asked != w.waits[0].session.into()
+    }),
+    (
+        "a member in the queue of a higher-numbered held item too",
+        |w| w.stands_too(|item, holder, wait| item > wait.item && holder != 0),
+    ),
+    (
+        "a member in the queue of a lower-numbered free item too",
+        |w| w.stands_too(|item, _, wait| item < wait.item),
+    ),
+    ("the longest text, in 3045 bytes", |w| {
+        w.length == MAX_TEXT && w.room == MAX_TEXT
+    }),
+    ("the longest text, in more", |w| {
+        w.length == MAX_TEXT && w.room > MAX_TEXT
+    }),
+    ("a shorter text in 3045 bytes", |w| {
+        w.length < MAX_TEXT && w.room == MAX_TEXT
+    }),
+    ("a shorter text in 3044 bytes", |w| {
+        w.length < MAX_TEXT && w.room == ONE_LESS
+    }),
+    ("exact buffer", |w| w.room == w.length),
+    ("buffer one byte longer", |w| w.room == w.length + 1),
+    ("buffer 1000 bytes longer or more", |w| {
+        w.room >= w.length + 1000
+    }),
+    ("buffer of 65536 bytes or more", |w| w.room >= 1 << 16),
 ];
 
-/// Other texts.
-const TEXTS: &[&str] = &[
-    "asked about the most senior member",
-    "asked about another member",
-    "a member in the queue of a higher-numbered held item too",
-    "a member in the queue of a lower-numbered free item too",
-    "the longest text, in 3045 bytes",
-    "the longest text, in more",
-    "a shorter text in 3045 bytes",
-    "a shorter text in 3044 bytes",
-    "exact buffer",
-    "buffer one byte longer",
-    "buffer 1000 bytes longer or more",
-    "buffer of 65536 bytes or more",
-    "too short: 3044 bytes for the longest text",
-    "too short: one byte less",
-    "too short: length 0",
-    "too short: any other length",
-    "on no cycle: waits for none",
-    "on no cycle: waits lead to a session that waits for none",
-    "on no cycle: waits lead into a cycle",
-    "on no cycle: buffer of length 0",
+/// Met by rank and not by number.
+const BY_RANK: &[Place<Written>] = &[("from another session than the lowest-numbered", |w| {
+    w.waits.iter().any(|wait| wait.session < w.waits[0].session)
+})];
+
+/// A text that was refused with 11, for the room.
+pub struct Short {
+    length: usize,
+    room: usize,
+}
+
+const SHORT: &[Place<Short>] = &[
+    ("3044 bytes for the longest text", |s| s.room == ONE_LESS),
+    ("one byte less", |s| s.room + 1 == s.length),
+    ("length 0", |s| s.room == 0),
+    ("any other length", |s| s.room > 0 && s.room + 1 < s.length),
 ];
 
-/// Texts met by rank and not by number.
-const BY_RANK: &[&str] = &["a text from another session than the lowest-numbered"];
+/// A text that was refused with 10, for a session on no cycle.
+pub struct OnNoCycle {
+    /// Waits in a row, from the session on, up to the number of sessions.
+    waits: usize,
+    sessions: usize,
+    room: usize,
+}
 
-/// Members of cycles, in rows of nine.
+const ON_NO_CYCLE: &[Place<OnNoCycle>] = &[
+    ("waits for none", |n| n.waits == 0),
+    ("waits lead to a session that waits for none", |n| {
+        n.waits > 0 && n.waits < n.sessions
+    }),
+    ("waits lead into a cycle", |n| n.waits == n.sessions),
+    ("buffer of length 0", |n| n.room == 0),
+];
+
+/// Members of cycles, in rows of nine from the fewest on.
+const FEWEST: usize = 2;
+const ROW: usize = 9;
 const MEMBERS: [&str; 7] = [
     "2 to 10", "11 to 19", "20 to 28", "29 to 37", "38 to 46", "47 to 55", "56 to 64",
 ];
-const ROW: usize = 9;
 
 pub struct Texts {
     members: Group,
-    texts: Group,
-    by_rank: Group,
+    lines: Places<Wait>,
+    written: Places<Written>,
+    by_rank: Places<Written>,
+    short: Places<Short>,
+    on_no_cycle: Places<OnNoCycle>,
 }
 
 impl Texts {
     pub fn new() -> Texts {
+        let title = "Texts by the members of their cycle";
         Texts {
-            members: Group::with_columns(
-                "Texts by the members of their cycle",
-                1,
-                &MEMBERS,
-                &[""; ROW],
-            ),
-            texts: Group::new("Texts of cycles", 1, &[&LINES, TEXTS].concat()),
-            by_rank: Group::new(
-                "Of these, met by rank and not by number",
-                BY_RANK_AT_LEAST,
-                BY_RANK,
-            ),
+            members: Group::with_columns(title, 1, &MEMBERS, &[""; ROW]),
+            lines: Places::new("Lines of texts: session, item and holder", 1, LINES),
+            written: Places::new("Texts", 1, WRITTEN),
+            by_rank: Places::new("Texts by rank", BY_RANK_AT_LEAST, BY_RANK),
+            short: Places::new("Texts into too short a buffer", 1, SHORT),
+            on_no_cycle: Places::new("No text: on no cycle", 1, ON_NO_CYCLE),
         }
     }
 
-    pub fn groups(&self) -> [&Group; 3] {
-        [&self.members, &self.texts, &self.by_rank]
+    pub fn groups(&self) -> [&Group; 6] {
+        [
+            &self.members,
+            &self.lines.group,
+            &self.written.group,
+            &self.by_rank.group,
+            &self.short.group,
+            &self.on_no_cycle.group,
+        ]
     }
 }
 
 impl Coverage {
-    /// The text is the whole buffer after the call.
-    pub(crate) fn cycle_text(
-        &mut self,
-        session: u64,
-        buffers: &Buffers,
-        answer: Text,
-        text: &[u8],
-    ) {
+    /// A text into a buffer of so many bytes.
+    pub(crate) fn cycle_text(&mut self, asked: u64, buffers: &Buffers, answer: Text, room: usize) {
         const NO_CYCLE: u8 = Refusal::NoCycle as u8;
         const SHORT_BUFFER: u8 = Refusal::ShortBuffer as u8;
-        self.count(CYCLE_TEXT, answer.refusal, &[session], buffers);
-        let texts = &mut self.texts.texts;
-        match (answer.refusal, text.len()) {
-            (ACCEPTED, _) => {
-                let (lines, rest) = text.split_at(answer.length.into());
-                self.written(session, buffers, lines, rest);
+        self.count(CYCLE_TEXT, answer.refusal, &[asked], buffers);
+        if ![ACCEPTED, NO_CYCLE, SHORT_BUFFER].contains(&answer.refusal) {
+            return;
+        }
+        let texts = &mut self.texts;
+        let records = Table::decode(&buffers.table).expect("a table that was judged");
+        let waits = cycle_waits(&records, asked as u8);
+        let length = text_of(&waits).len();
+        match answer.refusal {
+            ACCEPTED => {
+                let members = waits.len() - FEWEST;
+                texts.members.hit_at(MEMBERS[members / ROW], members % ROW);
+                waits.iter().for_each(|wait| texts.lines.meet(wait));
+                let written = Written {
+                    asked,
+                    records,
+                    waits,
+                    length,
+                    room,
+                };
+                texts.written.meet(&written);
+                texts.by_rank.meet(&written);
             }
-            (NO_CYCLE, room) => {
-                texts.hit(on_no_cycle(buffers, session as u8));
-                if room == 0 {
-                    texts.hit("on no cycle: buffer of length 0");
-                }
-            }
-            (SHORT_BUFFER, 0) => texts.hit("too short: length 0"),
-            (SHORT_BUFFER, ONE_LESS) => texts.hit("too short: 3044 bytes for the longest text"),
-            (SHORT_BUFFER, room) => {
-                let whole = model::cycle_text(session, &buffers.table, &mut [0; MAX_TEXT]);
-                texts.hit(match usize::from(whole.length) - room {
-                    1 => "too short: one byte less",
-                    _ => "too short: any other length",
-                });
-            }
-            _ => {}
-        }
-    }
-
-    /// A text that was written, and the rest of its buffer.
-    fn written(&mut self, session: u64, buffers: &Buffers, text: &[u8], rest: &[u8]) {
-        let texts = &mut self.texts.texts;
-        let (mut members, mut higher, mut lower) = (Vec::new(), false, false);
-        for line in String::from_utf8_lossy(text).lines() {
-            let numbers: Vec<usize> = line.split(' ').filter_map(|w| w.parse().ok()).collect();
-            let [member, item, _] = numbers[..] else {
-                panic!("a line of a text: {line}");
-            };
-            let two_digits = |place: usize, &number: &usize| 2 * place + usize::from(number > 9);
-            texts.hit(LINES[numbers.iter().fold(0, two_digits)]);
-            members.push(member);
-            let is_held = |other| buffers.item(other)[HOLDER] != 0;
-            let queues = || queues_of(buffers, member as u8);
-            higher |= queues().any(|other| other > item && is_held(other));
-            lower |= queues().any(|other| other < item);
-        }
-        let (row, column) = (
-            (members.len() - SHORTEST_CYCLE) / ROW,
-            (members.len() - SHORTEST_CYCLE) % ROW,
-        );
-        self.texts.members.hit_at(MEMBERS[row], column);
-        if members.iter().min() != members.first() {
-            self.texts.by_rank.hit(BY_RANK[0]);
-        }
-        texts.hit(if members[0] as u64 == session {
-            "asked about the most senior member"
-        } else {
-            "asked about another member"
-        });
-        if higher {
-            texts.hit("a member in the queue of a higher-numbered held item too");
-        }
-        if lower {
-            texts.hit("a member in the queue of a lower-numbered free item too");
-        }
-        // From the greatest length on nothing need be counted.
-        let room = text.len() + rest.len();
-        match (text.len() == MAX_TEXT, room) {
-            (true, MAX_TEXT) => texts.hit("the longest text, in 3045 bytes"),
-            (true, _) => texts.hit("the longest text, in more"),
-            (false, MAX_TEXT) => texts.hit("a shorter text in 3045 bytes"),
-            (false, ONE_LESS) => texts.hit("a shorter text in 3044 bytes"),
-            _ => {}
-        }
-        match rest.len() {
-            0 => texts.hit("exact buffer"),
-            1 => texts.hit("buffer one byte longer"),
-            1000.. => texts.hit("buffer 1000 bytes longer or more"),
-            _ => {}
-        }
-        if room >= 1 << 16 {
-            texts.hit("buffer of 65536 bytes or more");
+            SHORT_BUFFER => texts.short.meet(&Short { length, room }),
+            _ => texts.on_no_cycle.meet(&OnNoCycle {
+                waits: waits_in_a_row(&records, asked as u8),
+                sessions: records.sessions.len(),
+                room,
+            }),
         }
     }
 }
 
-/// The items of a well-formed table in whose queues a session stands.
-fn queues_of(buffers: &Buffers, session: u8) -> impl Iterator<Item = usize> + '_ {
-    let items = 1..=usize::from(buffers.table[TABLE_ITEMS]);
-    items.filter(move |&item| queue(buffers.item(item)).contains(&session))
-}
-
-/// Where the waits of a session that lies on no cycle lead: into a cycle if there
-/// are as many in a row as sessions.
-fn on_no_cycle(buffers: &Buffers, session: u8) -> &'static str {
-    let records = Table::decode(&buffers.table).expect("a table that was judged");
-    let mut last = session;
-    for _ in &records.sessions {
-        match waits_for(&records, last) {
-            None if last == session => return "on no cycle: waits for none",
-            None => return "on no cycle: waits lead to a session that waits for none",
-            Some(holder) => last = holder,
+/// As many as there are sessions if they lead into a cycle.
+fn waits_in_a_row(records: &Table, mut session: u8) -> usize {
+    for waits in 0..records.sessions.len() {
+        match waits_for(records, session) {
+            None => return waits,
+            Some(holder) => session = holder,
         }
     }
-    "on no cycle: waits lead into a cycle"
+    records.sessions.len()
 }
