@@ -30,11 +30,11 @@ over-read s h = go (eqb (s .stage) Stage.rolledBack) refl h
         let shrinks = and-both (eqb (s .stage) Stage.shrinking) (eqb (s .held) 0) (sym (or-false (eqb (s .stage) Stage.shrinking && eqb (s .held) 0)) ∙ h) .0 in
         rw (eqb-true (s .stage) Stage.shrinking shrinks) refl
 
-entries-read : (t : ℕ) (l : List Entry) → noEntryNames t l ≡ true → allOf (λ (e : Machine.Entry). not (Machine.ofSession t e)) (readEntries l) ≡ true
-unfolding allOf readEntries noEntryNames entryNames Machine.ofSession
+entries-read : (t : ℕ) (l : List Entry) → noEntryNames t l ≡ true → Machine.noneOfSession t (readEntries l) ≡ true
+unfolding allOf readEntries noEntryNames entryNames Machine.noneOfSession Machine.ofSession
 entries-read t [] h = refl
 entries-read t (e ∷ l) h =
-    let p = and-both (not (entryNames t e)) (allOf (λ e. not (entryNames t e)) l) h in
+    let p = and-both (not (entryNames t e)) (noEntryNames t l) h in
     let other = or-neither (eqb (e .session) t) _ (not-true _ (p .0)) .0 in
     and-intro (ap not (ne-eqb t (e .session) (λ q. eqb-false (e .session) t other (sym q)))) (entries-read t l (p .1))
 

@@ -155,6 +155,10 @@ isOver (releasing p) = true
 unfoldable pub ofSession : ℕ → Entry → Bool
 ofSession t e = eqb t (e .session)
 
+-- no message of a list does
+unfoldable pub noneOfSession : ℕ → List Entry → Bool
+noneOfSession t l = allOf (λ (e : Entry). not (ofSession t e)) l
+
 -- session t holds the item or stands in its queue
 unfoldable pub itemNames : ℕ → Item → Bool
 itemNames t i = heldBy (i .holder) t || member t (i .queue)
@@ -338,7 +342,7 @@ module _ (R : Rules) where
   unfoldable pub mayReopen : State → ℕ → Bool
   mayReopen s t =
       isOver (s .session t .stage)
-      && (allOf (λ (e : Entry). not (ofSession t e)) (s .mailbox) && every (R .M) (λ (x : ℕ). not (itemNames t (s .item x))))
+      && (noneOfSession t (s .mailbox) && every (R .M) (λ (x : ℕ). not (itemNames t (s .item x))))
 
   -- it begins anew
   unfoldable pub onReopenCall : State → ℕ → Answer

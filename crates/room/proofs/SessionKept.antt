@@ -1,19 +1,17 @@
 -- A step of one session keeps the clauses if it turns its stage as below, sends what is allowed, and sends no more than the message weighs that it took.
-use mathlib.Core.Path.{_∙_, _≡_, ap, refl, subst, sym}
+use mathlib.Core.Path.{_∙_, _≡_, ap, refl, sym}
 use mathlib.Core.Bool.{false, true}
 use mathlib.Core.List.{List}
 use mathlib.Core.Logic.{_≢_, _⊎_, inl, inr}
 use Prim.Native.Nat.{_+_, _≤_, ℕ}
 use native.Mathlib.Omega.{arith}
-use Rattle.lists.proofs.Tests.{same?}
-use Rattle.deadlock.specs.Lists.{updated}
 use Rattle.deadlock.specs.Machine.{afterSession, Entry, growing, Message, releasing, Rules, Session, sessionDrops, SessionStep, Stage, State, takeFirst, taken, victim, waiting}
 use Rattle.deadlock.specs.Counts.{every-nil}
 use Rattle.deadlock.specs.Links.{mayRelease}
 use Rattle.deadlock.specs.World.{isVictim, isWaiting}
 use Rattle.deadlock.proofs.Laws.Entries.{entry, every-fromSession, every-take}
 use Rattle.deadlock.proofs.Laws.Counts.{every-append}
-use Rattle.deadlock.proofs.Laws.Lists.{updated-other, updated-same}
+use Rattle.deadlock.proofs.Laws.Lists.{by-updated}
 use Rattle.bound.proofs.Mail.{sum-session}
 use Rattle.bound.proofs.Sent.{sentWeight}
 use Rattle.room.specs.Snapshot.{Snapshot, storedCount}
@@ -26,13 +24,6 @@ waiting-item growing h = absurd (omega arith)
 waiting-item (waiting y) h = (y, refl)
 waiting-item (victim q y) h = absurd (omega arith)
 waiting-item (releasing q) h = absurd (omega arith)
-
--- what holds of the new record of session t and of the others' records
-by-session : (P : ℕ → Session → Type 0) (f : ℕ → Session) (t : ℕ) (r : Session) → P t r → ((u : ℕ) → t ≢ u → P u (f u)) → (u : ℕ) → P u (updated f t r u)
-by-session P f t r a b u = elim (same? t u) [
-  | yes q ↦ subst (λ (z : ℕ). P z (updated f t r z)) q (rw (updated-same f t r) a)
-  | no q ↦ rw (updated-other f t r u q) (b u q)
-]
 
 module _ (R : Rules) (p : Snapshot) (s : State) (t : ℕ) where
   -- how a step turns the stage and the store of session t
@@ -82,16 +73,16 @@ module _ (R : Rules) (p : Snapshot) (s : State) (t : ℕ) where
     unfolding afterSession mailWeight
     kept x m l e o f = record {
       victim-stage =
-          by-session (λ u r. u ≡ p .victim → 1 ≤ isVictim (r .stage) + mayRelease (r .stage)) (s .session) t (o .after) (f .turns .victim-stays)
+          by-updated (λ u r. u ≡ p .victim → 1 ≤ isVictim (r .stage) + mayRelease (r .stage)) (s .session) t (o .after) (f .turns .victim-stays)
           (λ u _ q. rw q (c .victim-stage)) (p .victim) refl;
-      only-victim = by-session (λ u r. u ≢ p .victim → isVictim (r .stage) ≡ 0) (s .session) t (o .after) (f .turns .no-other) (λ u _. c .only-victim u);
+      only-victim = by-updated (λ u r. u ≢ p .victim → isVictim (r .stage) ≡ 0) (s .session) t (o .after) (f .turns .no-other) (λ u _. c .only-victim u);
       waited =
-          by-session (λ u r. (y : ℕ) → r .stage ≡ waiting y → p .state .session u .stage ≡ waiting y) (s .session) t (o .after)
+          by-updated (λ u r. (y : ℕ) → r .stage ≡ waiting y → p .state .session u .stage ≡ waiting y) (s .session) t (o .after)
           (λ y q. c .waited t y (f .turns .waited y q)) (λ u _. c .waited u);
       queues = c .queues;
       holders = λ y. over y (c .holders y);
       stores =
-          by-session (λ u r. p .member u ≡ false → 1 ≤ isWaiting (r .stage) → storedCount R (r .stored) ≤ storedCount R (p .state .session u .stored))
+          by-updated (λ u r. p .member u ≡ false → 1 ≤ isWaiting (r .stage) → storedCount R (r .stored) ≤ storedCount R (p .state .session u .stored))
           (s .session) t (o .after)
           (λ n w. omega (arith, f .turns .stores n w, c .stores t n (let z = waiting-item (o .after .stage) w in rw (f .turns .waited (z .0) (z .1)) (omega arith))))
           (λ u _. c .stores u);
@@ -104,7 +95,7 @@ module _ (R : Rules) (p : Snapshot) (s : State) (t : ℕ) where
         over y (inl q) = inl q
         over y (inr h) = inr (record {
           over =
-              by-session (λ u r. u ≡ p .victim → 1 ≤ mayRelease (r .stage)) (s .session) t (o .after)
+              by-updated (λ u r. u ≡ p .victim → 1 ≤ mayRelease (r .stage)) (s .session) t (o .after)
               (λ q. omega (arith, h .over, f .turns .over-stays, ap (λ (u : ℕ). mayRelease (s .session u .stage)) q))
               (λ u _ q. rw q (h .over)) (p .victim) refl;
           now = h .now;

@@ -11,20 +11,20 @@ use borrow.Author.Tests.{eq-eqb, eqb-false, eqb-true, ne-eqb}
 use Rattle.lists.specs.Lists.{member}
 use Rattle.lists.proofs.Tests.{by-test, same?}
 use Rattle.deadlock.specs.Lists.{bit, updated, without}
-use Rattle.deadlock.specs.Machine.{abort, accepted, afterAnswer, afterItem, afterSession, Answer, Call, clean, cleaning, cleared, deliverToItem, deliverToSession, down, Entry, grant, grantOrQueue, growing, handOver, heldBy, inQueue, isLive, isNews, itemReceives, ItemStep, itemTakes, junior, Laws, mayReopen, Message, move, noEntry, ofMachine, onAbort, onClean, onGrant, onProbe, onRebroadcast, onRelease, onReleaseCall, onReopenCall, onRequest, onRequestCall, onResend, onWithdrawn, passClean, passProbe, probe, probesAnew, rebroadcast, refused, release, releaseCall, releaseHeld, releasing, reopen, request, requestCall, resend, rolledBack, route, Rules, Sends, Session, sessionReceives, SessionStep, sessionTakes, shrinking, Stage, start, State, storeProbe, takeFirst, taken, Taken, up, victim, waiting, withdraw, withdrawing, withdrawn}
+use Rattle.deadlock.specs.Machine.{abort, accepted, afterAnswer, afterItem, afterSession, Answer, Call, clean, cleaning, cleared, deliverToItem, deliverToSession, down, Entry, grant, grantOrQueue, growing, handOver, heldBy, inQueue, isLive, isNews, itemReceives, ItemStep, itemTakes, junior, Laws, mayReopen, Message, move, noEntry, ofMachine, onAbort, onClean, onGrant, onProbe, onRebroadcast, onRelease, onReleaseCall, onReopenCall, onRequest, onRequestCall, onResend, onWithdrawn, passClean, passProbe, probe, probesAnew, rebroadcast, refused, release, releaseCall, releaseHeld, releasing, reopen, request, requestCall, resend, route, Rules, Sends, Session, sessionReceives, SessionStep, sessionTakes, Stage, start, State, storeProbe, takeFirst, taken, Taken, up, victim, waiting, withdraw, withdrawing, withdrawn}
 use Rattle.message.specs.Kind
 use Rattle.deadlock.specs.Counts.{behind-cons, behind-nil, countBehind, countKind, EachBehind, every-cons, every-nil, kindOf, OfProbe, probeOf, probesBy, sentTo}
 use Rattle.deadlock.specs.Links.{awaits}
-use Rattle.deadlock.specs.World.{HolderIs, isVictim, isWaiting, Queued, TellsDown, World}
+use Rattle.deadlock.specs.World.{HolderIs, isWaiting, Queued, TellsDown, World}
 use Rattle.deadlock.specs.Invariant.{downRoute, Invariant, mailOf, upRoute, worldOf}
-use Rattle.deadlock.proofs.Laws.Lists.{bit-eqb, bit-one, member-occurs, updated-other, updated-same, zero-or-more}
+use Rattle.deadlock.proofs.Laws.Lists.{bit-eqb, bit-one, by-updated, member-occurs, updated-other}
 use Rattle.deadlock.proofs.Laws.Counts.{every-append, ofProbe-map}
 use Rattle.deadlock.proofs.Laws.Routes.{apart-item, apart-session, countBehind-first, countBehind-le, countBehind-none, take-other, take-same}
-use Rattle.deadlock.proofs.Laws.Stages.{seen-facts, stage-facts}
+use Rattle.deadlock.proofs.Laws.Stages.{by-release, stage-facts}
 use Rattle.deadlock.proofs.Coverage.Sums.{probesBy-append}
 use Rattle.deadlock.proofs.Links.Kept.{item-high, item-low, session-down}
-use Rattle.deadlock.proofs.Core.Kept.{item-takes, known-of}
-use Rattle.deadlock.proofs.Core.KeptByRequestAndRelease.{release-holder, release-no-edge, released-no-victim, request-is-waiting}
+use Rattle.deadlock.proofs.Core.Kept.{item-takes, known-of, released-waits}
+use Rattle.deadlock.proofs.Core.KeptByRequestAndRelease.{release-holder, release-no-edge, request-is-waiting}
 use Rattle.room.specs.Phases.{Tidy}
 use Rattle.room.proofs.Sending.{every-probesTo, every-resends, Sent}
 
@@ -136,13 +136,7 @@ module _ (R : Rules) (L : Laws R) (s : State) (k : Invariant R s) where
         let known = known-of R L s (k .core) in
         let hd = head (up release) l e in
         let holds : HolderIs (worldOf s) x t = release-holder L known t x lo hi (mailOf s) (route true t x l) hd in
-        let f = k .core .links .linked n x lo hi in
-        waiting-no-probe n x
-        (elim (zero-or-more (isVictim (s .session n .stage))) [
-          | inl z ↦ omega (arith, z, stands, seen-facts (s .session n .stage) x)
-          | inr z ↦ absurd (released-no-victim L known t x lo hi (mailOf (afterItem s x l (itemReceives R t (s .item x) (up release)))) (route true t x l) hd (s .item x) (λ a. omega arith)
-              (item-takes R L s (k .core) t x (up release) l e (itemReceives R t (s .item x) (up release))) n stands z)
-        ])
+        waiting-no-probe n x (released-waits R L s (k .core) t x lo hi l e n stands)
         (λ h. release-no-edge L known t x lo hi (mailOf s) (route true t x l) hd t
         (record { item = x; low = lo; high = hi; stands = (let q : t ≡ n = cc in rw q stands); held = holds }))
 
@@ -218,10 +212,7 @@ module _ (R : Rules) (s : State) (d : Tidy R s) where
   }
     where
       each : (u : ℕ) → TidySession u (updated (s .session) t (o .after) u)
-      each u = elim (same? t u) [
-        | yes q ↦ rw (← q, updated-same) h
-        | no q ↦ rw (updated-other (s .session) t (o .after) u q) (d .own-stored u, d .awaited u)
-      ]
+      each = by-updated TidySession (s .session) t (o .after) h (λ u _. (d .own-stored u, d .awaited u))
 
   module _ (t : ℕ) where
     abbrev own : Session
@@ -309,12 +300,7 @@ module _ (R : Rules) (s : State) (d : Tidy R s) where
     gives-up x = by-test TidyAnswer (own .held x) (λ _. (refl, λ z h. absurd (omega arith))) (λ _. tt)
 
     releases : (x : ℕ) (a : Stage) → TidyAnswer (onReleaseCall R x own a)
-    unfolding onReleaseCall
-    releases x growing = gives-up x
-    releases x (waiting y) = tt
-    releases x (victim p y) = tt
-    releases x (releasing shrinking) = gives-up x
-    releases x (releasing rolledBack) = tt
+    releases x = by-release R x own TidyAnswer tt (gives-up x)
 
     reopens : TidyAnswer (onReopenCall R s t)
     unfolding onReopenCall

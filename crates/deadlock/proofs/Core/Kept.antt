@@ -12,8 +12,10 @@ use Rattle.deadlock.specs.Lists.{occurs}
 use Rattle.deadlock.specs.Machine.{abort, accepted, afterAnswer, afterItem, afterSession, Answer, Call, clean, deliverToItem, deliverToSession, down, Entry, fromItem, fromSession, isOnRoute, itemDrops, itemReceives, ItemStep, itemTakes, Laws, Message, move, noEntry, ofMachine, probe, putBack, rebroadcast, refused, release, releaseCall, reopen, request, requestCall, route, Rules, Sends, sessionReceives, SessionStep, sessionTakes, start, State, takeFirst, Taken, taken, up, withdraw}
 use Rattle.message.specs.Kind
 use Rattle.deadlock.specs.Counts.{behind-nil, behindRequest, cleanOf, cleansOf, cleansSent, EachBehind, every-nil, kindOf, sentTo}
-use Rattle.deadlock.specs.World.{FreeIsEmpty, Known, Links, Mail, MailCounts, Probes, TellsUp, Victims, World}
+use Rattle.deadlock.specs.World.{FreeIsEmpty, isVictim, isWaiting, Known, Links, Mail, MailCounts, Probes, Queued, TellsUp, Victims, World}
 use Rattle.deadlock.specs.Invariant.{cleansIn, Core, downRoute, mailOf, upRoute, worldOf}
+use Rattle.deadlock.proofs.Laws.Lists.{zero-or-more}
+use Rattle.deadlock.proofs.Laws.Stages.{seen-facts}
 use Rattle.deadlock.proofs.Laws.Routes.{Apart, apart-direction, apart-item, apart-session, take-other, take-same}
 use Rattle.deadlock.proofs.Links.Kept.{item-down, item-down-other, item-high, item-low, item-up, linked-move, linked-start, session-down, session-up, session-up-other}
 use Rattle.deadlock.proofs.Links.EachItemKept.{each-item-move, free-kept}
@@ -24,7 +26,7 @@ use Rattle.deadlock.proofs.Probes.KeptAtItem.{clean-probes, drop-probes
 use Rattle.deadlock.proofs.Probes.ClosedPath.{declare-cycle, DeclaredCycle}
 use Rattle.deadlock.proofs.Victims.KeptAtItem.{clean-victims, drop-victims, probe-victims, rebroadcast-victims}
 use Rattle.deadlock.proofs.Victims.KeptByWithdraw.{withdraw-victims}
-use Rattle.deadlock.proofs.Core.KeptByRequestAndRelease.{release-item, request-item}
+use Rattle.deadlock.proofs.Core.KeptByRequestAndRelease.{release-item, released-no-victim, request-item}
 use Rattle.deadlock.proofs.Probes.OthersStay.{SessionSends, SessionTakes}
 use Rattle.deadlock.proofs.Core.KeptAtSession.{CallDone, release-call, request-call, session-heard}
 use Rattle.deadlock.proofs.Reopening.{reopen-call}
@@ -130,6 +132,17 @@ module _ (R : Rules) (L : Laws R) (s : State) (k : Core R s) where
       off : (a z : ℕ) → (t ≢ a) ⊎ (x ≢ z) → Apart true t x true a z
       off a z (inl q) = apart-session t x a z true true q
       off a z (inr q) = apart-item t x a z true true q
+
+  -- whoever stands in the queue of an item that is released waits
+  pub released-waits : (t x : ℕ) → 1 ≤ x → x ≤ R .M → (l : List Entry) → takeFirst true t x (s .mailbox) ≡ taken (up release) l
+      → (a : ℕ) → Queued (worldOf s) a x → 1 ≤ isWaiting (s .session a .stage)
+  released-waits t x lo hi l e a stands =
+      let o = itemReceives R t (s .item x) (up release) in
+      let takes = item-takes t x (up release) l e o in
+      elim (zero-or-more (isVictim (s .session a .stage))) [
+        | inl z ↦ omega (arith, z, stands, k .links .linked a x lo hi .one-place, seen-facts (s .session a .stage) x)
+        | inr z ↦ absurd (released-no-victim L known-of t x lo hi (mailOf (afterItem s x l o)) _ (takes .head) (s .item x) (λ b. omega arith) takes a stands z)
+      ]
 
   both-after-item : (t x : ℕ) → 1 ≤ x → x ≤ R .M → (p : Taken) → takeFirst true t x (s .mailbox) ≡ p → ProbesAndVictims (itemTakes R s t x p)
   unfolding itemTakes afterItem

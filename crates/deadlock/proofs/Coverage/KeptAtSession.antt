@@ -23,7 +23,7 @@ use Rattle.deadlock.proofs.Laws.Stages.{awaits-item, awaits-one, seen-f
 use Rattle.deadlock.proofs.Links.NeutralMessages.{neutral-toAwaited}
 use Rattle.deadlock.proofs.Laws.Counts.{behind-head, behindRequest-append, cleansSent-probesFrom, cleansSent-toAwaited, up-kinds}
 use Rattle.deadlock.proofs.Laws.Walks.{cycle-next, first-edge-of, path-has-start, path-suffix}
-use Rattle.deadlock.proofs.Victims.OneOnCycle.{no-grant-queued, no-self-edge, one-edge, victim-of-down}
+use Rattle.deadlock.proofs.Victims.OneOnCycle.{no-grant-queued, no-self-edge, one-edge, victim-of-down, waits-no-grant}
 use Rattle.deadlock.proofs.Probes.OthersStay.{SessionSends, SessionTakes, worldAfterSession}
 use Rattle.deadlock.proofs.Core.KeptAtSession.{clean-nowhere, clean-own}
 use Rattle.deadlock.proofs.Coverage.Sums.{freshProbes-append, freshProbes-head, freshProbes-no-clean, freshProbes-right, freshProbes-skip, isStored-one, isStored-or, isStored-zero, no-clean-sent, no-request-storedProbes, probeOf-some, probesBy-storedProbes, rebroadcast-to-held, unlessCleaned-le, unlessCleaned-mono, unlessCleaned-open, unlessCleaned-shut}
@@ -462,19 +462,7 @@ module _ {R : Rules} (L : Laws R) {w : World} (known : Known R w) (tr : Probes R
         mask : (z : ℕ) → 1 ≤ z → z ≤ R .M → HolderIs w z t → w .session t .held z ≡ true
         mask z lo′ hi′ eh =
             let k = known .links .linked t z lo′ hi′ in
-            bit-one (w .session t .held z) (omega (arith, ap (λ (b : Option ℕ). bit (heldBy b t)) eh, ap bit (eqb-self t), stage-facts (stageOf w t), ap bit live-now, no-gr z lo′ hi′))
-          where
-            no-gr : (z : ℕ) → 1 ≤ z → z ≤ R .M → countKind Kind.grant (w .down t z) ≡ 0
-            no-gr z lo′ hi′ = cases (zero-or-more (countKind Kind.grant (w .down t z)))
-              where
-                cases : (countKind Kind.grant (w .down t z) ≡ 0) ⊎ (1 ≤ countKind Kind.grant (w .down t z)) → countKind Kind.grant (w .down t z) ≡ 0
-                cases (inl k) = k
-                cases (inr k) =
-                    let f = known .links .linked t z lo′ hi′ in
-                    let g = known .links .linked t (d .item) (d .low) (d .high) in
-                    let q : d .item ≡ z = awaits-one (awaits-item (stageOf w t) (d .item) (omega (arith, d .stands))) (awaits-item (stageOf w t) z (omega (arith, k))) in
-                    let s : Queued w t z = rw q at (d .stands) in
-                    absurd (omega (arith, k, seen-facts (stageOf w t) z))
+            bit-one (w .session t .held z) (omega (arith, ap (λ (b : Option ℕ). bit (heldBy b t)) eh, ap bit (eqb-self t), stage-facts (stageOf w t), ap bit live-now, waits-no-grant (known .links) t h0 z d lo′ hi′))
 
         far : (z : ℕ) → 1 ≤ z → z ≤ R .M → HolderIs w z t → x ≢ z → 1 ≤ rebroadcastDue R cleaned z t
         far z lo′ hi′ eh q = omega (arith, reb z lo′ hi′ q (mask z lo′ hi′ eh), ap (countKind Kind.rebroadcast) (acts .up-at z), countKind-append Kind.rebroadcast (w .up t z) (sentTo z out))

@@ -1,5 +1,5 @@
 -- Laws of tests, of changed functions and of lists of numbers.
-use mathlib.Core.Path.{_∙_, _≡_, ap, refl, sym}
+use mathlib.Core.Path.{_∙_, _≡_, ap, refl, subst, sym}
 use mathlib.Core.Bool.{_||_, Bool, cond, false, false≢true, true, true≢false}
 use mathlib.Core.List.{[], _++_, _∷_, List}
 use mathlib.Core.Logic.{_≢_, _⊎_, inl, inr}
@@ -19,6 +19,13 @@ module _ {A : Type 0} where
   pub updated-other : (f : ℕ → A) (k : ℕ) (v : A) (j : ℕ) → k ≢ j → updated f k v j ≡ f j
   unfolding updated
   updated-other f k v j h = rw (ne-eqb k j h)
+
+  -- what holds of the new value and of the others
+  pub by-updated : (P : ℕ → A → Type 0) (f : ℕ → A) (k : ℕ) (v : A) → P k v → ((j : ℕ) → k ≢ j → P j (f j)) → (j : ℕ) → P j (updated f k v j)
+  by-updated P f k v a b j = elim (same? k j) [
+    | yes q ↦ subst (λ (i : ℕ). P i (updated f k v i)) q (rw (updated-same f k v) a)
+    | no q ↦ rw (updated-other f k v j q) (b j q)
+  ]
 
 -- a value written back where it was
 pub updated-unchanged : {A : Type 0} (f : ℕ → A) (k j : ℕ) → updated f k (f k) j ≡ f j

@@ -1,11 +1,11 @@
--- Facts on stages, and the item that a session awaits.
+-- Facts on stages, the item that a session awaits, and a release by the stage.
 use mathlib.Core.Path.{_≡_, refl}
 use mathlib.Core.Option.{none, Option, some}
 use Prim.Native.Nat.{_+_, _≤_, ℕ}
 use native.Mathlib.Omega.{arith}
 use lib.Dec.{eqb}
 use Rattle.deadlock.specs.Lists.{bit}
-use Rattle.deadlock.specs.Machine.{cleaning, growing, isLive, releasing, rolledBack, shrinking, Stage, victim, VictimPhase, waiting, withdrawing}
+use Rattle.deadlock.specs.Machine.{Answer, cleaning, growing, isLive, onReleaseCall, refused, releaseHeld, releasing, rolledBack, Rules, Session, shrinking, Stage, victim, VictimPhase, waiting, withdrawing}
 use Rattle.deadlock.specs.Links.{awaits, doomed, mayRelease, waits, withdraws}
 use Rattle.deadlock.specs.World.{isCleaning, isVictim, isWaiting}
 use Rattle.deadlock.proofs.Laws.Lists.{bit-eqb, bit-le}
@@ -68,3 +68,12 @@ awaited-is awaitsVictim = refl
 
 pub awaits-one : {x y : ℕ} {s : Stage} → Awaits x s → Awaits y s → x ≡ y
 awaits-one p q = cc (awaited-is p, awaited-is q)
+
+-- what holds of a refusal, and of giving up a held item, holds of a release
+pub by-release : (R : Rules) (x : ℕ) (r : Session) (P : Answer → Type 0) → P refused → P (releaseHeld R x r) → (a : Stage) → P (onReleaseCall R x r a)
+unfolding onReleaseCall
+by-release R x r P stays gives growing = gives
+by-release R x r P stays gives (waiting y) = stays
+by-release R x r P stays gives (victim p y) = stays
+by-release R x r P stays gives (releasing shrinking) = gives
+by-release R x r P stays gives (releasing rolledBack) = stays

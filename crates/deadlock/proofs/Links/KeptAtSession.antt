@@ -147,7 +147,7 @@ module _ (R : Rules) (z : ℕ) (f : ℕ → Bool) where
       cases (yes q) ih = rw (q, e) ih
       cases (no q) ih = rw (releases-skip y l q) ih
 
-  releases-one : (l : List ℕ) → occurs z l ≡ 1 → countKind Kind.release (sentTo z (toEach (up release) f l)) ≡ bit (f z)
+  pub releases-one : (l : List ℕ) → occurs z l ≡ 1 → countKind Kind.release (sentTo z (toEach (up release) f l)) ≡ bit (f z)
   releases-one l o = cases (f z) refl
     where
       cases : (b : Bool) → f z ≡ b → countKind Kind.release (sentTo z (toEach (up release) f l)) ≡ bit b

@@ -10,7 +10,7 @@ use Rattle.lists.specs.Lists.{allOf, member}
 use Rattle.lists.proofs.Tests.{and-both, by-test, or-neither}
 use Rattle.lists.proofs.Searches.{every-at}
 use Rattle.deadlock.specs.Lists.{bit, occurs}
-use Rattle.deadlock.specs.Machine.{Entry, growing, heldBy, isOnRoute, isOver, Item, itemNames, mayReopen, ofSession, onReopenCall, ReleasePhase, releasing, route, Rules, Stage, State, victim, waiting}
+use Rattle.deadlock.specs.Machine.{Entry, growing, heldBy, isOnRoute, isOver, Item, itemNames, mayReopen, noneOfSession, ofSession, onReopenCall, ReleasePhase, releasing, route, Rules, Stage, State, victim, waiting}
 use Rattle.deadlock.specs.Counts.{countBehind, countKind, sentTo}
 use Rattle.deadlock.specs.Links.{Linked}
 use Rattle.deadlock.specs.World.{stageOf, World}
@@ -32,11 +32,11 @@ over-stage (victim p y) e = absurd (false≢true e)
 over-stage (releasing p) e = (p, refl)
 
 -- a session with no entry in the mailbox has empty routes
-route-none : (d : Bool) (t x : ℕ) (l : List Entry) → allOf (λ (e : Entry). not (ofSession t e)) l ≡ true → route d t x l ≡ []
-unfolding route allOf isOnRoute ofSession
+pub route-none : (d : Bool) (t x : ℕ) (l : List Entry) → noneOfSession t l ≡ true → route d t x l ≡ []
+unfolding route allOf isOnRoute noneOfSession ofSession
 route-none d t x [] h = refl
 route-none d t x (e ∷ l) h =
-    let p = and-both (not (ofSession t e)) (allOf (λ (a : Entry). not (ofSession t a)) l) h in
+    let p = and-both (not (ofSession t e)) (noneOfSession t l) h in
     rw (not-true (eqb t (e .session)) (p .0), and-false) (route-none d t x l (p .1))
 
 not-named : (t : ℕ) (i : Item) → not (itemNames t i) ≡ true → (heldBy (i .holder) t ≡ false) × (member t (i .queue) ≡ false)
@@ -47,7 +47,7 @@ pub unnamed : (R : Rules) (s : State) (t : ℕ) → mayReopen R s t ≡ true →
 unfolding mayReopen upRoute downRoute
 unnamed R s t e =
     let stage = and-both (isOver (s .session t .stage)) _ e in
-    let rest = and-both (allOf (λ (a : Entry). not (ofSession t a)) (s .mailbox)) _ (stage .1) in
+    let rest = and-both (noneOfSession t (s .mailbox)) _ (stage .1) in
     let items = every-at (R .M) (λ (x : ℕ). not (itemNames t (s .item x))) (rest .1) in
     record {
       over = over-stage (s .session t .stage) (stage .0);

@@ -9,10 +9,11 @@ use Rattle.lists.proofs.Tests.{eqb-self}
 use Rattle.deadlock.specs.Machine.{down, grant, heldBy, Item, Message, Rules}
 use Rattle.message.specs.Kind
 use Rattle.deadlock.specs.Counts.{cleansOf, countKind}
-use Rattle.deadlock.specs.Links.{}
+use Rattle.deadlock.specs.Links.{awaits}
 use Rattle.deadlock.specs.Walks.{LastApart, onward, Path, Walk}
 use Rattle.deadlock.specs.World.{CameTo, CleanGoesDown, CleanUnderWay, ClearEdge, CycleMate, Edge, FreeIsEmpty, HolderIs, Known, Links, Live, Passed, Queued, stageOf, ToldOf, VictimIn, WaitEdge, World}
 use Rattle.deadlock.specs.Lists.{bit, occurs}
+use Rattle.deadlock.proofs.Laws.Lists.{zero-or-more}
 use Rattle.deadlock.proofs.Laws.Routes.{countKind-append}
 use Rattle.deadlock.proofs.Laws.Stages.{awaits-item, awaits-one, seen-facts, stage-facts}
 use Rattle.deadlock.proofs.Laws.Counts.{cleansOf-append, cleansOf-le, cleansOf-some}
@@ -74,14 +75,21 @@ module _ {R : Rules} {w : World} (lk : Links R w) where
       )
 
   -- a session that stands in a queue has no grant on its way
+  pub waits-no-grant : (a b x : ℕ) → Edge R w a b → 1 ≤ x → x ≤ R .M → countKind Kind.grant (w .down a x) ≡ 0
+  waits-no-grant a b x e lo hi =
+      let f = lk .linked a x lo hi in
+      let g = lk .linked a (e .item) (e .low) (e .high) in
+      elim (zero-or-more (awaits (stageOf w a) x)) [
+        | inl z ↦ omega (arith, f .one-place, z)
+        | inr z ↦
+            let q : e .item ≡ x = awaits-one (awaits-item (stageOf w a) (e .item) (omega (arith, g .one-place, e .stands))) (awaits-item (stageOf w a) x z) in
+            let stands : Queued w a x = rw q at (e .stands) in
+            omega (arith, f .one-place, stands, seen-facts (stageOf w a) x)
+      ]
+
   pub no-grant-queued : {t x : ℕ} {d : List Message} → 1 ≤ x → x ≤ R .M → w .down t x ≡ down grant ∷ d → (h : ℕ) → Edge R w t h → ⊥
   unfolding countKind
-  no-grant-queued {t} {x} lo hi e h k =
-      let f = lk .linked t x lo hi in
-      let g = lk .linked t (k .item) (k .low) (k .high) in
-      let q : k .item ≡ x = awaits-one (awaits-item (stageOf w t) (k .item) (omega (arith, k .stands))) (awaits-item (stageOf w t) x (omega (arith, ap (countKind Kind.grant) e))) in
-      let s : Queued w t x = rw q at (k .stands) in
-      omega (arith, ap (countKind Kind.grant) e, seen-facts (stageOf w t) x)
+  no-grant-queued {t} {x} lo hi e h k = omega (arith, ap (countKind Kind.grant) e, waits-no-grant t h x k lo hi)
 
 module _ {R : Rules} {w : World} (known : Known R w) where
   -- one victim on a cycle
