@@ -9,3 +9,4 @@ pub mod Theorem
 pub mod Replay
 pub mod Drains
 pub mod Progress
+pub mod Reuse

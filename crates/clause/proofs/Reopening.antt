@@ -34,12 +34,12 @@ use Rattle.clause.proofs.Moves.{Moved, session-moved, session-call}
 use Rattle.clause.proofs.Step.{quiet}
 
 -- what is known of a session that may be reopened
-record Reopenable (t : ℕ) (table mail : List ℕ) : Type 0 where
+pub record Reopenable (t : ℕ) (table mail : List ℕ) : Type 0 where
   pub over : isOver (Table.session table t) ≡ true
   pub items : (x : ℕ) → 1 ≤ x → x ≤ Table.itemsOf table → not (itemNames t (Table.item table x)) ≡ true
   pub entries : noEntryNames t (Mail.entriesOf mail) ≡ true
 
-reopenable : (t : ℕ) (table mail : List ℕ) → mayReopen t table mail ≡ true → Reopenable t table mail
+pub reopenable : (t : ℕ) (table mail : List ℕ) → mayReopen t table mail ≡ true → Reopenable t table mail
 unfolding mayReopen noItemNames
 reopenable t table mail e =
     let last = and-both (isOver (Table.session table t) && noProbeNames t table && noItemNames t table) (noEntryNames t (Mail.entriesOf mail)) e in
@@ -61,7 +61,7 @@ module _ {conf : Config} {table : List ℕ} {l : List Entry} (g : Good conf tabl
     pub nothing : moved .event ≡ Machine.nothing
 
   module _ (r : between 1 (conf .kept .sessions) t ≡ true) (p : Reopenable t table mail) where
-    items : (x : ℕ) → 1 ≤ x → x ≤ conf .kept .items → Agrees.Unnamed t (locks table x)
+    items : (x : ℕ) → 1 ≤ x → x ≤ conf .kept .items → not (Agrees.lockNames t (locks table x)) ≡ true
     unfolding locks itemNames
     items x low high = p .items x low (rw (items-of g) high)
 

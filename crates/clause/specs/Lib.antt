@@ -1,3 +1,4 @@
 pub mod Statement
 pub mod Drains
 pub mod Progress
+pub mod Reuse
