@@ -167,9 +167,12 @@ statement: build/bin/statement
 	@scripts/statement-input "$(or $(FILE),examples/week.days)" > build/statement.in
 	@build/bin/statement < build/statement.in
 
-# Each within a minute: a test that hangs has failed.
-ctest: $(C_TESTS:%=build/bin/%)
-	@set -e; for test in $(C_TESTS); do echo "C test $$test"; timeout 60 build/bin/$$test; done
+# Each within a minute: a test that hangs has failed. The first makes calls that the comparison writes.
+ctest: $(C_TESTS:%=build/bin/%) $(LIB)
+	@cargo build $(CARGO_COMPARE) --bin stream
+	@echo "C test asan"; cargo run $(CARGO_COMPARE) --bin stream | timeout 60 build/bin/asan
+	@set -e; for test in $(filter-out asan,$(C_TESTS)); do \
+		echo "C test $$test"; timeout 60 build/bin/$$test; done
 
 # The thread sanitizer is tried on an empty program first: not every machine runs it.
 workers: build/bin/workers

@@ -3,6 +3,7 @@
 
 use crate::coverage::Coverage;
 use crate::numbers::{DELIVER_TO_ITEM, DELIVER_TO_SESSION, GROWING, TO_ITEM};
+use crate::stream::{Call, Stream, Which};
 use model::item::Item;
 use model::layout::{
     body_at, item_at, ranks_at, read_u16, route_at, session_at, write_u16, BODY_SIZE, DIRECTION,
@@ -187,6 +188,8 @@ impl Guarded {
 pub struct Comparison {
     subject: Box<dyn Calls>,
     pub coverage: Coverage,
+    /// Where calls are written, if anywhere.
+    pub stream: Option<Stream>,
     ranks: Guarded,
     table: Guarded,
     mail: Guarded,
@@ -201,6 +204,7 @@ impl Comparison {
         Comparison {
             subject: Box::new(subject),
             coverage: Coverage::new(),
+            stream: None,
             ranks: Guarded::default(),
             table: Guarded::default(),
             mail: Guarded::default(),
@@ -237,6 +241,16 @@ impl Comparison {
         self.same_buffers(&call, buffers)?;
         same_bytes(&call, buffers, "ranks", &self.ranks, config.ranks)?;
         self.coverage.start(config, buffers, expected);
+        if let Some(stream) = &mut self.stream {
+            stream.call(&Call {
+                seldom: self.coverage.met_seldom(),
+                which: Which::Start,
+                numbers: &config.numbers(),
+                lent: &[config.ranks, &buffers.table, &buffers.mail],
+                answer: &[expected.into()],
+                written: &[&self.after.table, &self.after.mail],
+            })?;
+        }
         std::mem::swap(buffers, &mut self.after);
         Ok(expected)
     }
@@ -258,6 +272,24 @@ impl Comparison {
         same_answer(&call, buffers, found, expected)?;
         self.same_buffers(&call, buffers)?;
         self.coverage.step([verb, session, item], buffers, expected);
+        if let Some(stream) = &mut self.stream {
+            let Answer {
+                refusal,
+                sent,
+                closed,
+                victim,
+                initiator,
+            } = expected;
+            let answer = [refusal, sent, closed, victim, initiator].map(u64::from);
+            stream.call(&Call {
+                seldom: self.coverage.met_seldom(),
+                which: Which::Step,
+                numbers: &[verb, session, item],
+                lent: &[&buffers.table, &buffers.mail],
+                answer: &answer,
+                written: &[&self.after.table, &self.after.mail],
+            })?;
+        }
         std::mem::swap(buffers, &mut self.after);
         Ok(expected)
     }
@@ -270,6 +302,16 @@ impl Comparison {
         same_answer(&call, buffers, found, expected)?;
         same_bytes(&call, buffers, "table", &self.table, &buffers.table)?;
         self.coverage.report(session, buffers, expected);
+        if let Some(stream) = &mut self.stream {
+            stream.call(&Call {
+                seldom: self.coverage.met_seldom(),
+                which: Which::Report,
+                numbers: &[session],
+                lent: &[&buffers.table],
+                answer: &[expected.refusal.into(), expected.length.into()],
+                written: &[],
+            })?;
+        }
         Ok(expected)
     }
 
@@ -283,6 +325,20 @@ impl Comparison {
         same_answer(&call, buffers, found, expected)?;
         self.same_buffers(&call, buffers)?;
         self.coverage.drain(limit, buffers, expected);
+        if let Some(stream) = &mut self.stream {
+            stream.call(&Call {
+                seldom: self.coverage.met_seldom(),
+                which: Which::Drain,
+                numbers: &[limit],
+                lent: &[&buffers.table, &buffers.mail],
+                answer: &[
+                    expected.refusal.into(),
+                    expected.made,
+                    expected.ending.into(),
+                ],
+                written: &[&self.after.table, &self.after.mail],
+            })?;
+        }
         std::mem::swap(buffers, &mut self.after);
         Ok(expected)
     }
@@ -297,9 +353,10 @@ impl Comparison {
     ) -> Result<Text, String> {
         self.pattern = self.pattern.wrapping_add(1);
         let byte = |place: usize| self.pattern.wrapping_add(place as u8);
-        let mut text: Vec<u8> = (0..room).map(byte).collect();
+        let lent: Vec<u8> = (0..room).map(byte).collect();
+        let mut text = lent.clone();
         self.table.load(&buffers.table);
-        self.text.load(&text);
+        self.text.load(&lent);
         let found = self
             .subject
             .cycle_text(session, self.table.lent(), self.text.lent());
@@ -309,6 +366,16 @@ impl Comparison {
         same_bytes(&call, buffers, "text", &self.text, &text)?;
         same_bytes(&call, buffers, "table", &self.table, &buffers.table)?;
         self.coverage.cycle_text(session, buffers, expected, room);
+        if let Some(stream) = &mut self.stream {
+            stream.call(&Call {
+                seldom: self.coverage.met_seldom(),
+                which: Which::CycleText,
+                numbers: &[session],
+                lent: &[&buffers.table, &lent],
+                answer: &[expected.refusal.into(), expected.length.into()],
+                written: &[&text],
+            })?;
+        }
         Ok(expected)
     }
 
@@ -332,6 +399,16 @@ impl Comparison {
             ));
         }
         self.coverage.reopen(session, buffers, expected);
+        if let Some(stream) = &mut self.stream {
+            stream.call(&Call {
+                seldom: self.coverage.met_seldom(),
+                which: Which::Reopen,
+                numbers: &[session],
+                lent: &[&buffers.table, &buffers.mail],
+                answer: &[expected.into()],
+                written: &[&self.after.table],
+            })?;
+        }
         std::mem::swap(buffers, &mut self.after);
         Ok(expected)
     }

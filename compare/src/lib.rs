@@ -4,8 +4,10 @@
 pub mod cases;
 pub mod comparison;
 pub mod coverage;
+pub mod edges;
 pub mod fast;
 pub mod forge;
 pub mod library;
 pub mod numbers;
 pub mod program;
+pub mod stream;

@@ -3,6 +3,7 @@
 
 use compare::cases::all;
 use compare::comparison::Comparison;
+use compare::edges;
 use compare::library::Library;
 use std::process::ExitCode;
 use std::time::Instant;
@@ -13,7 +14,7 @@ const CALLS_AT_LEAST: u64 = 1_000_000;
 fn main() -> ExitCode {
     let begin = Instant::now();
     let mut comparison = Comparison::new(Library::LINKED);
-    let outcome = all(&mut comparison);
+    let outcome = all(&mut comparison).and_then(|()| edges::all(&mut comparison));
     let coverage = &comparison.coverage;
     println!("{coverage}");
     let mut failures: Vec<String> = outcome.err().into_iter().collect();

@@ -1,7 +1,11 @@
 //! Named counts, in rows and sometimes in columns.
 
+use std::cell::Cell;
 use std::collections::BTreeMap;
 use std::fmt::{self, Display, Formatter};
+
+/// A name that was met no more often than this is met seldom.
+pub const SELDOM: u64 = 40;
 
 /// Each of its names must be met so often.
 pub struct Group {
@@ -11,6 +15,8 @@ pub struct Group {
     columns: Vec<&'static str>,
     places: BTreeMap<&'static str, usize>,
     counts: Vec<Vec<u64>>,
+    /// Whether one was just met that is met seldom.
+    seldom: Cell<bool>,
 }
 
 impl Group {
@@ -31,13 +37,21 @@ impl Group {
             columns: columns.to_vec(),
             places: rows.iter().copied().zip(0..).collect(),
             counts: vec![vec![0; columns.len()]; rows.len()],
+            seldom: Cell::new(false),
         }
     }
 
-    fn count(&mut self, name: &str, column: usize) -> &mut u64 {
+    fn row(&self, name: &str) -> usize {
         let row = self.places.get(name);
-        let row = *row.unwrap_or_else(|| panic!("no place is called {name}"));
-        &mut self.counts[row][column]
+        *row.unwrap_or_else(|| panic!("no place is called {name}"))
+    }
+
+    fn raise(&mut self, row: usize, column: usize, more: u64) {
+        let count = &mut self.counts[row][column];
+        *count += more;
+        if more > 0 && *count <= SELDOM {
+            self.seldom.set(true);
+        }
     }
 
     pub fn hit(&mut self, name: &str) {
@@ -45,25 +59,30 @@ impl Group {
     }
 
     pub fn hit_at(&mut self, name: &str, column: usize) {
-        *self.count(name, column) += 1;
+        self.raise(self.row(name), column, 1);
     }
 
     pub fn add(&mut self, name: &str, more: u64) {
-        *self.count(name, 0) += more;
+        self.raise(self.row(name), 0, more);
     }
 
     /// Counts the most that was met at once.
     pub fn most(&mut self, name: &str, met: u64) {
-        let count = self.count(name, 0);
-        *count = met.max(*count);
+        let row = self.row(name);
+        self.raise(row, 0, met.saturating_sub(self.counts[row][0]));
     }
 
-    /// The places that were met too seldom.
-    pub fn missing(&self) -> Vec<String> {
+    /// Whether a name that is met seldom was met since this was asked last.
+    pub fn met_seldom(&self) -> bool {
+        self.seldom.take()
+    }
+
+    /// The places that were met too seldom; so often is always enough.
+    pub fn missing(&self, enough: u64) -> Vec<String> {
         let mut missing = Vec::new();
         for (row, counts) in self.rows.iter().zip(&self.counts) {
             for (column, &count) in self.columns.iter().zip(counts) {
-                if count < self.at_least {
+                if count < self.at_least.min(enough) {
                     missing.push(format!("{}: {row} {column}: {count} times", self.title));
                 }
             }
@@ -92,8 +111,8 @@ impl<Call> Places<Call> {
 
     /// Counts every place that a call meets.
     pub fn meet(&mut self, call: &Call) {
-        for (&(_, met), counts) in self.places.iter().zip(&mut self.group.counts) {
-            counts[0] += u64::from(met(call));
+        for (row, (_, met)) in self.places.iter().enumerate() {
+            self.group.raise(row, 0, u64::from(met(call)));
         }
     }
 }

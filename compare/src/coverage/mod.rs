@@ -13,7 +13,7 @@ mod text;
 
 use crate::comparison::Buffers;
 use crate::forge::breaks;
-use group::{Group, Places};
+use group::{Group, Places, SELDOM};
 use model::{Config, Cycle, Refusal, ACCEPTED};
 use std::fmt::{self, Display, Formatter};
 
@@ -65,6 +65,8 @@ const ANY_CALL: &[&str] = &[
 
 pub struct Coverage {
     refusals: [[u64; ANSWERS]; CALLS.len()],
+    /// Whether the last call met one of these seldom.
+    seldom: bool,
     any_call: Group,
     breaks: Group,
     starts: start::Starts,
@@ -81,6 +83,7 @@ impl Coverage {
         let breaks: Vec<_> = breaks().map(|way| way.name).collect();
         Coverage {
             refusals: Default::default(),
+            seldom: false,
             any_call: Group::new("Any call", 1, ANY_CALL),
             breaks: Group::new("Ways to break the form", 1, &breaks),
             starts: start::Starts::new(),
@@ -103,7 +106,9 @@ impl Coverage {
     }
 
     fn count(&mut self, call: usize, refusal: u8, numbers: &[u64], buffers: &Buffers) {
-        self.refusals[call][usize::from(refusal)] += 1;
+        let count = &mut self.refusals[call][usize::from(refusal)];
+        *count += 1;
+        self.seldom = *count <= SELDOM;
         let group = &mut self.any_call;
         if numbers.iter().any(|n| (1 << 8..1 << 32).contains(n)) {
             group.hit("number of 256 to 2^32 - 1");
@@ -129,12 +134,24 @@ impl Coverage {
         groups
     }
 
+    /// Whether a place was met that is met seldom, since this was asked last.
+    pub fn met_seldom(&self) -> bool {
+        let groups = self.groups().into_iter();
+        let met = groups.map(Group::met_seldom).filter(|&met| met);
+        met.count() > 0 || self.seldom
+    }
+
     /// The places that were met too seldom.
     pub fn missing(&self) -> Vec<String> {
+        self.missing_of(u64::MAX)
+    }
+
+    /// The same where a place that was met so often is not missing.
+    pub fn missing_of(&self, enough: u64) -> Vec<String> {
         let mut missing = Vec::new();
         for (row, (call, refusals)) in CALLS.iter().enumerate() {
             for (refusal, &count) in self.refusals[row].iter().enumerate().skip(1) {
-                if gives(refusals, refusal) && count < AT_LEAST {
+                if gives(refusals, refusal) && count < AT_LEAST.min(enough) {
                     missing.push(format!("{call} refused with {refusal}: {count} times"));
                 }
                 if !gives(refusals, refusal) && count > 0 {
@@ -142,7 +159,8 @@ impl Coverage {
                 }
             }
         }
-        missing.extend(self.groups().into_iter().flat_map(Group::missing));
+        let groups = self.groups().into_iter();
+        missing.extend(groups.flat_map(|group| group.missing(enough)));
         missing
     }
 }
