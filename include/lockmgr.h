@@ -197,11 +197,13 @@
  *           ...
  *   }
  *
- * On a lock manager that was started the last two conditions have always held
- * where the first two did. So with an empty mail every session whose work is
- * over can be reopened. This was tried in all states of small lock managers,
- * before there were ranks, and in long random runs with any ranks; it is not
- * proved.
+ * On a lock manager that was started the last two conditions hold where the
+ * first two do. So with an empty mail every session whose work is over can be
+ * reopened. That is PROVED, for every lock manager and every list of its calls.
+ * A server that keeps Rule 1 below, with the capacity given there, can go on for
+ * ever: every deadlock is dissolved within a known number of deliveries, no
+ * message is stuck, and the number of every session whose work is over comes free
+ * again.
  *
  * What is guaranteed holds with reopening at any place among the calls. A
  * session counts as rolled back each time it comes to LOCKMGR_ROLLED_BACK.
@@ -268,12 +270,12 @@
  * whose limit is high enough ends, with an empty mail or at a message that does
  * not fit.
  *
- * Rule 2 is TRIED, not proved. With that capacity no delivery has ever been
- * refused with LOCKMGR_MAIL_FULL: in all states of small lock managers, with
- * reopening too, and in searches for the worst case (both made before there were
- * ranks, the searches before version 0.2), and in long random runs with any
- * ranks and with reopening. None of these, under either rule, needed more than
- * 4 S + M.
+ * Rule 2 is TRIED, not proved. Under either rule nothing that was tried has ever
+ * needed more than 3 S + M messages, 256 for 64 sessions and 64 items: all states
+ * of lock managers of up to 4 sessions and 4 items, and of 5 and 2, with
+ * reopening; searches for the worst case with up to 12 of each; lists made to
+ * fill the mail of 64 of each, which come to 249 under Rule 2 and 250 under Rule
+ * 1; and long runs of servers that call in batches and then drain.
  *
  * For deadlocks the order of deliveries does not matter. For room it does, where
  * Rule 1 is not kept: a mailbox of 962 messages has been jammed by passing over
@@ -334,8 +336,8 @@ extern "C" {
 
 #define LOCKMGR_VERSION_MAJOR 0
 #define LOCKMGR_VERSION_MINOR 6
-#define LOCKMGR_VERSION_PATCH 3
-#define LOCKMGR_VERSION "0.6.3"
+#define LOCKMGR_VERSION_PATCH 4
+#define LOCKMGR_VERSION "0.6.4"
 
 /* One number that grows with the version. */
 #define LOCKMGR_VERSION_NUMBER \

@@ -505,12 +505,12 @@ static void reopen_all(void)
     CHECK(memcmp(mail, started_mail, mail_len) == 0);
 }
 
-/* With 6 S + M + 1 messages, with 4 S + M and with as many as the list needs no
+/* With 6 S + M + 1 messages, with 3 S + M and with as many as the list needs no
  * delivery is refused. With one less a delivery is refused with 9; the first such
  * is printed. */
 static void test_worst(const char *name, int worst(unsigned capacity), unsigned needed)
 {
-    static const unsigned capacities[] = {ENOUGH, 4 * S + M};
+    static const unsigned capacities[] = {ENOUGH, 3 * S + M};
     for (size_t k = 0; k < LENGTH(capacities); k++) {
         CHECK(worst(capacities[k]) && !was_full);
         reopen_all();
@@ -590,7 +590,7 @@ static void test_rule_1(void)
         }
         most = peak > most ? peak : most;
     }
-    CHECK(most <= 4 * S + M && reopened > 100);
+    CHECK(most <= 3 * S + M && reopened > 100);
     printf("rule 1, random runs: at most %u messages, %u reopenings\n", most, reopened);
 }
 
@@ -610,7 +610,7 @@ static void test_rule_2(void)
         CHECK(drain(oldest));
         most = peak > most ? peak : most;
     }
-    CHECK(most <= 4 * S + M && reopened > 30);
+    CHECK(most <= 3 * S + M && reopened > 30);
     printf("rule 2, random runs: at most %u messages, %u reopenings\n", most, reopened);
 }
 
@@ -648,14 +648,14 @@ static void test_progress(void)
     printf("rule 1, every message of every state: %lu deliveries\n", tried);
 }
 
-/* Few sessions, which are reopened again and again, with 4 S + M messages. */
+/* Few sessions, which are reopened again and again, with 3 S + M messages. */
 static void test_small(unsigned rule)
 {
     random_state = 9;
     reopened = 0;
     for (unsigned run = 0; run < 60; run++) {
         unsigned sessions = between(2, 12), items = between(1, 8);
-        start(sessions, items, 4 * sessions + items);
+        start(sessions, items, 3 * sessions + items);
         for (unsigned k = 0; k < 1500; k++) {
             random_call(sessions, items);
             if (rule == 1)
@@ -667,7 +667,7 @@ static void test_small(unsigned rule)
         CHECK(drain(oldest));
     }
     CHECK(reopened > 1000);
-    printf("rule %u, small: 4 S + M messages, %u reopenings\n", rule, reopened);
+    printf("rule %u, small: 3 S + M messages, %u reopenings\n", rule, reopened);
 }
 
 int main(void)

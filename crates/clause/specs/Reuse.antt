@@ -1,4 +1,4 @@
--- Session numbers used again: after any calls, reopen accepts a session exactly where its work is over and no entry of the mail names it. No item and no stored probe, at which it looks too (RULES 8.15), names it then. RULES is docs/RULES.md.
+-- Session numbers used again: after any calls, reopen accepts a session exactly where its work is over and no entry of the mail names it: RULES 9.14. No item and no stored probe, at which it looks too (RULES 8.15), names it then. RULES is docs/RULES.md.
 use Prim.Native.Nat.{ℕ}
 use mathlib.Core.Path.{_≡_}
 use mathlib.Core.Bool.{Bool, cond, _&&_}
