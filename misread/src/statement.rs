@@ -120,8 +120,9 @@ impl StatementMisreading {
 
 /// Where the last line of a text begins.
 fn begin_of_last(text: &[u8]) -> usize {
-    let line_feeds = (0..text.len() - 1).filter(|&place| text[place] == b'\n');
-    line_feeds.last().map_or(0, |place| place + 1)
+    let before = &text[..text.len() - 1];
+    let line_feed = before.iter().rposition(|&byte| byte == b'\n');
+    line_feed.map_or(0, |place| place + 1)
 }
 
 fn last_line(text: &[u8]) -> &[u8] {

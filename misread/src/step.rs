@@ -78,124 +78,80 @@ fn probes_by_rank(sent: usize, table: &[u8], mail: &mut [u8]) {
     mailbox.encode(mail);
 }
 
+fn at_session(session: fn(Session, u8, u8, Body, &Ranks) -> session::Outcome) -> Policy {
+    Policy { session, ..RULES }
+}
+
+fn at_item(item: fn(Item, u8, Body, &Ranks) -> item::Outcome) -> Policy {
+    Policy { item, ..RULES }
+}
+
 /// What the parties do by a misreading.
 fn policy(misreading: Misreading) -> Policy {
-    let item = |item| Policy { item, ..RULES };
-    let session = |session| Policy { session, ..RULES };
     match misreading {
-        Misreading::VictimForwards => session(victim_forwards),
-        Misreading::RebuildsFromSenderOnly => session(rebuilds_from_sender_only),
-        Misreading::ReleasesEarly => session(releases_early),
-        Misreading::ForwardsUnchanged => session(forwards_unchanged),
-        Misreading::JuniorByNumber => session(junior_by_number),
-        Misreading::PassesLateProbe => item(passes_late_probe),
-        Misreading::FirstInLine => item(first_in_line),
-        Misreading::NextHolderByNumber => item(next_holder_by_number),
+        Misreading::VictimForwards => at_session(|mut before, own, from, body, ranks| {
+            let stage = before.stage;
+            let victim = matches!(stage, Stage::Cleaning | Stage::Withdrawing);
+            if !victim || !matches!(body, Body::Probe { .. }) {
+                return before.receive(own, from, body, ranks);
+            }
+            before.stage = Stage::Waiting;
+            let mut outcome = before.receive(own, from, body, ranks);
+            outcome.session.stage = stage;
+            outcome
+        }),
+        Misreading::RebuildsFromSenderOnly => at_session(|before, own, from, body, ranks| {
+            let mut outcome = before.receive(own, from, body, ranks);
+            outcome.sends.retain(|(_, sent)| *sent != Body::Rebroadcast);
+            outcome
+        }),
+        Misreading::ReleasesEarly => at_session(|before, own, from, body, ranks| {
+            let mut outcome = before.receive(own, from, body, ranks);
+            if outcome.branch == SessionBranch::CleanBack {
+                let held: Vec<u8> = outcome.session.held_items().collect();
+                let releases = held.iter().map(|&item| (item, Body::Release));
+                outcome.sends.extend(releases);
+                outcome.session.held = 0;
+            }
+            outcome
+        }),
+        Misreading::ForwardsUnchanged => at_session(|before, own, from, body, ranks| {
+            let mut outcome = before.receive(own, from, body, ranks);
+            let known = outcome.branch == SessionBranch::ProbeKnown;
+            let waits = outcome.session.stage == Stage::Waiting;
+            if let (Body::Probe { initiator, junior }, true) = (body, known && waits) {
+                let junior = ranks.more_junior(junior, own);
+                let probe = Body::Probe { initiator, junior };
+                outcome.sends.push((outcome.session.awaited, probe));
+            }
+            outcome
+        }),
+        Misreading::JuniorByNumber => at_session(|before, own, from, body, ranks| match body {
+            // Of a session and itself the more junior is that session, by any order.
+            Body::Probe { initiator, junior } => {
+                let junior = junior.max(own);
+                before.receive(junior, from, Body::Probe { initiator, junior }, ranks)
+            }
+            _ => before.receive(own, from, body, ranks),
+        }),
+        Misreading::PassesLateProbe => at_item(|mut before, from, body, ranks| {
+            if !matches!(body, Body::Probe { .. }) || before.queue.contains(&from) {
+                return before.receive(from, body, ranks);
+            }
+            before.queue.push(from);
+            let mut outcome = before.receive(from, body, ranks);
+            outcome.item.queue.pop();
+            outcome
+        }),
+        Misreading::FirstInLine => {
+            at_item(|before, from, body, ranks| next_holder(|_| 0, before, from, body, ranks))
+        }
+        Misreading::NextHolderByNumber => at_item(|before, from, body, ranks| {
+            let lowest = |queue: &[u8]| (0..queue.len()).min_by_key(|&k| queue[k]).unwrap();
+            next_holder(lowest, before, from, body, ranks)
+        }),
         _ => RULES,
     }
-}
-
-fn victim_forwards(
-    mut before: Session,
-    own: u8,
-    from: u8,
-    body: Body,
-    ranks: &Ranks,
-) -> session::Outcome {
-    let stage = before.stage;
-    let victim = matches!(stage, Stage::Cleaning | Stage::Withdrawing);
-    if !victim || !matches!(body, Body::Probe { .. }) {
-        return before.receive(own, from, body, ranks);
-    }
-    before.stage = Stage::Waiting;
-    let mut outcome = before.receive(own, from, body, ranks);
-    outcome.session.stage = stage;
-    outcome
-}
-
-fn rebuilds_from_sender_only(
-    before: Session,
-    own: u8,
-    from: u8,
-    body: Body,
-    ranks: &Ranks,
-) -> session::Outcome {
-    let mut outcome = before.receive(own, from, body, ranks);
-    outcome.sends.retain(|(_, sent)| *sent != Body::Rebroadcast);
-    outcome
-}
-
-fn releases_early(
-    before: Session,
-    own: u8,
-    from: u8,
-    body: Body,
-    ranks: &Ranks,
-) -> session::Outcome {
-    let mut outcome = before.receive(own, from, body, ranks);
-    if outcome.branch == SessionBranch::CleanBack {
-        let held: Vec<u8> = outcome.session.held_items().collect();
-        outcome
-            .sends
-            .extend(held.iter().map(|&item| (item, Body::Release)));
-        outcome.session.held = 0;
-    }
-    outcome
-}
-
-fn forwards_unchanged(
-    before: Session,
-    own: u8,
-    from: u8,
-    body: Body,
-    ranks: &Ranks,
-) -> session::Outcome {
-    let mut outcome = before.receive(own, from, body, ranks);
-    let waits = outcome.session.stage == Stage::Waiting;
-    if let (Body::Probe { initiator, junior }, SessionBranch::ProbeKnown, true) =
-        (body, outcome.branch, waits)
-    {
-        let junior = ranks.more_junior(junior, own);
-        let probe = Body::Probe { initiator, junior };
-        outcome.sends.push((outcome.session.awaited, probe));
-    }
-    outcome
-}
-
-fn junior_by_number(
-    before: Session,
-    own: u8,
-    from: u8,
-    body: Body,
-    ranks: &Ranks,
-) -> session::Outcome {
-    match body {
-        // Of a session and itself the more junior is that session, by any order.
-        Body::Probe { initiator, junior } => {
-            let junior = junior.max(own);
-            before.receive(junior, from, Body::Probe { initiator, junior }, ranks)
-        }
-        _ => before.receive(own, from, body, ranks),
-    }
-}
-
-fn passes_late_probe(mut before: Item, from: u8, body: Body, ranks: &Ranks) -> item::Outcome {
-    if !matches!(body, Body::Probe { .. }) || before.queue.contains(&from) {
-        return before.receive(from, body, ranks);
-    }
-    before.queue.push(from);
-    let mut outcome = before.receive(from, body, ranks);
-    outcome.item.queue.pop();
-    outcome
-}
-
-fn first_in_line(before: Item, from: u8, body: Body, ranks: &Ranks) -> item::Outcome {
-    next_holder(|_| 0, before, from, body, ranks)
-}
-
-fn next_holder_by_number(before: Item, from: u8, body: Body, ranks: &Ranks) -> item::Outcome {
-    let lowest = |queue: &[u8]| (0..queue.len()).min_by_key(|&place| queue[place]).unwrap();
-    next_holder(lowest, before, from, body, ranks)
 }
 
 /// An item whose next holder is chosen otherwise: by its place in the queue.
