@@ -356,21 +356,21 @@ fn cycle_length(table: &[u8], size: Size, session: u8) -> u8 {
     0
 }
 
-fn start(config: &Config, table: &mut [u8], mail: &mut [u8]) -> u8 {
+fn start(config: &Config, table: &mut [u8], mail: &mut [u8]) -> Result<u8, Refusal> {
     let numbers = (
         within(config.sessions, MAX_SESSIONS),
         within(config.items, MAX_ITEMS),
         within(config.capacity, MAX_CAPACITY),
     );
     let (Some(sessions), Some(items), Some(capacity)) = numbers else {
-        return Refusal::BadSize as u8;
+        return Err(Refusal::BadSize);
     };
     let lengths = [table.len(), mail.len(), config.ranks.len()];
     if lengths != [config.table_length(), config.mail_length(), sessions] {
-        return Refusal::BadSize as u8;
+        return Err(Refusal::BadSize);
     }
     if !ranks_well_formed(config.ranks) {
-        return Refusal::BadRanks as u8;
+        return Err(Refusal::BadRanks);
     }
     table.fill(0);
     mail.fill(0);
@@ -381,7 +381,7 @@ fn start(config: &Config, table: &mut [u8], mail: &mut [u8]) -> u8 {
     }
     table[ranks_at(sessions, items)].copy_from_slice(config.ranks);
     write_u16(&mut mail[MAIL_CAPACITY], capacity);
-    ACCEPTED
+    Ok(ACCEPTED)
 }
 
 /// The causes of a call that reads the table alone; the numbers that the table
@@ -395,35 +395,17 @@ fn judge_reading(session: u64, table: &[u8]) -> Result<(Size, u8), Refusal> {
     Ok((size, session as u8))
 }
 
-fn report(session: u64, table: &[u8]) -> Cycle {
-    match judge_reading(session, table) {
-        Ok((size, session)) => Cycle {
-            refusal: ACCEPTED,
-            length: cycle_length(table, size, session),
-        },
-        Err(refusal) => Cycle {
-            refusal: refusal as u8,
-            length: 0,
-        },
-    }
-}
-
-fn cycle_text(session: u64, table: &[u8], text: &mut [u8]) -> Text {
-    match try_cycle_text(session, table, text) {
-        Ok(length) => Text {
-            refusal: ACCEPTED,
-            length: length as u16,
-        },
-        Err(refusal) => Text {
-            refusal: refusal as u8,
-            length: 0,
-        },
-    }
+fn report(session: u64, table: &[u8]) -> Result<Cycle, Refusal> {
+    let (size, session) = judge_reading(session, table)?;
+    Ok(Cycle {
+        refusal: ACCEPTED,
+        length: cycle_length(table, size, session),
+    })
 }
 
 /// The cycle is gone round twice: for its most senior session and the length of
 /// the text, then to write it.
-fn try_cycle_text(session: u64, table: &[u8], text: &mut [u8]) -> Result<usize, Refusal> {
+fn cycle_text(session: u64, table: &[u8], text: &mut [u8]) -> Result<Text, Refusal> {
     let (size, session) = judge_reading(session, table)?;
     let waits_at = waits(table, size, |item, _| item as u8);
     let holder = |item: u8| item_record(table, size, item.into())[HOLDER];
@@ -459,7 +441,10 @@ fn try_cycle_text(session: u64, table: &[u8], text: &mut [u8]) -> Result<usize, 
         rest = put_number(put(rest, HELD_BY), at);
         rest = put(rest, b"\n");
     }
-    Ok(length)
+    Ok(Text {
+        refusal: ACCEPTED,
+        length: length as u16,
+    })
 }
 
 const SESSION: &[u8; 8] = b"session ";
@@ -488,14 +473,7 @@ fn put_number(text: &mut [u8], number: u8) -> &mut [u8] {
     }
 }
 
-fn step(verb: u64, session: u64, item: u64, table: &mut [u8], mail: &mut [u8]) -> Answer {
-    try_step(verb, session, item, table, mail).unwrap_or_else(|refusal| Answer {
-        refusal: refusal as u8,
-        ..Answer::default()
-    })
-}
-
-fn try_step(
+fn step(
     verb: u64,
     session: u64,
     item: u64,
@@ -583,17 +561,10 @@ fn judge(table: &[u8], mail: &[u8]) -> Result<(Size, usize), Refusal> {
     Ok((size, capacity))
 }
 
-fn drain(limit: u64, table: &mut [u8], mail: &mut [u8]) -> Drained {
-    try_drain(limit, table, mail).unwrap_or_else(|refusal| Drained {
-        refusal: refusal as u8,
-        ..Drained::default()
-    })
-}
-
 /// The buffers are judged once. The messages left are those from `front` on and
 /// before `end`: the delivered ones stay in front of them until the drain ends,
 /// or until what is sent finds no room behind them.
-fn try_drain(limit: u64, table: &mut [u8], mail: &mut [u8]) -> Result<Drained, Refusal> {
+fn drain(limit: u64, table: &mut [u8], mail: &mut [u8]) -> Result<Drained, Refusal> {
     let (size, capacity) = judge(table, mail)?;
     let (mut front, mut end) = (0, count(mail));
     let mut made = 0;
@@ -634,14 +605,7 @@ fn try_drain(limit: u64, table: &mut [u8], mail: &mut [u8]) -> Result<Drained, R
     })
 }
 
-fn reopen(session: u64, table: &mut [u8], mail: &[u8]) -> u8 {
-    match try_reopen(session, table, mail) {
-        Ok(()) => ACCEPTED,
-        Err(refusal) => refusal as u8,
-    }
-}
-
-fn try_reopen(session: u64, table: &mut [u8], mail: &[u8]) -> Result<(), Refusal> {
+fn reopen(session: u64, table: &mut [u8], mail: &[u8]) -> Result<u8, Refusal> {
     let (size, capacity) = judge(table, mail)?;
     let session = within(session, size.sessions).ok_or(Refusal::BadNumber)?;
     let record = session_record(table, session);
@@ -655,7 +619,7 @@ fn try_reopen(session: u64, table: &mut [u8], mail: &[u8]) -> Result<(), Refusal
     let record = &mut table[session_at(session)];
     record.fill(0);
     record[STAGE] = GROWING;
-    Ok(())
+    Ok(ACCEPTED)
 }
 
 /// Whether a holder, a queue or a stored probe of a well-formed table names a
@@ -967,26 +931,26 @@ pub struct Fast;
 
 impl Calls for Fast {
     fn start(&self, config: &Config, table: &mut [u8], mail: &mut [u8]) -> u8 {
-        start(config, table, mail)
+        start(config, table, mail).unwrap_or_else(u8::from)
     }
 
     fn step(&self, v: u64, s: u64, i: u64, table: &mut [u8], mail: &mut [u8]) -> Answer {
-        step(v, s, i, table, mail)
+        step(v, s, i, table, mail).unwrap_or_else(Answer::from)
     }
 
     fn report(&self, session: u64, table: &[u8]) -> Cycle {
-        report(session, table)
+        report(session, table).unwrap_or_else(Cycle::from)
     }
 
     fn drain(&self, limit: u64, table: &mut [u8], mail: &mut [u8]) -> Drained {
-        drain(limit, table, mail)
+        drain(limit, table, mail).unwrap_or_else(Drained::from)
     }
 
     fn cycle_text(&self, session: u64, table: &[u8], text: &mut [u8]) -> Text {
-        cycle_text(session, table, text)
+        cycle_text(session, table, text).unwrap_or_else(Text::from)
     }
 
     fn reopen(&self, session: u64, table: &mut [u8], mail: &[u8]) -> u8 {
-        reopen(session, table, mail)
+        reopen(session, table, mail).unwrap_or_else(u8::from)
     }
 }

@@ -17,7 +17,7 @@ use Rattle.session.specs.Stage
 use Rattle.session.specs.declared.Session.{Session}
 use Rattle.session.specs.Record as SessionRecord
 use Rattle.item.specs.Record.{Lock}
-use Rattle.reopen.specs.Reopening.{isOver, storedNames, entryNames, noEntryNames}
+use Rattle.reopen.specs.Reopening.{isOver, storedNames, lockNames, entryNames, noEntryNames}
 use Rattle.reopen.proofs.Form.{anew}
 use Rattle.deadlock.specs.Machine
 use Rattle.agreement.specs.Reading.{readStage, readStored, readHolder, readSession, readItem, readSends, readSessions, readEntries, readItems, readState, rules}
@@ -44,10 +44,6 @@ entries-read t (e ∷ l) h =
     let p = and-both (not (entryNames t e)) (noEntryNames t l) h in
     let other = or-neither (eqb (e .session) t) _ (not-true _ (p .0)) .0 in
     and-intro (ap not (ne-eqb t (e .session) (λ q. eqb-false (e .session) t other (sym q)))) (entries-read t l (p .1))
-
--- session t is the holder or stands in the queue
-abbrev pub lockNames : ℕ → Lock → Bool
-lockNames t k = eqb (k .holder) t || member t (k .queue)
 
 pub item-read : (t : ℕ) → 1 ≤ t → (k : Lock) → Machine.itemNames t (readItem k) ≡ lockNames t k
 unfolding Machine.itemNames readHolder Machine.heldBy

@@ -19,7 +19,7 @@ use Rattle.table.specs.Layout as Table
 use Rattle.waits.specs.OnTable.{locks}
 use Rattle.wellformed.proofs.Sessions.{SessionKept}
 use Rattle.step.proofs.Form.{session-planned}
-use Rattle.reopen.specs.Reopening.{isOver, itemNames, noProbeNames, noItemNames, noEntryNames, mayReopen, Reopened, reopened}
+use Rattle.reopen.specs.Reopening.{isOver, lockNames, itemNames, noProbeNames, noItemNames, noEntryNames, mayReopen, Reopened, reopened}
 use Rattle.reopen.proofs.Form.{anew, anew-kept}
 use Rattle.lockmgr.specs.Calls.{Config, reopenRefusal, reopen}
 use Rattle.lockmgr.specs.Run.{buffers}
@@ -61,7 +61,7 @@ module _ {conf : Config} {table : List ℕ} {l : List Entry} (g : Good conf tabl
     pub nothing : moved .event ≡ Machine.nothing
 
   module _ (r : between 1 (conf .kept .sessions) t ≡ true) (p : Reopenable t table mail) where
-    items : (x : ℕ) → 1 ≤ x → x ≤ conf .kept .items → not (Agrees.lockNames t (locks table x)) ≡ true
+    items : (x : ℕ) → 1 ≤ x → x ≤ conf .kept .items → not (lockNames t (locks table x)) ≡ true
     unfolding locks itemNames
     items x low high = p .items x low (rw (items-of g) high)
 

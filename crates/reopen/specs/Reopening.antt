@@ -12,7 +12,7 @@ use Rattle.session.specs.Stage
 use Rattle.session.specs.declared.Session.{Session}
 use Rattle.session.specs.Record.{fresh}
 use Rattle.item.specs.declared.Item.{Item}
-use Rattle.item.specs.Record.{unpacked}
+use Rattle.item.specs.Record.{Lock, unpacked}
 use Rattle.mailbox.specs.Entry.{Entry}
 use Rattle.mailbox.specs.Layout as Mail
 use Rattle.table.specs.Layout as Table
@@ -26,8 +26,11 @@ unfoldable pub storedNames : ℕ → Session → Bool
 storedNames t s = not (eqb (getD (s .juniors) (t - 1) 0) 0) || member t (s .juniors)
 
 -- an item names T, as holder or in its queue
+abbrev pub lockNames : ℕ → Lock → Bool
+lockNames t k = eqb (k .holder) t || member t (k .queue)
+
 unfoldable pub itemNames : ℕ → Item → Bool
-itemNames t i = eqb (i .holder) t || member t (unpacked i .queue)
+itemNames t i = lockNames t (unpacked i)
 
 -- an entry names T, in its route or as one of the two sessions that its kind carries
 unfoldable pub entryNames : ℕ → Entry → Bool
