@@ -69,8 +69,8 @@ const REOPENED_LARGEST: &[Place<Reopened>] =
         r.mail.full && r.mail.largest
     })];
 
-/// A session that was not reopened because messages alone name it, all of them at one
-/// kind of place.
+/// A session that was not reopened because one of several messages names it, and
+/// nothing else does.
 pub struct NamedByMessage {
     first: bool,
     last: bool,
