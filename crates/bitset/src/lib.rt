@@ -3,7 +3,7 @@ ghost use Rattle.std.specs.Prelude.{◌≡◌, ◌∷◌, ◌≤◌, ◌<◌};
 ghost use Rattle.bitset.specs.Bitset.{has, single, full, insert, remove, members};
 
 // The lowest member of a mask, and the mask without it.
-#[derive(Drop)]
+#[derive(Clone, Copy)]
 pub struct Split {
     pub member: u8,
     pub rest: u64,

@@ -17,7 +17,7 @@ const LONGEST: usize = 3045;
 
 // The answer of a call that writes a text.
 #[repr(C)]
-#[derive(Drop)]
+#[derive(Clone, Copy)]
 pub struct Text {
     pub refusal: u8,
     pub length: u16,

@@ -10,14 +10,14 @@ ghost use Rattle.drain.specs.Oldest.{acted_at};
 ghost use Rattle.drain.specs.Parts.{in_use, closed_up, longer, GapIn, Due, Placed, fits, refusal_of, Admitted, Delivers};
 
 // The places from `from` on and before `to`, of spent entries. Those before it are kept, those from `to` on are pending.
-#[derive(Drop)]
+#[derive(Clone, Copy)]
 pub struct Gap {
     pub from: usize,
     pub to: usize,
 }
 
 // What a delivery is refused with, or 0, whether it is made, and the gap after it.
-#[derive(Drop)]
+#[derive(Clone, Copy)]
 pub struct Delivery {
     pub refusal: u8,
     pub made: bool,

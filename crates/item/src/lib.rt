@@ -15,7 +15,7 @@ use message::{MAX_SESSIONS, Message, Outbox};
 use session::Session;
 
 // An item record by value: the first `waiting` elements of `queue` wait, in order, and zeros follow.
-#[derive(Drop)]
+#[derive(Clone, Copy)]
 pub struct Item {
     pub holder: u8,
     pub waiting: u8,
@@ -23,7 +23,7 @@ pub struct Item {
 }
 
 // What a message did to the session that sent it, besides its sends.
-#[derive(Drop)]
+#[derive(Clone, Copy)]
 pub enum Event {
     Nothing,
     // The session was put in the queue.
@@ -33,7 +33,7 @@ pub enum Event {
 }
 
 // The record that follows, with what it sends and what happened.
-#[derive(Drop)]
+#[derive(Clone, Copy)]
 pub struct ItemStep {
     pub item: Item,
     pub outbox: Outbox,

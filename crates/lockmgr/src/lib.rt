@@ -17,7 +17,7 @@ pub use step::Answer;
 
 // The answer of a report.
 #[repr(C)]
-#[derive(Drop)]
+#[derive(Clone, Copy)]
 pub struct Cycle {
     pub refusal: u8,
     pub length: u8,
@@ -220,7 +220,7 @@ pub extern "C" fn lockmgr_cycle_text(session: u64, table: &[u8], text: &mut [u8]
 
 // The answer of a drain: how many deliveries it made, and why it ended.
 #[repr(C)]
-#[derive(Drop)]
+#[derive(Clone, Copy)]
 pub struct Drained {
     pub refusal: u8,
     pub made: u64,
@@ -257,7 +257,7 @@ impl Drained {
 }
 
 // Why a drain ends here, or 0 where a delivery was made, how many were made so far, and the gap after it.
-#[derive(Drop)]
+#[derive(Clone, Copy)]
 struct Turn {
     ending: u8,
     made: u64,

@@ -111,7 +111,7 @@ const SESSION_SIDE: usize = 1;
 const ITEM_SIDE: usize = 2;
 
 // The route of an entry.
-#[derive(Drop)]
+#[derive(Clone, Copy)]
 pub struct Route {
     pub direction: u8,
     pub session: u8,

@@ -9,7 +9,7 @@ pub const MAX_SESSIONS: usize = 64;
 pub const MAX_ITEMS: usize = 64;
 
 // A message as its sender or its receiver sees it: the party at the other end, the kind and two numbers.
-#[derive(Drop)]
+#[derive(Clone, Copy)]
 pub struct Message {
     pub peer: u8,
     pub kind: u8,
@@ -46,7 +46,7 @@ impl Message {
 }
 
 // What a step sends, in order of sending.
-#[derive(Drop)]
+#[derive(Clone, Copy)]
 pub struct Outbox {
     pub n: usize,
     pub at: [Message; Outbox::ROOM],

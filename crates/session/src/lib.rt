@@ -13,7 +13,7 @@ use message::{MAX_SESSIONS, Message, Outbox};
 
 // A session record by value. `held` is a mask: bit k - 1 is item k. Element i - 1 of `juniors` is the junior of the probe stored for
 // initiator i, or 0 for none.
-#[derive(Drop)]
+#[derive(Clone, Copy)]
 pub struct Session {
     pub stage: u8,
     pub awaited: u8,
@@ -22,7 +22,7 @@ pub struct Session {
 }
 
 // The record that follows, with what it sends.
-#[derive(Drop)]
+#[derive(Clone, Copy)]
 pub struct SessionStep {
     pub session: Session,
     pub outbox: Outbox,

@@ -18,7 +18,7 @@ use session::{Session, SessionStep};
 
 // The answer of a step. A refused step answers its number and zeros.
 #[repr(C)]
-#[derive(Drop)]
+#[derive(Clone, Copy)]
 pub struct Answer {
     pub refusal: u8,
     pub sent: u8,

@@ -11,7 +11,7 @@ use session::Session;
 use step::Answer;
 
 // Cycles closed (01: rings), declarations made and sessions that reached stage 6.
-#[derive(Drop)]
+#[derive(Clone, Copy)]
 pub struct Tally {
     pub closed: u64,
     pub declared: u64,
@@ -39,7 +39,7 @@ pub fn add(t: &mut Tally, a: Answer, rolled_back: bool)
 }
 
 // A step: what a caller asks of the lock manager.
-#[derive(Drop)]
+#[derive(Clone, Copy)]
 pub struct Step {
     pub verb: u8,
     pub session: u8,
@@ -47,14 +47,14 @@ pub struct Step {
 }
 
 // What a step answers, and whether it rolled its session back.
-#[derive(Drop)]
+#[derive(Clone, Copy)]
 struct Counted {
     pub answer: Answer,
     pub rolled_back: bool,
 }
 
 // What a step answered, and the tally after it.
-#[derive(Drop)]
+#[derive(Clone, Copy)]
 pub struct Done {
     pub answer: Answer,
     pub tally: Tally,

@@ -9,7 +9,7 @@ ghost use Rattle.waits.specs.Places.{places, places_among, WithPlaces};
 use message::MAX_SESSIONS;
 
 // A session, the item at which it waits and the holder of that item. Item and holder are 0 where it waits for none.
-#[derive(Drop)]
+#[derive(Clone, Copy)]
 pub struct Wait {
     pub session: u8,
     pub item: u8,

@@ -25,7 +25,7 @@ const LONGEST_LINE: usize = 3 + 2 * 6 + 1;
 pub const LONGEST: usize = LONGEST_LINE * MAX_DAYS + 8 + 9 + 5 + 1;
 
 // Sessions taken part and sessions rolled back, of one day or in sum.
-#[derive(Drop)]
+#[derive(Clone, Copy)]
 pub struct Record {
     pub sessions: u64,
     pub rollbacks: u64,

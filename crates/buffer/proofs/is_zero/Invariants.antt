@@ -1,0 +1,18 @@
+-- `is_zero` meets its contract. The invariant: what is gathered so far is zero where all the bytes passed are.
+use mathlib.Core.Path.{◌≡◌, refl}
+use mathlib.Core.Bool.{and-true}
+use Prim.Native.Nat.{◌-◌, ◌≤◌}
+use lib.Dec.{eqb}
+use Rattle.buffer.specs.Bytes.{slice}
+use Rattle.lists.specs.Lists.{all_of}
+use Rattle.lists.proofs.Laws.{all_append}
+use Rattle.buffer.proofs.Laws.{slice-more}
+use Rattle.lists.proofs.Tests.{or_zero}
+use native.Mathlib.Omega.{arith}
+use Rattle.buffer.proofs.is_zero.Given as goal
+
+abbrev pub invariant-loop-i : goal.invariant-loop-i
+invariant-loop-i l = (l.i ≤ l.n) × (eqb l.acc 0 ≡ all_of (λ b. eqb b 0) (slice l.t l.at l.i))
+
+abbrev pub decreases-loop-i : goal.decreases-loop-i
+decreases-loop-i l = l.n - l.i

@@ -1,0 +1,15 @@
+-- `put_row` meets its contract. The invariant: the first i bytes of the row are pasted over the buffer.
+use mathlib.Core.Path.{◌≡◌, refl}
+use Prim.Native.Nat.{◌≤◌, ◌-◌}
+use native.Mathlib.Omega.{arith}
+use lib.ListN.{length, length-set}
+use native.Mathlib.Numerals.{add-one}
+use Rattle.buffer.proofs.Laws.{paste-splice}
+use lib.Seq.{paste, paste-zero, paste-suc}
+use Rattle.buffer.proofs.put_row.Given as goal
+
+abbrev pub invariant-loop-i : goal.invariant-loop-i
+invariant-loop-i l = (l.i ≤ 64) × (length l.t ≡ length l.initial.t) × (l.t ≡ paste l.initial.t l.at l.row l.i)
+
+abbrev pub decreases-loop-i : goal.decreases-loop-i
+decreases-loop-i l = 64 - l.i

@@ -1,0 +1,14 @@
+-- `block_differs` meets its contract. The invariant: the test holds at the cells passed.
+use mathlib.Core.Path.{◌≡◌, refl}
+use Prim.Native.Nat.{◌-◌, ◌≤◌}
+use Rattle.entry.specs.Cells.{block_cells, differ_cell}
+use native.Mathlib.Omega.{arith}
+use Rattle.lists.specs.Lists.{every_below}
+use Rattle.lists.proofs.Laws.{below_more}
+use Rattle.entry.proofs.block_differs.Given as goal
+
+abbrev pub invariant-loop-i : goal.invariant-loop-i
+invariant-loop-i l = (l.i ≤ block_cells) × (l.ok ≡ every_below l.i (differ_cell l.m l.skips l.depth l.d l.t l.x l.at))
+
+abbrev pub decreases-loop-i : goal.decreases-loop-i
+decreases-loop-i l = block_cells - l.i

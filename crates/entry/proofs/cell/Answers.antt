@@ -1,0 +1,7 @@
+-- `cell` meets its contract, by what `agree` ensures.
+use mathlib.Core.Path.{refl}
+use native.Mathlib.Omega.{arith}
+use Rattle.entry.proofs.cell.Goals as goal
+
+pub returns : goal.returns
+returns c = rw c.agree-agrees.ensures refl

@@ -1,0 +1,16 @@
+-- `cut_one` meets its contract. The invariant: what is left, moved down now, makes what it would have made at the start.
+use mathlib.Core.Path.{◌≡◌, refl, sym, ◌∙◌}
+use Prim.Native.Nat.{◌+◌, ◌-◌, ◌≤◌}
+use native.Mathlib.Nat.{add-zero}
+use lib.ListN.{length, length-set}
+use Rattle.buffer.proofs.Laws.{moved_down, move-none, move-byte, move-more}
+use Rattle.entry.proofs.Cuts.{closed-end}
+use native.Mathlib.Omega.{arith}
+use Rattle.entry.proofs.cut_one.Given as goal
+
+abbrev pub invariant-loop-n : goal.invariant-loop-n
+invariant-loop-n l =
+    (l.n ≤ l.len - 3) × (length l.m ≡ length l.initial.m) × (moved_down l.m (l.from + l.n) 3 (l.len - 3 - l.n) ≡ moved_down l.initial.m (l.from + l.initial.n) 3 (l.len - 3 - l.initial.n))
+
+abbrev pub decreases-loop-n : goal.decreases-loop-n
+decreases-loop-n l = l.len - 3 - l.n

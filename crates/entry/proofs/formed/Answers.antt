@@ -1,0 +1,28 @@
+-- `formed` meets its contract. The invariant: the entries passed are well-formed.
+use mathlib.Core.Path.{◌≡◌, refl, ◌∙◌}
+use mathlib.Core.Bool.{true}
+use Prim.Native.Nat.{◌-◌, ◌≤◌}
+use Rattle.lists.specs.Lists.{every_below}
+use Rattle.entry.proofs.Cells.{form_at, block_on}
+use native.Mathlib.Omega.{arith}
+use Rattle.entry.proofs.formed.Goals as goal
+
+pub returns-then-n-le-BLOCK_ENTRIES : goal.returns-then-n-le-BLOCK_ENTRIES
+unfolding every_below
+returns-then-n-le-BLOCK_ENTRIES c = (omega arith, refl)
+
+pub loop-i-init : goal.loop-i-init
+unfolding every_below
+loop-i-init c = (omega arith, refl)
+
+pub loop-i-preserved : goal.loop-i-preserved
+loop-i-preserved c =
+    let l = c in
+    let a = l.args in
+    (omega arith, block_on a.m.now a.s a.x a.at a.to l.loop-i.i l.thrice-tops.ensures l.thrice-highs.ensures l.thrice-skips.ensures c.block.ensures l.loop-i.invariant.1 ∙ c.if-block.true)
+
+pub returns-else-block : goal.returns-else-block
+returns-else-block c = c.loop-i.invariant
+
+pub returns : goal.returns
+returns c = c.loop-i.invariant

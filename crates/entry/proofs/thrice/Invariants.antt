@@ -1,0 +1,15 @@
+-- `thrice` meets its contract. The invariant: the numbers stand i times, then zeros.
+use mathlib.Core.Path.{◌≡◌, refl, ◌∙◌}
+use Prim.Native.Nat.{◌-◌, ◌≤◌}
+use Rattle.buffer.specs.Bytes.{padded}
+use Rattle.buffer.proofs.Laws.{padded-full}
+use Rattle.entry.specs.Cells.{block_entries, block_cells, thrice}
+use Rattle.entry.proofs.Cells.{length-thrice, thrice-put}
+use native.Mathlib.Omega.{arith}
+use Rattle.entry.proofs.thrice.Given as goal
+
+abbrev pub invariant-loop-i : goal.invariant-loop-i
+invariant-loop-i l = (l.i ≤ block_entries) × (l.r ≡ padded block_cells (thrice l.i l.a l.b l.c))
+
+abbrev pub decreases-loop-i : goal.decreases-loop-i
+decreases-loop-i l = block_entries - l.i

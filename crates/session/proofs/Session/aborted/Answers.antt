@@ -1,0 +1,9 @@
+-- `Session::aborted` meets its contract, by what `single` ensures.
+use mathlib.Core.Path.{refl}
+use Rattle.session.specs.Rules.{aborted}
+use borrow.Author.Rules.{rules}
+use Rattle.session.proofs.Session.aborted.Goals as goal
+
+pub returns : goal.returns
+unfolding aborted
+returns c = rw c.single-outbox.ensures refl
