@@ -1,4 +1,6 @@
 // The session record: its stages, who is senior, what it does on a call and on each message.
+#![tactic(auto)]
+
 ghost use Rattle.std.specs.Prelude.{◌≡◌, cond, List, [], ◌∷◌, ◌++◌, ◌+◌, ◌≤◌, ◌<◌, length, take};
 ghost use Rattle.message.specs.declared.Message.{Message};
 ghost use Rattle.message.specs.Kind;

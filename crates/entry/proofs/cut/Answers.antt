@@ -13,4 +13,4 @@ returns c =
     let down = zeros in
     let s = down in
     let a = s.args in
-    zeros.put_zeros.ensures ∙ closed-end a.m-1.now a.from a.by a.len s.requires.0 s.requires.1 down.move_down.ensures
+    zeros.put_zeros.ensures ∙ closed-end a.m.now a.from a.by a.len s.requires.0 s.requires.1 down.move_down.ensures

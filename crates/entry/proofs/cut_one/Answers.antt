@@ -17,7 +17,7 @@ loop-n-preserved c =
     let a = s.args in
     let l = c.loop-n in
     let fits = s.requires.0 in
-    (omega arith, simp length-set l.invariant.1, rw (move-byte l.m-1 (a.from + l.n) 3 (omega arith)) (move-more l.m-1 a.from 3 (a.len - 3) l.n 1 (omega arith) (omega arith)) ∙ l.invariant.2)
+    (omega arith, simp length-set l.invariant.1, rw (move-byte l.m (a.from + l.n) 3 (omega arith)) (move-more l.m a.from 3 (a.len - 3) l.n 1 (omega arith) (omega arith)) ∙ l.invariant.2)
 
 pub shape_of-m : goal.shape_of-m
 shape_of-m c = c.put.auto.m ∙ c.loop-n.invariant.1
@@ -29,5 +29,5 @@ returns c =
     let l = c.loop-n in
     let done : a.len - 3 - l.n ≡ 0 = omega arith in
     let all : a.len - 3 - 0 ≡ a.len - 3 = omega arith in
-    let down : l.m-1 ≡ moved_down a.m-1.now a.from 3 (a.len - 3) = sym (move-none l.m-1 (a.from + l.n) 3) ∙ (rw (done, add-zero, all) at l.invariant.2) in
-    c.put.ensures ∙ closed-end a.m-1.now a.from 3 a.len s.requires.0 s.requires.1 down
+    let down : l.m ≡ moved_down a.m.now a.from 3 (a.len - 3) = sym (move-none l.m (a.from + l.n) 3) ∙ (rw (done, add-zero, all) at l.invariant.2) in
+    c.put.ensures ∙ closed-end a.m.now a.from 3 a.len s.requires.0 s.requires.1 down

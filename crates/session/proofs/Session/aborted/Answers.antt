@@ -1,7 +1,6 @@
 -- `Session::aborted` meets its contract, by what `single` ensures.
 use mathlib.Core.Path.{refl}
 use Rattle.session.specs.Rules.{aborted}
-use borrow.Author.Rules.{rules}
 use Rattle.session.proofs.Session.aborted.Goals as goal
 
 pub returns : goal.returns

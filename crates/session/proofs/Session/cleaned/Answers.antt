@@ -1,7 +1,6 @@
 -- `Session::cleaned` meets its contract, by what `to_held` ensures.
 use mathlib.Core.Path.{refl}
 use Rattle.session.specs.Rules.{cleaned}
-use borrow.Author.Rules.{rules}
 use Rattle.session.proofs.Session.cleaned.Goals as goal
 
 pub returns : goal.returns

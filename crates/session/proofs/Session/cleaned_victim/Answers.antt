@@ -2,7 +2,6 @@
 use mathlib.Core.Path.{refl, ◌∙◌}
 use borrow.Author.Tests.{eq-eqb, ne_eqb}
 use Rattle.session.specs.Rules.{cleaned_victim}
-use borrow.Author.Rules.{rules}
 use Rattle.session.proofs.Session.cleaned_victim.Goals as goal
 
 pub returns-then-a-t : goal.returns-then-a-t

@@ -1,6 +1,5 @@
 -- `Session::dropped` meets its contract, by what `empty` ensures.
 use mathlib.Core.Path.{refl}
-use borrow.Author.Rules.{rules}
 use Rattle.session.proofs.Session.dropped.Goals as goal
 
 pub returns : goal.returns

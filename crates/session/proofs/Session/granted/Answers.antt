@@ -2,7 +2,6 @@
 use mathlib.Core.Path.{refl, ◌∙◌}
 use borrow.Author.Tests.{eq-eqb, ne_eqb}
 use Rattle.session.specs.Rules.{granted}
-use borrow.Author.Rules.{rules}
 use Rattle.session.proofs.Session.granted.Goals as goal
 
 pub returns-then-x-self : goal.returns-then-x-self

@@ -1,6 +1,5 @@
 -- `Session::junior` meets its contract, by what `senior` ensures.
 use mathlib.Core.Path.{refl}
-use borrow.Author.Rules.{rules}
 use Rattle.session.specs.Rules.{junior}
 use Rattle.session.proofs.Session.junior.Goals as goal
 

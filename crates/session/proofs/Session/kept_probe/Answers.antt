@@ -2,7 +2,6 @@
 use mathlib.Core.Path.{refl, ◌∙◌}
 use Rattle.session.specs.Rules.{kept_probe}
 use Rattle.session.proofs.Laws.{waits_else}
-use borrow.Author.Rules.{rules}
 use Rattle.session.proofs.Session.kept_probe.Goals as goal
 
 pub returns-then-self-ne-GROWING : goal.returns-then-self-ne-GROWING

@@ -1,5 +1,4 @@
 -- `Session::leaving` meets its contract, by what `to_held` and `single` ensure.
-use borrow.Author.Rules.{rules}
 use Rattle.session.proofs.Session.leaving.Goals as goal
 
 pub returns-then-answered : goal.returns-then-answered

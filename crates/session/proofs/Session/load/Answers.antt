@@ -1,6 +1,5 @@
 -- `Session::load` meets its contract, by what the two reads of the buffer ensure.
 use mathlib.Core.Path.{refl}
-use borrow.Author.Rules.{rules}
 use Rattle.session.proofs.Session.load.Goals as goal
 
 pub returns : goal.returns

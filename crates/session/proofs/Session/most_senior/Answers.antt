@@ -1,7 +1,5 @@
 -- `Session::most_senior` meets its contract. The invariant: at `place` stands the most senior of the first i, with rank `best`.
 use mathlib.Core.Path.{◌≡◌, sym}
-use mathlib.Core.Logic.{⊎_elim}
-use Prim.Native.Nat.{◌-◌, ◌≤◌}
 use native.Mathlib.Numerals.{add-one}
 use native.Mathlib.Omega.{arith}
 use borrow.Author.Tests.{lt-ltb, le-ltb}
@@ -10,6 +8,7 @@ use Rattle.session.specs.Seniority.{rank, senior}
 use Rattle.session.proofs.Seniority.{senior-weak}
 use Rattle.session.proofs.MostSenior.{Leads, leads_one, leads_new, leads-still, leads-place}
 use Rattle.session.proofs.Session.most_senior.Goals as goal
+use Rattle.session.proofs.Session.most_senior.Goals.{then-rank-best, else-rank-best}
 
 pub loop-i-init : goal.loop-i-init
 loop-i-init c = (omega arith, leads_one (senior-weak _) _, c.rank-best.ensures)
@@ -27,11 +26,11 @@ loop-i-preserved c =
     let old = rank r (get_or q l.place 0) in (
       omega arith,
       rw (add-one)
-          (⊎_elim
-          (λ w. rw w.1 (leads_new (senior-weak r) q l.i l.place l.invariant.1 (lt-ltb new old (omega (arith, here, best, w.0.taken)))))
-          (λ w. rw w.1 (leads-still (senior-weak r) q l.i l.place l.invariant.1 (le-ltb new old (omega (arith, here, best, w.0.left)))))
-          c.if-rank-best.branch),
-      ⊎_elim (λ w. rw (w.1, w.2) here) (λ w. rw (w.1, w.2) best) c.if-rank-best.branch,
+          (elim c.if-rank-best.branch [
+            | then-rank-best w ↦ rw w.place-is (leads_new (senior-weak r) q l.i l.place l.invariant.1 (lt-ltb new old (omega (arith, here, best, w.if-rank-best.true))))
+            | else-rank-best w ↦ rw w.place-is (leads-still (senior-weak r) q l.i l.place l.invariant.1 (le-ltb new old (omega (arith, here, best, w.if-rank-best.false))))
+          ]),
+      elim c.if-rank-best.branch [ then-rank-best w ↦ rw (w.place-is, w.best-is) here | else-rank-best w ↦ rw (w.place-is, w.best-is) best ],
     )
 
 pub returns : goal.returns
@@ -39,7 +38,7 @@ returns c =
     let s = c in
     let l = c.loop-i in
     let q = s.args.list in
-    let len : length q ≡ 64 = s.is_well_formed.1.0.1.0.1 in
+    let len : length q ≡ 64 = omega arith in
     let all : l.i ≡ s.args.n = omega arith in
     let found : Leads (senior s.args.ranks.now) q s.args.n l.place = rw (← all) l.invariant.1 in
     (sym (leads-place (senior-weak s.args.ranks.now) q s.args.n l.place (omega arith) found), found.inside)

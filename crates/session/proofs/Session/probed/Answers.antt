@@ -1,7 +1,6 @@
 -- `Session::probed` meets its contract, by what `junior` and `kept_probe` ensure.
 use mathlib.Core.Path.{refl, ◌∙◌}
 use Rattle.session.specs.Rules.{probed}
-use borrow.Author.Rules.{rules}
 use Rattle.session.proofs.Session.probed.Goals as goal
 
 pub returns : goal.returns

@@ -1,7 +1,6 @@
 -- `Session::rank` meets its contract: only the number of a session is looked up.
 use mathlib.Core.Path.{sym}
 use native.Mathlib.Omega.{arith}
-use borrow.Author.Rules.{rules}
 use lib.ListN.{length}
 use Rattle.lists.proofs.Tests.{fails, within, between_intro}
 use Rattle.session.proofs.Seniority.{rank-inside, rank_outside}

@@ -1,7 +1,6 @@
 -- `Session::release` meets its contract, by what `single` and `remove` ensure.
 use mathlib.Core.Path.{refl}
 use Rattle.session.specs.Rules.{released}
-use borrow.Author.Rules.{rules}
 use Rattle.session.proofs.Session.release.Goals as goal
 
 pub returns : goal.returns

@@ -3,7 +3,6 @@ use mathlib.Core.Path.{refl, ap}
 use native.Mathlib.Omega.{arith}
 use Rattle.message.specs.declared.Outbox.{Outbox}
 use Rattle.session.specs.Rules.{requested}
-use borrow.Author.Rules.{rules}
 use Rattle.session.proofs.Session.request.Goals as goal
 
 pub stored_probes-outbox-requires : goal.stored_probes-outbox-requires

@@ -5,7 +5,6 @@ use native.Mathlib.Omega.{arith}
 use Rattle.message.specs.declared.Outbox.{Outbox}
 use borrow.Author.Tests.{eq-eqb, ne_eqb}
 use Rattle.session.specs.Rules.{resent}
-use borrow.Author.Rules.{rules}
 use Rattle.session.proofs.Session.resent.Goals as goal
 
 pub stored_probes-outbox-requires : goal.stored_probes-outbox-requires

@@ -1,7 +1,6 @@
 -- `Session::rolled_back` meets its contract, by what `leaving` ensures.
 use mathlib.Core.Path.{refl}
 use Rattle.session.specs.Rules.{rolled_back}
-use borrow.Author.Rules.{rules}
 use Rattle.session.proofs.Session.rolled_back.Goals as goal
 
 pub returns : goal.returns

@@ -1,6 +1,5 @@
 -- `Session::senior` meets its contract: the order of the ranks.
 use mathlib.Core.Path.{refl}
-use borrow.Author.Rules.{rules}
 use Rattle.session.specs.Seniority.{senior}
 use Rattle.session.proofs.Session.senior.Goals as goal
 

@@ -1,16 +1,15 @@
 -- `Session::stored_probes` meets its contract. The invariant: what was given and the probes stored so far, with those to come.
 use mathlib.Core.Path.{◌≡◌, refl, sym, ap, ◌∙◌}
-use mathlib.Core.List.{List, [], ◌∷◌, ◌++◌, append_assoc, append-nil}
-use Prim.Native.Nat.{◌+◌, ◌-◌, ◌≤◌}
+use mathlib.Core.List.{[], ◌∷◌, ◌++◌, append_assoc, append-nil}
+use Prim.Native.Nat.{◌+◌}
 use native.Mathlib.Omega.{arith}
 use lib.ListN.{length, drop, get_or, length-append, drop_of_length-le}
 use Rattle.message.proofs.Laws.{push_cells}
-use Rattle.message.specs.Outbox.{message, cells, outbox_of}
+use Rattle.message.specs.Outbox.{message, outbox_of}
 use Rattle.message.specs.declared.Outbox.{Outbox}
-use Rattle.message.specs.declared.Message.{Message}
 use Rattle.message.specs.Kind
 use Rattle.session.specs.Rules.{probes_from}
-use Rattle.session.proofs.Laws.{array_length, probes-none, probes-some}
+use Rattle.session.proofs.Laws.{probes-none, probes-some}
 use Rattle.session.proofs.Session.stored_probes.Goals as goal
 
 pub loop-i-init : goal.loop-i-init
@@ -18,7 +17,7 @@ loop-i-init c = (omega arith, omega arith, λ l e f. (l, e, f, refl))
 
 pub loop-i-preserved-then-j-ne0 : goal.loop-i-preserved-then-j-ne0
 loop-i-preserved-then-j-ne0 c =
-    let juniors-64 : length c.args.self.juniors ≡ 64 = array_length c.args.self.juniors c.is_well_formed.0.1.1.1.1.1.0.1.0.1 in
+    let juniors-64 : length c.args.self.juniors ≡ 64 = omega arith in
     let a = c.args in
     let l = c.loop-i in
     let m = message a.x Kind.probe (l.i + 1) (get_or a.self.juniors l.i 0) in (
@@ -35,7 +34,7 @@ loop-i-preserved-then-j-ne0 c =
 
 pub loop-i-preserved : goal.loop-i-preserved
 loop-i-preserved c =
-    let juniors-64 : length c.args.self.juniors ≡ 64 = array_length c.args.self.juniors c.is_well_formed.0.1.1.1.1.1.0.1.0.1 in
+    let juniors-64 : length c.args.self.juniors ≡ 64 = omega arith in
     let a = c.args in
     let l = c.loop-i in (
       omega arith,
@@ -52,11 +51,11 @@ loop-i-preserved c =
 pub returns : goal.returns
 unfolding probes_from
 returns c =
-    let juniors-64 : length c.args.self.juniors ≡ 64 = array_length c.args.self.juniors c.is_well_formed.0.1.1.1.1.1.0.1.0.1 in
+    let juniors-64 : length c.args.self.juniors ≡ 64 = omega arith in
     λ k e.
     let a = c.args in
     let l = c.loop-i in
-    let r = l.invariant.2 k (ap (λ (o : Outbox). o.n) e) (ap (λ (o : Outbox). o.at-1) e) in
+    let r = l.invariant.2 k (ap (λ (o : Outbox). o.n) e) (ap (λ (o : Outbox). o.at) e) in
     let all : drop l.i a.self.juniors ≡ [] =
     drop_of_length-le a.self.juniors {i = l.i} (omega (arith, juniors-64)) in
     rw (r.1, r.2) (ap outbox_of (sym (append-nil r.0) ∙ rw (all) at r.3))

@@ -1,19 +1,18 @@
 -- `Session::to_held` meets its contract. The invariant: the messages so far, with those to come.
-use mathlib.Core.Path.{◌≡◌, refl, sym, ap, ◌∙◌}
-use mathlib.Core.List.{List, [], ◌∷◌, ◌++◌, append_assoc, append-nil}
+use mathlib.Core.Path.{refl, sym, ap, ◌∙◌}
+use mathlib.Core.List.{[], ◌∷◌, ◌++◌, append_assoc, append-nil}
 use Prim.Native.Nat.{◌≤◌}
 use native.Mathlib.Omega.{arith}
 use lib.ListN.{length, length-append}
 use Rattle.message.proofs.Laws.{push_cells}
-use Rattle.message.specs.Outbox.{plain, cells, outbox_of}
+use Rattle.message.specs.Outbox.{plain, outbox_of}
 use Rattle.message.specs.declared.Outbox.{Outbox}
-use Rattle.message.specs.declared.Message.{Message}
 use Rattle.session.specs.Rules.{to_held}
 use Rattle.session.proofs.Laws.{held-take, held_skip, held_none, to_held-length, front_length}
 use Rattle.session.proofs.Session.to_held.Goals as goal
 
 pub loop-rest-init : goal.loop-rest-init
-loop-rest-init c = ([], refl, ap (λ (o : Outbox). o.at-1) c.empty-none.ensures, refl)
+loop-rest-init c = ([], refl, ap (λ (o : Outbox). o.at) c.empty-none.ensures, refl)
 
 pub lowest-low-requires : goal.lowest-low-requires
 lowest-low-requires c = c.loop-rest-test.true
