@@ -1,4 +1,6 @@
 // The entries of the mailbox (01: mail), three bytes of a route and three of a body each: their form, the search for a route, bytes taken out and put in.
+#![tactic(auto)]
+
 ghost use Rattle.std.specs.Prelude.{◌≡◌, true, false, [], ◌∷◌, ◌+◌, ◌*◌, ◌≤◌, ◌<◌, length, drop};
 ghost use Rattle.buffer.specs.Bytes.{slice, splice, padded};
 ghost use Rattle.lists.specs.Lists.{every_below};

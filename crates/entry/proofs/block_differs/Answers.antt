@@ -1,7 +1,6 @@
 -- `block_differs` meets its contract. The invariant: the test holds at the cells passed.
 use mathlib.Core.Path.{◌≡◌, refl}
-use Prim.Native.Nat.{◌-◌, ◌≤◌}
-use Rattle.entry.specs.Cells.{block_cells, differ_cell}
+use Rattle.entry.specs.Cells.{block_cells}
 use native.Mathlib.Omega.{arith}
 use Rattle.lists.specs.Lists.{every_below}
 use Rattle.lists.proofs.Laws.{below_more}

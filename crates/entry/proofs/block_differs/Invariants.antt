@@ -1,10 +1,8 @@
 -- `block_differs` meets its contract. The invariant: the test holds at the cells passed.
-use mathlib.Core.Path.{◌≡◌, refl}
+use mathlib.Core.Path.{◌≡◌}
 use Prim.Native.Nat.{◌-◌, ◌≤◌}
 use Rattle.entry.specs.Cells.{block_cells, differ_cell}
-use native.Mathlib.Omega.{arith}
 use Rattle.lists.specs.Lists.{every_below}
-use Rattle.lists.proofs.Laws.{below_more}
 use Rattle.entry.proofs.block_differs.Given as goal
 
 abbrev pub invariant-loop-i : goal.invariant-loop-i

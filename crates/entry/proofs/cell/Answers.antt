@@ -1,6 +1,5 @@
 -- `cell` meets its contract, by what `agree` ensures.
 use mathlib.Core.Path.{refl}
-use native.Mathlib.Omega.{arith}
 use Rattle.entry.proofs.cell.Goals as goal
 
 pub returns : goal.returns

@@ -1,7 +1,6 @@
 -- One route or body goes out by itself, more by the law of bytes taken out.
 use mathlib.Core.Path.{◌∙◌}
 use Rattle.entry.proofs.Cuts.{closed-end}
-use borrow.Author.Rules.{rules}
 use Rattle.entry.proofs.cut.Goals as goal
 
 pub returns-then-by-eq-WIDTH : goal.returns-then-by-eq-WIDTH

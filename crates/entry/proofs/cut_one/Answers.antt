@@ -1,8 +1,8 @@
 -- `cut_one` meets its contract. The invariant: what is left, moved down now, makes what it would have made at the start.
 use mathlib.Core.Path.{◌≡◌, refl, sym, ◌∙◌}
-use Prim.Native.Nat.{◌+◌, ◌-◌, ◌≤◌}
+use Prim.Native.Nat.{◌+◌, ◌-◌}
 use native.Mathlib.Nat.{add-zero}
-use lib.ListN.{length, length-set}
+use lib.ListN.{length-set}
 use Rattle.buffer.proofs.Laws.{moved_down, move-none, move-byte, move-more}
 use Rattle.entry.proofs.Cuts.{closed-end}
 use native.Mathlib.Omega.{arith}

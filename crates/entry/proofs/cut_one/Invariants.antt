@@ -1,11 +1,8 @@
 -- `cut_one` meets its contract. The invariant: what is left, moved down now, makes what it would have made at the start.
-use mathlib.Core.Path.{◌≡◌, refl, sym, ◌∙◌}
+use mathlib.Core.Path.{◌≡◌}
 use Prim.Native.Nat.{◌+◌, ◌-◌, ◌≤◌}
-use native.Mathlib.Nat.{add-zero}
-use lib.ListN.{length, length-set}
-use Rattle.buffer.proofs.Laws.{moved_down, move-none, move-byte, move-more}
-use Rattle.entry.proofs.Cuts.{closed-end}
-use native.Mathlib.Omega.{arith}
+use lib.ListN.{length}
+use Rattle.buffer.proofs.Laws.{moved_down}
 use Rattle.entry.proofs.cut_one.Given as goal
 
 abbrev pub invariant-loop-n : goal.invariant-loop-n

@@ -1,7 +1,6 @@
 -- `differs` meets its contract, by computation.
 use mathlib.Core.Path.{refl}
 use Rattle.entry.specs.Cells.{differs}
-use borrow.Author.Rules.{rules}
 use Rattle.entry.proofs.differs.Goals as goal
 
 pub returns : goal.returns

@@ -1,6 +1,5 @@
 -- `entry` meets its contract: its tests, in another order, are those of the definition.
 use Rattle.entry.proofs.Cells.{tests_entry}
-use native.Mathlib.Omega.{arith}
 use Rattle.entry.proofs.entry.Goals as goal
 
 pub returns : goal.returns

@@ -1,12 +1,10 @@
 -- `first` meets its contract. The invariant: the entries passed are not on the route.
-use mathlib.Core.Path.{◌≡◌, refl, sym, ◌∙◌}
+use mathlib.Core.Path.{◌≡◌}
 use mathlib.Core.Bool.{true}
 use Prim.Native.Nat.{◌+◌, ◌*◌, ◌-◌, ◌≤◌}
 use Rattle.entry.specs.Entry.{width}
 use Rattle.entry.specs.Cells.{misses}
-use native.Mathlib.Omega.{arith}
 use Rattle.lists.specs.Lists.{every_below}
-use Rattle.lists.proofs.Laws.{below_more}
 use Rattle.entry.proofs.first.Given as goal
 
 abbrev pub invariant-loop-i : goal.invariant-loop-i

@@ -1,9 +1,7 @@
 -- `formed` meets its contract. The invariant: the entries passed are well-formed.
-use mathlib.Core.Path.{◌≡◌, refl, ◌∙◌}
-use mathlib.Core.Bool.{true}
-use Prim.Native.Nat.{◌-◌, ◌≤◌}
+use mathlib.Core.Path.{refl, ◌∙◌}
 use Rattle.lists.specs.Lists.{every_below}
-use Rattle.entry.proofs.Cells.{form_at, block_on}
+use Rattle.entry.proofs.Cells.{block_on}
 use native.Mathlib.Omega.{arith}
 use Rattle.entry.proofs.formed.Goals as goal
 

@@ -1,10 +1,9 @@
 -- `formed` meets its contract. The invariant: the entries passed are well-formed.
-use mathlib.Core.Path.{◌≡◌, refl, ◌∙◌}
+use mathlib.Core.Path.{◌≡◌}
 use mathlib.Core.Bool.{true}
 use Prim.Native.Nat.{◌-◌, ◌≤◌}
 use Rattle.lists.specs.Lists.{every_below}
-use Rattle.entry.proofs.Cells.{form_at, block_on}
-use native.Mathlib.Omega.{arith}
+use Rattle.entry.proofs.Cells.{form_at}
 use Rattle.entry.proofs.formed.Given as goal
 
 abbrev pub invariant-loop-i : goal.invariant-loop-i

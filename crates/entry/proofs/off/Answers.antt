@@ -1,7 +1,6 @@
 -- `off` meets its contract: what was not looked at does not matter.
 use mathlib.Core.Path.{refl}
 use Rattle.entry.specs.Cells.{differs}
-use borrow.Author.Rules.{rules}
 use borrow.Author.Tests.{eq-eqb, ne_eqb}
 use Rattle.entry.proofs.off.Goals as goal
 

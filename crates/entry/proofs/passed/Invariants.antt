@@ -1,12 +1,9 @@
 -- `passed` meets its contract. The invariant: the entries passed are not on the route.
-use mathlib.Core.Path.{◌≡◌, sym, ◌∙◌}
+use mathlib.Core.Path.{◌≡◌}
 use mathlib.Core.Bool.{true}
 use Prim.Native.Nat.{◌+◌, ◌*◌, ◌-◌, ◌≤◌}
 use Rattle.entry.specs.Entry.{width}
 use Rattle.entry.specs.Cells.{misses}
-use Rattle.entry.proofs.Cells.{miss_on}
-use borrow.Author.Rules.{rules}
-use native.Mathlib.Omega.{arith}
 use Rattle.lists.specs.Lists.{every_below}
 use Rattle.entry.proofs.passed.Given as goal
 

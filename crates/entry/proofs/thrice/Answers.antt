@@ -1,7 +1,5 @@
 -- `thrice` meets its contract. The invariant: the numbers stand i times, then zeros.
 use mathlib.Core.Path.{◌≡◌, refl, ◌∙◌}
-use Prim.Native.Nat.{◌-◌, ◌≤◌}
-use Rattle.buffer.specs.Bytes.{padded}
 use Rattle.buffer.proofs.Laws.{padded-full}
 use Rattle.entry.specs.Cells.{block_entries, block_cells, thrice}
 use Rattle.entry.proofs.Cells.{length-thrice, thrice-put}

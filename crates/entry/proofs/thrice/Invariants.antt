@@ -1,11 +1,8 @@
 -- `thrice` meets its contract. The invariant: the numbers stand i times, then zeros.
-use mathlib.Core.Path.{◌≡◌, refl, ◌∙◌}
+use mathlib.Core.Path.{◌≡◌}
 use Prim.Native.Nat.{◌-◌, ◌≤◌}
 use Rattle.buffer.specs.Bytes.{padded}
-use Rattle.buffer.proofs.Laws.{padded-full}
 use Rattle.entry.specs.Cells.{block_entries, block_cells, thrice}
-use Rattle.entry.proofs.Cells.{length-thrice, thrice-put}
-use native.Mathlib.Omega.{arith}
 use Rattle.entry.proofs.thrice.Given as goal
 
 abbrev pub invariant-loop-i : goal.invariant-loop-i

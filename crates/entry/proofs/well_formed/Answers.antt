@@ -1,8 +1,5 @@
 -- `well_formed` meets its contract. The invariant: the entries passed are well-formed.
 use mathlib.Core.Path.{◌≡◌, refl, sym, ◌∙◌}
-use mathlib.Core.Bool.{true}
-use Prim.Native.Nat.{◌-◌, ◌≤◌}
-use Rattle.lists.specs.Lists.{every_below}
 use Rattle.lists.proofs.Laws.{below_false, below_more}
 use Rattle.entry.proofs.Cells.{form_at}
 use native.Mathlib.Omega.{arith}

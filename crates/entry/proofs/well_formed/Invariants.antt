@@ -1,11 +1,9 @@
 -- `well_formed` meets its contract. The invariant: the entries passed are well-formed.
-use mathlib.Core.Path.{◌≡◌, refl, sym, ◌∙◌}
+use mathlib.Core.Path.{◌≡◌}
 use mathlib.Core.Bool.{true}
 use Prim.Native.Nat.{◌-◌, ◌≤◌}
 use Rattle.lists.specs.Lists.{every_below}
-use Rattle.lists.proofs.Laws.{below_false, below_more}
 use Rattle.entry.proofs.Cells.{form_at}
-use native.Mathlib.Omega.{arith}
 use Rattle.entry.proofs.well_formed.Given as goal
 
 abbrev pub invariant-loop-i : goal.invariant-loop-i
