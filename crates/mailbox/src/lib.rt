@@ -1,4 +1,6 @@
 // The mailbox (01: mail) in a lent buffer: well-formedness, the earliest entry of a route, take, append.
+#![tactic(auto)]
+
 ghost use Rattle.std.specs.Prelude.{◌≡◌, true, cond, List, [], ◌∷◌, ◌++◌, map, ◌≤◌, ◌<◌, eqb, length};
 ghost use Rattle.lists.specs.Lists.{remove_at, without_places};
 ghost use Rattle.message.specs.declared.Message.{Message};

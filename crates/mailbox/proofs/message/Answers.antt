@@ -1,0 +1,25 @@
+-- `message` meets its contract: the length of a kept mailbox is that of its C.
+use mathlib.Core.Path.{refl, ◌∙◌}
+use Rattle.mailbox.specs.Layout.{entry_at}
+use Rattle.mailbox.proofs.Laws.{kept-length}
+use native.Mathlib.Omega.{arith}
+use Rattle.mailbox.proofs.message.Goals as goal
+
+pub capacity-requires : goal.capacity-requires
+capacity-requires c = let s = c in omega (arith, kept-length s.args.m.now s.requires.0.kept, s.requires.0.kept)
+
+pub bounds-m-at : goal.bounds-m-at
+bounds-m-at c = let s = c in omega (arith, kept-length s.args.m.now s.requires.0.kept, s.requires.0.kept)
+
+pub bounds-m-to : goal.bounds-m-to
+bounds-m-to c = let s = c in omega (arith, kept-length s.args.m.now s.requires.0.kept, s.requires.0.kept)
+
+pub bounds-m-to-2 : goal.bounds-m-to-2
+bounds-m-to-2 c = let s = c in omega (arith, kept-length s.args.m.now s.requires.0.kept, s.requires.0.kept)
+
+pub bounds-m-to-3 : goal.bounds-m-to-3
+bounds-m-to-3 c = let s = c in omega (arith, kept-length s.args.m.now s.requires.0.kept, s.requires.0.kept)
+
+pub returns : goal.returns
+unfolding entry_at
+returns c = (λ e. c.new.ensures ∙ rw (e, c.body_place-to.ensures, c.capacity.ensures, c.route_place-at.ensures) refl, λ e. c.new.ensures ∙ rw (e, c.body_place-to.ensures, c.capacity.ensures, c.route_place-at.ensures) refl)

@@ -1,0 +1,19 @@
+-- `route_of` meets its contract: the length of a kept mailbox is that of its C.
+use mathlib.Core.Path.{refl}
+use Rattle.mailbox.specs.Layout.{entry_at}
+use Rattle.mailbox.proofs.Laws.{kept-length}
+use native.Mathlib.Omega.{arith}
+use Rattle.mailbox.proofs.route_of.Goals as goal
+
+pub bounds-m-at : goal.bounds-m-at
+bounds-m-at c = let s = c in omega (arith, kept-length s.args.m.now s.requires.kept, s.requires.kept)
+
+pub bounds-m-at-2 : goal.bounds-m-at-2
+bounds-m-at-2 c = let s = c in omega (arith, kept-length s.args.m.now s.requires.kept, s.requires.kept)
+
+pub bounds-m-at-3 : goal.bounds-m-at-3
+bounds-m-at-3 c = let s = c in omega (arith, kept-length s.args.m.now s.requires.kept, s.requires.kept)
+
+pub returns : goal.returns
+unfolding entry_at
+returns c = rw c.route_place-at.ensures refl
