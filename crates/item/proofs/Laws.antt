@@ -10,7 +10,7 @@ use lib.Dec.{eqb, lit<}
 use lib.ListN.{length, get_or, take, drop, set, replicate, length-append, length-replicate, length-map, take-append-drop}
 use lib.Seq.{append_snoc, take_at, take-suc, take-append_seam, take-nil, drop_at, drop-cons, drop-drop, get_or-drop, get_or-append-add, set_at, length-take-le}
 use Rattle.buffer.specs.Bytes.{slice, splice, padded}
-use Rattle.lists.specs.Lists.{member, all_of, filter, find_index, remove_at}
+use Rattle.lists.specs.Lists.{member, filter, find_index, remove_at}
 use Rattle.lists.proofs.Laws.{filter-append, filter-length, remove_at_le, remove_at-length}
 use Rattle.session.proofs.Laws.{either}
 use Rattle.buffer.proofs.Laws.{sets-splice, splice-splice, drop-splice, slice-splice-before, slice-splice-after, get_d_slice, put-padded}

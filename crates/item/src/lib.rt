@@ -1,4 +1,6 @@
 // The item record: who holds it, who waits for it, what it does on each message.
+#![tactic(auto)]
+
 ghost use Rattle.std.specs.Prelude.{◌≡◌, List, [], ◌∷◌, ◌++◌, ◌+◌, ◌≤◌, ◌<◌, eqb, length};
 ghost use Rattle.lists.specs.Lists.{member, find_index, remove_at};
 ghost use Rattle.message.specs.declared.Message.{Message};

@@ -6,18 +6,13 @@ use Rattle.message.specs.Outbox.{plain}
 use Rattle.item.specs.Record.{unpacked, lock}
 use Rattle.item.specs.Rules.{granted}
 use Rattle.item.proofs.Laws.{step_eq, packed_eq, queue-length, queue-padded}
-use borrow.Author.Rules.{rules}
-use Rattle.item.proofs.Item.granted.Statement.{statement}
-use Rattle.item.proofs.Item.granted.Tie as tie
+use Rattle.item.proofs.Item.granted.Goals as goal
 
-returns : tie.Need-returns
+pub returns : goal.returns
 unfolding granted
 returns c =
-    let s = c.before in
+    let s = c in
     let i = s.args.self in
     step_eq _ _ _ (lock s.args.t (unpacked i).queue) (plain s.args.t Kind.grant ∷ [])
     (packed_eq s.args.t i.waiting i.queue (unpacked i).queue (sym (queue-length i s.requires)) (queue-padded i s.requires))
-    c.single.ensures
-
-pub granted-spec : {M : Type 1} → statement M
-granted-spec = tie.close (tie.spec (λ c κs. search rules) returns)
+    c.single-outbox.ensures

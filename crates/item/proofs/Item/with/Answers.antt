@@ -5,16 +5,11 @@ use mathlib.Core.List.{[], ◌∷◌, ◌++◌}
 use lib.ListN.{length-append}
 use Rattle.item.specs.Record.{unpacked}
 use Rattle.item.proofs.Laws.{packed_eq, queue-length, queue-put}
-use borrow.Author.Rules.{rules}
-use Rattle.item.proofs.Item.with.Statement.{statement}
-use Rattle.item.proofs.Item.with.Tie as tie
+use Rattle.item.proofs.Item.with.Goals as goal
 
-returns : tie.Need-returns
+pub returns : goal.returns
 returns c =
-    let i = c.args.t1 in
+    let i = c.args.self in
     let f = c.requires.packed in
     let l = (unpacked i).queue in
     packed_eq i.holder (i.waiting + 1) _ (l ++ (c.args.t ∷ [])) (omega (arith, length-append l (c.args.t ∷ []), queue-length i f)) (queue-put i f c.args.t c.requires.room)
-
-pub with-spec : {M : Type 1} → statement M
-with-spec = tie.close (tie.spec (λ c. search rules) (λ c. search rules) (λ c. search rules) (λ c. search rules) returns)
