@@ -10,7 +10,7 @@ use lib.ListN.{length, take}
 use lib.Seq.{length-take-le, take_all}
 use Rattle.buffer.specs.Bytes.{splice}
 use Rattle.buffer.proofs.Laws.{length-splice}
-use Rattle.io.specs.Counts.{IsPrefixLen}
+use Rattle.std.specs.Counts.{IsPrefixLen}
 use Rattle.program.specs.Program.{output, at_start, DecidedBy}
 
 counts : (n : ℕ) (l : List ℕ) → n ≤ length l → IsPrefixLen n l
