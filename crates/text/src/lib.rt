@@ -1,4 +1,6 @@
 // Numbers as text in a lent buffer: what writes at a place answers the place behind it.
+#![tactic(auto)]
+
 ghost use Rattle.std.specs.Prelude.{◌≡◌, ◌+◌, ◌≤◌, length};
 ghost use Rattle.buffer.specs.Bytes.{splice};
 ghost use Rattle.text.specs.Text.{decimal, spaced, rest, line};
