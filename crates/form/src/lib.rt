@@ -1,4 +1,6 @@
 // Whether the bytes of a record are well-formed, and a list of ranks.
+#![tactic(auto)]
+
 ghost use Rattle.std.specs.Prelude.{◌≡◌, not, ◌&&◌, ℕ, ◌+◌, ◌≤◌, ◌<◌, eqb, leb, length, get_or, take, drop};
 ghost use Rattle.bitset.specs.Bitset.{full};
 ghost use Rattle.buffer.specs.Bytes.{slice};

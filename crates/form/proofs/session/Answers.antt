@@ -1,0 +1,9 @@
+-- `session` meets its contract, by what `row` and `get64` ensure.
+use Rattle.session.specs.Record.{session_at}
+use Rattle.form.proofs.FormLaws.{session_form}
+use Rattle.form.proofs.session.Goals as goal
+
+pub returns : goal.returns
+returns c =
+    let a = c.args in
+    rw (c.row-juniors.ensures, c.get64-held.ensures, c.requires.2) (session_form a.s a.m (session_at a.t.now a.at))
