@@ -1,4 +1,6 @@
 // The table in a lent buffer: well-formedness, load and store of every record, and the ranks.
+#![tactic(auto)]
+
 ghost use Rattle.std.specs.Prelude.{◌≡◌, true, ◌≤◌, length};
 ghost use Rattle.table.specs.Layout.{header, session_place, items_start, item_place, ranks_place, ranks_end, size, sessions_of, items_of, sized, session, with_session, item, with_item, ranks, well_formed, HasSession, HasItem, config, Bounded, started};
 

@@ -2,27 +2,21 @@
 use mathlib.Core.Path.{refl, sym}
 use mathlib.Core.Bool.{◌&&◌, and-false}
 use native.Mathlib.Omega.{arith}
-use borrow.Author.Rules.{rules}
 use borrow.Author.Tests.{ne_eqb}
 use lib.ListN.{length}
 use Rattle.lists.specs.Lists.{between}
 use Rattle.message.specs.Limits.{max_sessions, max_items}
 use Rattle.table.specs.Layout.{size, sessions_of, items_of, sized}
-use Rattle.table.proofs.sized.Statement.{statement}
-use Rattle.table.proofs.sized.Tie as tie
+use Rattle.table.proofs.sized.Goals as goal
 
-returns : tie.Need-returns
+pub returns-then-t-lt-HEADER : goal.returns-then-t-lt-HEADER
 unfolding sized
-returns c =
-    let t = c.before.before.args.t.now in
+returns-then-t-lt-HEADER c =
+    let t = c.args.t.now in
     let S = sessions_of t in
     let M = items_of t in
     rw (ne_eqb (length t) (size S M) (λ e. omega arith)) (sym (and-false (between 1 max_sessions S && between 1 max_items M)))
 
-returns-2 : tie.Need-returns-2
+pub returns : goal.returns
 unfolding sized
-returns-2 c = rw (c.size.ensures, c.before.items.ensures, c.before.before.sessions.ensures) refl
-
-pub sized-spec : {M : Type 1} → statement M
-sized-spec =
-    tie.close (tie.spec returns (λ c κs. search rules) (λ c κs. search rules) (λ c. search rules) (λ c. search rules) (λ c κs. search rules) returns-2)
+returns c = rw (c.size.ensures, c.items-m.ensures, c.sessions-s.ensures) refl
