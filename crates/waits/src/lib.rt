@@ -1,4 +1,6 @@
 // Who waits for whom, and the length of a cycle of waits (01: ring).
+#![tactic(auto)]
+
 ghost use Rattle.std.specs.Prelude.{◌≡◌, ◌-◌, ◌≤◌};
 ghost use Rattle.message.specs.Limits.{max_sessions};
 ghost use Rattle.table.specs.Layout.{sessions_of, items_of, Formed, HasItem};
