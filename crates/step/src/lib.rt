@@ -1,4 +1,6 @@
 // One step on buffers that were judged: a request, a release or a delivery.
+#![tactic(auto)]
+
 ghost use Rattle.std.specs.Prelude.{◌≡◌, true, cond, not, ◌≤◌, eqb, length, get_or};
 ghost use Rattle.lists.specs.Lists.{remove_at};
 ghost use Rattle.message.specs.Limits.{max_items};

@@ -1,0 +1,30 @@
+-- The tail of a step of an item.
+use mathlib.Core.Path.{◌≡◌, refl, ap}
+use lib.ListN.{length}
+use Rattle.table.proofs.Laws.{sized-with_item, sessions_of-with_item}
+use Rattle.item.specs.declared.ItemStep.{ItemStep}
+use Rattle.mailbox.specs.Entry.{from_item}
+use Rattle.step.proofs.Acting.{has_room, room-filled}
+use native.Mathlib.Omega.{arith}
+use Rattle.step.proofs.commit_item.Goals as goal
+
+pub post-requires : goal.post-requires
+post-requires c =
+    let s = c in
+    has_room s.args.mail.now s.args.k _ c.make_room.ensures s.requires.3 c.if-not-make_room.false _ refl s.requires.4
+
+pub answer_of-requires : goal.answer_of-requires
+answer_of-requires c =
+    let queue-whole : length c.args.r.item.queue ≡ 64 = omega arith in
+    let s = c in
+    let t = s.args.table.now in
+    let p = s.requires in
+    let i = s.args.r.item in
+    let put = c.put_item.ensures in
+    (record { sized = rw (put) (sized-with_item t p.1.sized s.args.x p.1.low p.1.high i (queue-whole)); formed = rw (put) p.2 }, p.0.low, rw (put, sessions_of-with_item t p.1.sized s.args.x p.1.low p.1.high i (queue-whole)) p.0.high)
+
+pub returns : goal.returns
+returns c w e =
+    let s = c in
+    let p = room-filled s.args.mail.now s.args.k _ c.make_room.ensures s.requires.3 c.if-not-make_room.false (from_item s.args.x) w.sends (ap (λ (r : ItemStep). r.outbox.n) e) (c.post.ensures w.sends (ap (λ (r : ItemStep). r.outbox) e)) in
+    rw (c.answer_of.ensures, c.put_item.ensures, p.0, p.1, e) refl

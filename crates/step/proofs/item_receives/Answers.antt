@@ -1,0 +1,25 @@
+-- `item_receives` meets its contract: the record and the message are read, and the record receives it.
+use mathlib.Core.Path.{◌≡◌, refl, ap, ◌∙◌}
+use native.Mathlib.Omega.{arith}
+use Rattle.item.specs.declared.ItemStep.{ItemStep}
+use Rattle.item.specs.Rules as Item
+use Rattle.mailbox.specs.Layout.{entry_at}
+use Rattle.table.specs.Layout.{senior}
+use Rattle.waits.specs.OnTable.{locks}
+use Rattle.step.specs.Step.{item_receives}
+use Rattle.step.proofs.Acting.{item-sends-few}
+use Rattle.step.proofs.item_receives.Goals as goal
+
+pub ranks-requires : goal.ranks-requires
+ranks-requires c = c.requires.item.sized
+
+pub receive-requires : goal.receive-requires
+receive-requires c = rw c.item.ensures c.requires.packed
+
+pub returns : goal.returns
+unfolding locks
+returns c =
+    let s = c in
+    let e = entry_at s.args.mail.now s.args.k in
+    let does : c.receive.result ≡ Item.step_of (item_receives (senior s.args.table.now) (locks s.args.table.now s.args.x) e) = c.receive.ensures ∙ rw (c.item.ensures, c.ranks.ensures, c.message_to_item.ensures) refl in
+    (does, omega (arith, ap (λ (r : ItemStep). r.outbox.n) does, item-sends-few (senior s.args.table.now) s.args.x s.args.table.now e s.requires.packed))

@@ -1,0 +1,24 @@
+-- Past the end nothing goes, and the bytes are those of the entries.
+use mathlib.Core.Path.{sym, ap, ◌∙◌}
+use native.Mathlib.Omega.{arith}
+use Rattle.lists.proofs.Laws.{remove_at-past}
+use Rattle.mailbox.specs.Layout.{capacity_of, entries_of, mail_bytes}
+use Rattle.mailbox.proofs.Laws.{kept-length, length-entries}
+use Rattle.step.proofs.take.Goals as goal
+
+pub count-requires : goal.count-requires
+count-requires c =
+    let s = c in
+    omega (arith, kept-length s.args.mail.now s.requires)
+
+pub returns-then-count-k : goal.returns-then-count-k
+returns-then-count-k c =
+    let s = c in
+    let m = s.args.mail.now in
+    s.requires.bytes ∙ ap (mail_bytes (capacity_of m)) (sym (remove_at-past s.args.k (entries_of m) (omega (arith, c.count.ensures, length-entries m))))
+
+pub remove-requires : goal.remove-requires
+remove-requires c = record { kept = c.requires; inside = omega (arith, c.count.ensures) }
+
+pub returns : goal.returns
+returns c = c.remove.ensures
