@@ -1,4 +1,6 @@
 // One delivery of a drain, on buffers that were judged. The entries that the drain has delivered, spent ones, stand in a gap of the mailbox until they go out all at once.
+#![tactic(auto)]
+
 ghost use Rattle.std.specs.Prelude.{◌≡◌, true, ◌≤◌};
 ghost use Rattle.message.specs.Outbox.{room};
 ghost use Rattle.mailbox.specs.Layout.{entry_at};

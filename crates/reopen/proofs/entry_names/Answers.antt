@@ -9,8 +9,7 @@ use Rattle.message.specs.Kind
 use Rattle.mailbox.specs.Entry.{Entry}
 use Rattle.reopen.specs.Reopening.{entry_names}
 use Rattle.reopen.specs.Parts.{Plain}
-use Rattle.reopen.proofs.entry_names.Statement.{statement}
-use Rattle.reopen.proofs.entry_names.Tie as tie
+use Rattle.reopen.proofs.entry_names.Goals as goal
 
 zero-differs : (t : ℕ) → 1 ≤ t → (n : ℕ) → n ≡ 0 → eqb n t ≡ false
 zero-differs t low n z = ne_eqb n t (λ q. omega (arith, low, q, z))
@@ -25,8 +24,5 @@ unasked t low e p = go (Kind.carries e.kind) refl
         let z = p q in
         rw (zero-differs t low e.a z.0, zero-differs t low e.b z.1) (or-false (eqb e.session t || false))
 
-returns : tie.Need-returns
-returns c = λ e p q. let s = c.before.before.before in rw (q) (unasked s.args.t s.requires e p)
-
-pub entry-names-spec : {M : Type 1} → statement M
-entry-names-spec = tie.close (tie.spec returns)
+pub returns : goal.returns
+returns c = λ e p q. let s = c in rw (q) (unasked s.args.t s.requires e p)

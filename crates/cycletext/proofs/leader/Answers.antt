@@ -1,0 +1,46 @@
+-- `leader` meets its contract. The invariant: `first` is the most senior of the first i sessions, of which s is the last.
+use mathlib.Core.Path.{◌≡◌, refl, sym, ◌∙◌}
+use mathlib.Core.Logic.{⊎_elim}
+use Prim.Native.Nat.{◌+◌, ◌-◌, ◌≤◌}
+use native.Mathlib.Omega.{arith}
+use Rattle.table.specs.Layout as Table
+use Rattle.waits.specs.OnTable.{waits_for}
+use Rattle.cycletext.proofs.Round.{ahead, none_ahead, readable, one-ahead, Best, best_one, best_new, best_still, best_leader}
+use Rattle.cycletext.proofs.leader.Goals as goal
+
+pub ranks-ranks-requires : goal.ranks-ranks-requires
+ranks-ranks-requires c = c.requires.places.formed.sized
+
+pub loop-i-init : goal.loop-i-init
+loop-i-init c =
+    let a = c.args in
+    let o = c.requires in (omega arith, o.some, none_ahead a.t.now a.me, best_one o, c.ranks-ranks.ensures)
+
+pub next-w-requires : goal.next-w-requires
+next-w-requires c = let l = c.loop-i in readable c.requires (l.i - 1) l.invariant.2
+
+pub loop-i-preserved : goal.loop-i-preserved
+loop-i-preserved c =
+    let l = c.loop-i in
+    let b = c in
+    let back : l.i - 1 + 1 ≡ l.i = omega arith in
+    let last : l.i + 1 - 1 ≡ l.i = omega arith in
+    let w = c.next-w in
+    let held : w.result.holder ≡ waits_for b.args.t.now l.s = rw w.ensures refl in
+    let here = rw (back) at (one-ahead b.args.t.now b.args.me (l.i - 1) l.invariant.2 held) in
+    let e = rw l.invariant.4 at c.senior.ensures in (
+      omega arith,
+      omega arith,
+      rw (last) here,
+      ⊎_elim
+          (λ w. rw w.1 (best_new b.requires l.invariant.3 (omega arith) here (sym e ∙ w.0.taken)))
+          (λ w. rw w.1 (best_still b.requires l.invariant.3 (omega arith) here (sym e ∙ w.0.left)))
+          c.if-senior.branch,
+      l.invariant.4,
+    )
+
+pub returns : goal.returns
+returns c =
+    let l = c.loop-i in
+    let all : l.i ≡ c.args.n = omega arith in
+    best_leader c.requires (rw (← all) l.invariant.3)

@@ -1,0 +1,7 @@
+-- Where none is spent, nothing goes.
+use mathlib.Core.Path.{sym}
+use Rattle.drain.proofs.Gaps.{none-spent}
+use Rattle.drain.proofs.close_gap.Goals as goal
+
+pub returns-then-gap : goal.returns-then-gap
+returns-then-gap c = let s = c in sym (none-spent s.args.gap s.args.mail.now c.if-gap.true s.requires.kept)

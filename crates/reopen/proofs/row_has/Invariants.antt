@@ -1,0 +1,17 @@
+-- `row_has` meets its contract. The loop's invariant: whether t stands among the bytes that were passed.
+use mathlib.Core.Path.{◌≡◌, refl, sym}
+use Prim.Native.Nat.{◌-◌, ◌≤◌}
+use native.Mathlib.Omega.{arith}
+use borrow.Author.Rules.{rules}
+use lib.ListN.{take, length}
+use lib.Seq.{take_all}
+use Rattle.lists.specs.Lists.{member}
+use Rattle.lists.proofs.Laws.{member-more}
+use Rattle.message.specs.Limits.{max_sessions}
+use Rattle.reopen.proofs.row_has.Given as goal
+
+abbrev pub invariant-loop-i : goal.invariant-loop-i
+invariant-loop-i l = (l.i ≤ max_sessions) × (l.found ≡ member l.t (take l.i l.row))
+
+abbrev pub decreases-loop-i : goal.decreases-loop-i
+decreases-loop-i l = max_sessions - l.i
