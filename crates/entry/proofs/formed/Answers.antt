@@ -15,12 +15,5 @@ loop-i-init c = (omega arith, refl)
 
 pub loop-i-preserved : goal.loop-i-preserved
 loop-i-preserved c =
-    let l = c in
-    let a = l.args in
-    (omega arith, block_on a.m.now a.s a.x a.at a.to l.loop-i.i l.thrice-tops.ensures l.thrice-highs.ensures l.thrice-skips.ensures c.block.ensures l.loop-i.invariant.1 ∙ c.if-block.true)
-
-pub returns-else-block : goal.returns-else-block
-returns-else-block c = c.loop-i.invariant
-
-pub returns : goal.returns
-returns c = c.loop-i.invariant
+    let a = c.args in
+    (omega arith, block_on a.m.now a.s a.x a.at a.to c.loop-i.i c.thrice-tops.ensures c.thrice-highs.ensures c.thrice-skips.ensures c.block.ensures c.loop-i.invariant.1 ∙ c.if-block.true)

@@ -1,12 +1,9 @@
 -- `well_formed` meets its contract. The invariant: the entries passed are well-formed.
-use mathlib.Core.Path.{◌≡◌, refl, sym, ◌∙◌}
+use mathlib.Core.Path.{refl, sym, ◌∙◌}
 use Rattle.lists.proofs.Laws.{below_false, below_more}
 use Rattle.entry.proofs.Cells.{form_at}
 use native.Mathlib.Omega.{arith}
 use Rattle.entry.proofs.well_formed.Goals as goal
-
-pub loop-i-init : goal.loop-i-init
-loop-i-init c = c.formed-i.ensures
 
 pub loop-i-preserved : goal.loop-i-preserved
 loop-i-preserved c = (omega arith, rw (below_more, c.loop-i.invariant.1, ← c.entry.ensures, c.if-entry.true) refl)
@@ -16,6 +13,3 @@ returns-else-entry c =
     let a = c.args in
     let l = c.loop-i in
     sym (below_false a.n l.i (form_at a.m.now a.s a.x a.at a.to) (omega arith) (sym c.entry.ensures ∙ c.if-entry.false))
-
-pub returns : goal.returns
-returns c = let all : c.loop-i.i ≡ c.args.n = omega arith in rw (← all) (sym c.loop-i.invariant.1)
