@@ -5,10 +5,10 @@ use native.Mathlib.Omega.{arith}
 use Rattle.mailbox.proofs.earliest.Goals as goal
 
 pub count-requires : goal.count-requires
-count-requires c = let s = c in omega (arith, kept-length s.args.m.now s.requires, s.requires)
+count-requires c = omega (arith, kept-length c.args.m.now c.requires, c.requires)
 
 pub first-requires : goal.first-requires
-first-requires c = let s = c in omega (arith, kept-length s.args.m.now s.requires, s.requires, c.count.ensures)
+first-requires c = omega (arith, kept-length c.args.m.now c.requires, c.requires, c.count.ensures)
 
 pub returns : goal.returns
 returns c =

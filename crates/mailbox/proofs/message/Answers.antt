@@ -6,19 +6,19 @@ use native.Mathlib.Omega.{arith}
 use Rattle.mailbox.proofs.message.Goals as goal
 
 pub capacity-requires : goal.capacity-requires
-capacity-requires c = let s = c in omega (arith, kept-length s.args.m.now s.requires.0.kept, s.requires.0.kept)
+capacity-requires c = omega (arith, kept-length c.args.m.now c.requires.0.kept, c.requires.0.kept)
 
 pub bounds-m-at : goal.bounds-m-at
-bounds-m-at c = let s = c in omega (arith, kept-length s.args.m.now s.requires.0.kept, s.requires.0.kept)
+bounds-m-at c = omega (arith, kept-length c.args.m.now c.requires.0.kept, c.requires.0.kept)
 
 pub bounds-m-to : goal.bounds-m-to
-bounds-m-to c = let s = c in omega (arith, kept-length s.args.m.now s.requires.0.kept, s.requires.0.kept)
+bounds-m-to c = omega (arith, kept-length c.args.m.now c.requires.0.kept, c.requires.0.kept)
 
 pub bounds-m-to-2 : goal.bounds-m-to-2
-bounds-m-to-2 c = let s = c in omega (arith, kept-length s.args.m.now s.requires.0.kept, s.requires.0.kept)
+bounds-m-to-2 c = omega (arith, kept-length c.args.m.now c.requires.0.kept, c.requires.0.kept)
 
 pub bounds-m-to-3 : goal.bounds-m-to-3
-bounds-m-to-3 c = let s = c in omega (arith, kept-length s.args.m.now s.requires.0.kept, s.requires.0.kept)
+bounds-m-to-3 c = omega (arith, kept-length c.args.m.now c.requires.0.kept, c.requires.0.kept)
 
 pub returns : goal.returns
 unfolding entry_at

@@ -1,10 +1,8 @@
 -- `post` meets its contract. The invariant: the first i messages are added.
-use mathlib.Core.Path.{◌≡◌, refl, sym, ap, ◌∙◌}
-use mathlib.Core.List.{List, ◌++◌, append-nil, map}
+use mathlib.Core.Path.{◌≡◌, sym, ap, ◌∙◌}
+use mathlib.Core.List.{List, ◌++◌, map}
 use Prim.Native.Nat.{ℕ, ◌+◌}
 use lib.ListN.{length, take}
-use lib.Seq.{take_all}
-use Rattle.message.specs.declared.Outbox.{Outbox}
 use Rattle.entry.specs.Entry.{Entry}
 use Rattle.mailbox.specs.Layout.{entries_of, mail_bytes}
 use Rattle.entry.specs.Entry.{sent}
@@ -14,25 +12,17 @@ use native.Mathlib.Omega.{arith}
 use Rattle.mailbox.proofs.post.Goals as goal
 
 pub capacity-c-requires : goal.capacity-c-requires
-capacity-c-requires c = let s = c in omega (arith, kept-length s.args.m.now s.requires.kept)
+capacity-c-requires c = omega (arith, kept-length c.args.m.now c.requires.kept)
 
 pub count-count-requires : goal.count-count-requires
-count-count-requires c = let s = c in omega (arith, kept-length s.args.m.now s.requires.kept)
-
-pub loop-i-init : goal.loop-i-init
-loop-i-init c =
-    let s = c in
-    let m = s.args.m.now in
-    let C = c.capacity-c in
-    (omega arith, refl, λ k e f. rw (append-nil, C.ensures) s.requires.kept.bytes)
+count-count-requires c = omega (arith, kept-length c.args.m.now c.requires.kept)
 
 pub add-requires : goal.add-requires
-add-requires c = let s = c in omega (arith, kept-length s.args.m.now s.requires.kept, s.requires.kept, s.requires, c.loop-i.invariant, c.count-count.ensures, c.capacity-c.ensures)
+add-requires c = omega (arith, kept-length c.args.m.now c.requires.kept, c.requires.kept, c.requires, c.loop-i.invariant, c.count-count.ensures, c.capacity-c.ensures)
 
 pub loop-i-preserved : goal.loop-i-preserved
 loop-i-preserved c =
-    let s = c in
-    let a = s.args in
+    let a = c.args in
     let m = a.m.now in
     let C = c.capacity-c in
     let n = c.count-count in
@@ -48,17 +38,3 @@ loop-i-preserved c =
           added.ensures here len (l.invariant.2 k e f)
           ∙ ap (mail_bytes C.result) (rw (first.ensures, second.ensures, e) (one_more a.direction a.party l.i k (entries_of m) (omega arith))),
     )
-
-pub shape_of-m : goal.shape_of-m
-shape_of-m c = c.loop-i.invariant.1
-
-pub returns : goal.returns
-returns c =
-    λ k e.
-    let s = c in
-    let a = s.args in
-    let C = c.capacity-c in
-    let l = c.loop-i in
-    let n : a.out.n ≡ length k = ap (λ (o : Outbox). o.n) e in
-    let all : take l.i k ≡ k = take_all l.i k (omega arith) in
-    l.invariant.2 k (ap (λ (o : Outbox). o.at) e) n ∙ rw (all, C.ensures) refl

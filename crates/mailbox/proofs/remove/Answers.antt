@@ -8,7 +8,6 @@ use Rattle.mailbox.proofs.remove.Goals as goal
 
 pub returns : goal.returns
 returns c =
-    let s = c in
-    let m = s.args.m.now in
+    let m = c.args.m.now in
     c.cut.ensures
-    ∙ ap (mail_bytes (capacity_of m)) (sym (remove_at-without s.args.k (entries_of m) (omega (arith, length-entries m, s.requires.inside))))
+    ∙ ap (mail_bytes (capacity_of m)) (sym (remove_at-without c.args.k (entries_of m) (omega (arith, length-entries m, c.requires.inside))))

@@ -6,13 +6,13 @@ use native.Mathlib.Omega.{arith}
 use Rattle.mailbox.proofs.route_of.Goals as goal
 
 pub bounds-m-at : goal.bounds-m-at
-bounds-m-at c = let s = c in omega (arith, kept-length s.args.m.now s.requires.kept, s.requires.kept)
+bounds-m-at c = omega (arith, kept-length c.args.m.now c.requires.kept, c.requires.kept)
 
 pub bounds-m-at-2 : goal.bounds-m-at-2
-bounds-m-at-2 c = let s = c in omega (arith, kept-length s.args.m.now s.requires.kept, s.requires.kept)
+bounds-m-at-2 c = omega (arith, kept-length c.args.m.now c.requires.kept, c.requires.kept)
 
 pub bounds-m-at-3 : goal.bounds-m-at-3
-bounds-m-at-3 c = let s = c in omega (arith, kept-length s.args.m.now s.requires.kept, s.requires.kept)
+bounds-m-at-3 c = omega (arith, kept-length c.args.m.now c.requires.kept, c.requires.kept)
 
 pub returns : goal.returns
 unfolding entry_at
