@@ -1,4 +1,6 @@
 // The text of a cycle of waits (02: the ring in words): a line for each member, from the most senior on.
+#![tactic(auto)]
+
 ghost use Rattle.std.specs.Prelude.{◌≡◌, ◌≤◌, length};
 ghost use Rattle.buffer.specs.Bytes.{splice};
 ghost use Rattle.table.specs.Layout.{sessions_of, Formed};

@@ -1,12 +1,11 @@
 -- `leader` meets its contract. The invariant: `first` is the most senior of the first i sessions, of which s is the last.
 use mathlib.Core.Path.{◌≡◌, refl, sym, ◌∙◌}
-use mathlib.Core.Logic.{⊎_elim}
-use Prim.Native.Nat.{◌+◌, ◌-◌, ◌≤◌}
+use Prim.Native.Nat.{◌+◌, ◌-◌}
 use native.Mathlib.Omega.{arith}
-use Rattle.table.specs.Layout as Table
 use Rattle.waits.specs.OnTable.{waits_for}
-use Rattle.cycletext.proofs.Round.{ahead, none_ahead, readable, one-ahead, Best, best_one, best_new, best_still, best_leader}
+use Rattle.cycletext.proofs.Round.{none_ahead, readable, one-ahead, best_one, best_new, best_still, best_leader}
 use Rattle.cycletext.proofs.leader.Goals as goal
+use Rattle.cycletext.proofs.leader.Goals.{then-senior, else-senior}
 
 pub ranks-ranks-requires : goal.ranks-ranks-requires
 ranks-ranks-requires c = c.requires.places.formed.sized
@@ -32,10 +31,10 @@ loop-i-preserved c =
       omega arith,
       omega arith,
       rw (last) here,
-      ⊎_elim
-          (λ w. rw w.1 (best_new b.requires l.invariant.3 (omega arith) here (sym e ∙ w.0.taken)))
-          (λ w. rw w.1 (best_still b.requires l.invariant.3 (omega arith) here (sym e ∙ w.0.left)))
-          c.if-senior.branch,
+      elim c.if-senior.branch [
+        | then-senior w ↦ rw w.first-is (best_new b.requires l.invariant.3 (omega arith) here (sym e ∙ w.if-senior.true))
+        | else-senior w ↦ rw w.first-is (best_still b.requires l.invariant.3 (omega arith) here (sym e ∙ w.if-senior.false))
+      ],
       l.invariant.4,
     )
 

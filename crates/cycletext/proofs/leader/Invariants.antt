@@ -1,11 +1,8 @@
 -- `leader` meets its contract. The invariant: `first` is the most senior of the first i sessions, of which s is the last.
-use mathlib.Core.Path.{◌≡◌, refl, sym, ◌∙◌}
-use mathlib.Core.Logic.{⊎_elim}
-use Prim.Native.Nat.{◌+◌, ◌-◌, ◌≤◌}
-use native.Mathlib.Omega.{arith}
+use mathlib.Core.Path.{◌≡◌}
+use Prim.Native.Nat.{◌-◌, ◌≤◌}
 use Rattle.table.specs.Layout as Table
-use Rattle.waits.specs.OnTable.{waits_for}
-use Rattle.cycletext.proofs.Round.{ahead, none_ahead, readable, one-ahead, Best, best_one, best_new, best_still, best_leader}
+use Rattle.cycletext.proofs.Round.{ahead, Best}
 use Rattle.cycletext.proofs.leader.Given as goal
 
 abbrev pub invariant-loop-i : goal.invariant-loop-i

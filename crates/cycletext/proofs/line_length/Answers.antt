@@ -1,7 +1,6 @@
 -- `line_length` meets its contract: a number below 256 has at most three digits.
 use Prim.Native.Nat.{◌≤◌}
 use native.Mathlib.Omega.{arith}
-use borrow.Author.Rules.{rules}
 use Rattle.text.proofs.Laws.{length-decimal}
 use Rattle.cycletext.proofs.Laws.{length-line}
 use Rattle.cycletext.proofs.line_length.Goals as goal

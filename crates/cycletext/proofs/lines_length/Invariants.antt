@@ -1,11 +1,10 @@
 -- `lines_length` meets its contract. The invariant: the lines of the first i members are counted, and s is the next.
-use mathlib.Core.Path.{◌≡◌, sym, ap, ◌∙◌}
+use mathlib.Core.Path.{◌≡◌}
 use Prim.Native.Nat.{◌-◌, ◌*◌, ◌≤◌}
-use native.Mathlib.Omega.{arith}
-use lib.ListN.{length, length-append}
-use Rattle.cycletext.specs.Text.{line, lines}
+use lib.ListN.{length}
+use Rattle.cycletext.specs.Text.{lines}
 use Rattle.cycletext.specs.Parts.{longest_line, waits_from}
-use Rattle.cycletext.proofs.Round.{ahead, none_ahead, readable, holder-ahead, lines-ahead, no_lines}
+use Rattle.cycletext.proofs.Round.{ahead}
 use Rattle.cycletext.proofs.lines_length.Given as goal
 
 abbrev pub invariant-loop-counted : goal.invariant-loop-counted

@@ -3,7 +3,6 @@ use mathlib.Core.List.{List, [], ◌∷◌, ◌++◌}
 use Prim.Native.Nat.{ℕ}
 use native.Mathlib.Omega.{arith}
 use lib.ListN.{take, drop}
-use borrow.Author.Rules.{rules}
 use Rattle.text.specs.Text.{ascii, decimal, line_feed}
 use Rattle.text.proofs.Laws.{Written, none_written, piece_fits, piece_written}
 use Rattle.waits.specs.declared.Wait.{Wait}
@@ -33,7 +32,7 @@ unfolding ascii
 put_decimal-at-requires c =
     let Wrote : ℕ → List ℕ → ℕ → Type 0 = λ k x at. let l = pieces c.args.w in Written c.args.out.now x at (joined [] (take k l)) (drop k l) in
     let wrote-0 : Wrote 0 c.args.out.now 0 = none_written c.args.out.now (pieces c.args.w) (omega (arith, length-line c.args.w, c.requires)) in
-    let wrote-1 : Wrote 1 c.put_bytes-at.new.t c.put_bytes-at.result = let p = c.put_bytes-at in piece_written (wrote-0) p.ensures.0 p.ensures.1 p.auto.0 in
+    let wrote-1 : Wrote 1 c.put_bytes-at.new.t c.put_bytes-at.result = let p = c.put_bytes-at in piece_written (wrote-0) p.ensures.0 p.ensures.1 p.auto.t in
     piece_fits (wrote-1)
 
 pub put_bytes-at-requires-2 : goal.put_bytes-at-requires-2
@@ -41,8 +40,8 @@ unfolding ascii
 put_bytes-at-requires-2 c =
     let Wrote : ℕ → List ℕ → ℕ → Type 0 = λ k x at. let l = pieces c.args.w in Written c.args.out.now x at (joined [] (take k l)) (drop k l) in
     let wrote-0 : Wrote 0 c.args.out.now 0 = none_written c.args.out.now (pieces c.args.w) (omega (arith, length-line c.args.w, c.requires)) in
-    let wrote-1 : Wrote 1 c.put_bytes-at.new.t c.put_bytes-at.result = let p = c.put_bytes-at in piece_written (wrote-0) p.ensures.0 p.ensures.1 p.auto.0 in
-    let wrote-2 : Wrote 2 c.put_decimal-at.new.out c.put_decimal-at.result = let p = c.put_decimal-at in piece_written (wrote-1) p.ensures.0 p.ensures.1 p.auto.0 in
+    let wrote-1 : Wrote 1 c.put_bytes-at.new.t c.put_bytes-at.result = let p = c.put_bytes-at in piece_written (wrote-0) p.ensures.0 p.ensures.1 p.auto.t in
+    let wrote-2 : Wrote 2 c.put_decimal-at.new.out c.put_decimal-at.result = let p = c.put_decimal-at in piece_written (wrote-1) p.ensures.0 p.ensures.1 p.auto.out in
     piece_fits (wrote-2)
 
 pub put_decimal-at-requires-2 : goal.put_decimal-at-requires-2
@@ -50,9 +49,9 @@ unfolding ascii
 put_decimal-at-requires-2 c =
     let Wrote : ℕ → List ℕ → ℕ → Type 0 = λ k x at. let l = pieces c.args.w in Written c.args.out.now x at (joined [] (take k l)) (drop k l) in
     let wrote-0 : Wrote 0 c.args.out.now 0 = none_written c.args.out.now (pieces c.args.w) (omega (arith, length-line c.args.w, c.requires)) in
-    let wrote-1 : Wrote 1 c.put_bytes-at.new.t c.put_bytes-at.result = let p = c.put_bytes-at in piece_written (wrote-0) p.ensures.0 p.ensures.1 p.auto.0 in
-    let wrote-2 : Wrote 2 c.put_decimal-at.new.out c.put_decimal-at.result = let p = c.put_decimal-at in piece_written (wrote-1) p.ensures.0 p.ensures.1 p.auto.0 in
-    let wrote-3 : Wrote 3 c.put_bytes-at-2.new.t c.put_bytes-at-2.result = let p = c.put_bytes-at-2 in piece_written (wrote-2) p.ensures.0 p.ensures.1 p.auto.0 in
+    let wrote-1 : Wrote 1 c.put_bytes-at.new.t c.put_bytes-at.result = let p = c.put_bytes-at in piece_written (wrote-0) p.ensures.0 p.ensures.1 p.auto.t in
+    let wrote-2 : Wrote 2 c.put_decimal-at.new.out c.put_decimal-at.result = let p = c.put_decimal-at in piece_written (wrote-1) p.ensures.0 p.ensures.1 p.auto.out in
+    let wrote-3 : Wrote 3 c.put_bytes-at-2.new.t c.put_bytes-at-2.result = let p = c.put_bytes-at-2 in piece_written (wrote-2) p.ensures.0 p.ensures.1 p.auto.t in
     piece_fits (wrote-3)
 
 pub put_bytes-at-requires-3 : goal.put_bytes-at-requires-3
@@ -60,10 +59,10 @@ unfolding ascii
 put_bytes-at-requires-3 c =
     let Wrote : ℕ → List ℕ → ℕ → Type 0 = λ k x at. let l = pieces c.args.w in Written c.args.out.now x at (joined [] (take k l)) (drop k l) in
     let wrote-0 : Wrote 0 c.args.out.now 0 = none_written c.args.out.now (pieces c.args.w) (omega (arith, length-line c.args.w, c.requires)) in
-    let wrote-1 : Wrote 1 c.put_bytes-at.new.t c.put_bytes-at.result = let p = c.put_bytes-at in piece_written (wrote-0) p.ensures.0 p.ensures.1 p.auto.0 in
-    let wrote-2 : Wrote 2 c.put_decimal-at.new.out c.put_decimal-at.result = let p = c.put_decimal-at in piece_written (wrote-1) p.ensures.0 p.ensures.1 p.auto.0 in
-    let wrote-3 : Wrote 3 c.put_bytes-at-2.new.t c.put_bytes-at-2.result = let p = c.put_bytes-at-2 in piece_written (wrote-2) p.ensures.0 p.ensures.1 p.auto.0 in
-    let wrote-4 : Wrote 4 c.put_decimal-at-2.new.out c.put_decimal-at-2.result = let p = c.put_decimal-at-2 in piece_written (wrote-3) p.ensures.0 p.ensures.1 p.auto.0 in
+    let wrote-1 : Wrote 1 c.put_bytes-at.new.t c.put_bytes-at.result = let p = c.put_bytes-at in piece_written (wrote-0) p.ensures.0 p.ensures.1 p.auto.t in
+    let wrote-2 : Wrote 2 c.put_decimal-at.new.out c.put_decimal-at.result = let p = c.put_decimal-at in piece_written (wrote-1) p.ensures.0 p.ensures.1 p.auto.out in
+    let wrote-3 : Wrote 3 c.put_bytes-at-2.new.t c.put_bytes-at-2.result = let p = c.put_bytes-at-2 in piece_written (wrote-2) p.ensures.0 p.ensures.1 p.auto.t in
+    let wrote-4 : Wrote 4 c.put_decimal-at-2.new.out c.put_decimal-at-2.result = let p = c.put_decimal-at-2 in piece_written (wrote-3) p.ensures.0 p.ensures.1 p.auto.out in
     piece_fits (wrote-4)
 
 pub put_decimal-at-requires-3 : goal.put_decimal-at-requires-3
@@ -71,11 +70,11 @@ unfolding ascii
 put_decimal-at-requires-3 c =
     let Wrote : ℕ → List ℕ → ℕ → Type 0 = λ k x at. let l = pieces c.args.w in Written c.args.out.now x at (joined [] (take k l)) (drop k l) in
     let wrote-0 : Wrote 0 c.args.out.now 0 = none_written c.args.out.now (pieces c.args.w) (omega (arith, length-line c.args.w, c.requires)) in
-    let wrote-1 : Wrote 1 c.put_bytes-at.new.t c.put_bytes-at.result = let p = c.put_bytes-at in piece_written (wrote-0) p.ensures.0 p.ensures.1 p.auto.0 in
-    let wrote-2 : Wrote 2 c.put_decimal-at.new.out c.put_decimal-at.result = let p = c.put_decimal-at in piece_written (wrote-1) p.ensures.0 p.ensures.1 p.auto.0 in
-    let wrote-3 : Wrote 3 c.put_bytes-at-2.new.t c.put_bytes-at-2.result = let p = c.put_bytes-at-2 in piece_written (wrote-2) p.ensures.0 p.ensures.1 p.auto.0 in
-    let wrote-4 : Wrote 4 c.put_decimal-at-2.new.out c.put_decimal-at-2.result = let p = c.put_decimal-at-2 in piece_written (wrote-3) p.ensures.0 p.ensures.1 p.auto.0 in
-    let wrote-5 : Wrote 5 c.put_bytes-at-3.new.t c.put_bytes-at-3.result = let p = c.put_bytes-at-3 in piece_written (wrote-4) p.ensures.0 p.ensures.1 p.auto.0 in
+    let wrote-1 : Wrote 1 c.put_bytes-at.new.t c.put_bytes-at.result = let p = c.put_bytes-at in piece_written (wrote-0) p.ensures.0 p.ensures.1 p.auto.t in
+    let wrote-2 : Wrote 2 c.put_decimal-at.new.out c.put_decimal-at.result = let p = c.put_decimal-at in piece_written (wrote-1) p.ensures.0 p.ensures.1 p.auto.out in
+    let wrote-3 : Wrote 3 c.put_bytes-at-2.new.t c.put_bytes-at-2.result = let p = c.put_bytes-at-2 in piece_written (wrote-2) p.ensures.0 p.ensures.1 p.auto.t in
+    let wrote-4 : Wrote 4 c.put_decimal-at-2.new.out c.put_decimal-at-2.result = let p = c.put_decimal-at-2 in piece_written (wrote-3) p.ensures.0 p.ensures.1 p.auto.out in
+    let wrote-5 : Wrote 5 c.put_bytes-at-3.new.t c.put_bytes-at-3.result = let p = c.put_bytes-at-3 in piece_written (wrote-4) p.ensures.0 p.ensures.1 p.auto.t in
     piece_fits (wrote-5)
 
 pub put_bytes-requires : goal.put_bytes-requires
@@ -83,12 +82,12 @@ unfolding ascii
 put_bytes-requires c =
     let Wrote : ℕ → List ℕ → ℕ → Type 0 = λ k x at. let l = pieces c.args.w in Written c.args.out.now x at (joined [] (take k l)) (drop k l) in
     let wrote-0 : Wrote 0 c.args.out.now 0 = none_written c.args.out.now (pieces c.args.w) (omega (arith, length-line c.args.w, c.requires)) in
-    let wrote-1 : Wrote 1 c.put_bytes-at.new.t c.put_bytes-at.result = let p = c.put_bytes-at in piece_written (wrote-0) p.ensures.0 p.ensures.1 p.auto.0 in
-    let wrote-2 : Wrote 2 c.put_decimal-at.new.out c.put_decimal-at.result = let p = c.put_decimal-at in piece_written (wrote-1) p.ensures.0 p.ensures.1 p.auto.0 in
-    let wrote-3 : Wrote 3 c.put_bytes-at-2.new.t c.put_bytes-at-2.result = let p = c.put_bytes-at-2 in piece_written (wrote-2) p.ensures.0 p.ensures.1 p.auto.0 in
-    let wrote-4 : Wrote 4 c.put_decimal-at-2.new.out c.put_decimal-at-2.result = let p = c.put_decimal-at-2 in piece_written (wrote-3) p.ensures.0 p.ensures.1 p.auto.0 in
-    let wrote-5 : Wrote 5 c.put_bytes-at-3.new.t c.put_bytes-at-3.result = let p = c.put_bytes-at-3 in piece_written (wrote-4) p.ensures.0 p.ensures.1 p.auto.0 in
-    let wrote-6 : Wrote 6 c.put_decimal-at-3.new.out c.put_decimal-at-3.result = let p = c.put_decimal-at-3 in piece_written (wrote-5) p.ensures.0 p.ensures.1 p.auto.0 in
+    let wrote-1 : Wrote 1 c.put_bytes-at.new.t c.put_bytes-at.result = let p = c.put_bytes-at in piece_written (wrote-0) p.ensures.0 p.ensures.1 p.auto.t in
+    let wrote-2 : Wrote 2 c.put_decimal-at.new.out c.put_decimal-at.result = let p = c.put_decimal-at in piece_written (wrote-1) p.ensures.0 p.ensures.1 p.auto.out in
+    let wrote-3 : Wrote 3 c.put_bytes-at-2.new.t c.put_bytes-at-2.result = let p = c.put_bytes-at-2 in piece_written (wrote-2) p.ensures.0 p.ensures.1 p.auto.t in
+    let wrote-4 : Wrote 4 c.put_decimal-at-2.new.out c.put_decimal-at-2.result = let p = c.put_decimal-at-2 in piece_written (wrote-3) p.ensures.0 p.ensures.1 p.auto.out in
+    let wrote-5 : Wrote 5 c.put_bytes-at-3.new.t c.put_bytes-at-3.result = let p = c.put_bytes-at-3 in piece_written (wrote-4) p.ensures.0 p.ensures.1 p.auto.t in
+    let wrote-6 : Wrote 6 c.put_decimal-at-3.new.out c.put_decimal-at-3.result = let p = c.put_decimal-at-3 in piece_written (wrote-5) p.ensures.0 p.ensures.1 p.auto.out in
     piece_fits (wrote-6)
 
 pub shape_of-out : goal.shape_of-out
@@ -96,13 +95,13 @@ unfolding ascii
 shape_of-out c =
     let Wrote : ℕ → List ℕ → ℕ → Type 0 = λ k x at. let l = pieces c.args.w in Written c.args.out.now x at (joined [] (take k l)) (drop k l) in
     let wrote-0 : Wrote 0 c.args.out.now 0 = none_written c.args.out.now (pieces c.args.w) (omega (arith, length-line c.args.w, c.requires)) in
-    let wrote-1 : Wrote 1 c.put_bytes-at.new.t c.put_bytes-at.result = let p = c.put_bytes-at in piece_written (wrote-0) p.ensures.0 p.ensures.1 p.auto.0 in
-    let wrote-2 : Wrote 2 c.put_decimal-at.new.out c.put_decimal-at.result = let p = c.put_decimal-at in piece_written (wrote-1) p.ensures.0 p.ensures.1 p.auto.0 in
-    let wrote-3 : Wrote 3 c.put_bytes-at-2.new.t c.put_bytes-at-2.result = let p = c.put_bytes-at-2 in piece_written (wrote-2) p.ensures.0 p.ensures.1 p.auto.0 in
-    let wrote-4 : Wrote 4 c.put_decimal-at-2.new.out c.put_decimal-at-2.result = let p = c.put_decimal-at-2 in piece_written (wrote-3) p.ensures.0 p.ensures.1 p.auto.0 in
-    let wrote-5 : Wrote 5 c.put_bytes-at-3.new.t c.put_bytes-at-3.result = let p = c.put_bytes-at-3 in piece_written (wrote-4) p.ensures.0 p.ensures.1 p.auto.0 in
-    let wrote-6 : Wrote 6 c.put_decimal-at-3.new.out c.put_decimal-at-3.result = let p = c.put_decimal-at-3 in piece_written (wrote-5) p.ensures.0 p.ensures.1 p.auto.0 in
-    let wrote-7 : Wrote 7 c.put_bytes.new.t c.put_bytes.result = let p = c.put_bytes in piece_written (wrote-6) p.ensures.0 p.ensures.1 p.auto.0 in
+    let wrote-1 : Wrote 1 c.put_bytes-at.new.t c.put_bytes-at.result = let p = c.put_bytes-at in piece_written (wrote-0) p.ensures.0 p.ensures.1 p.auto.t in
+    let wrote-2 : Wrote 2 c.put_decimal-at.new.out c.put_decimal-at.result = let p = c.put_decimal-at in piece_written (wrote-1) p.ensures.0 p.ensures.1 p.auto.out in
+    let wrote-3 : Wrote 3 c.put_bytes-at-2.new.t c.put_bytes-at-2.result = let p = c.put_bytes-at-2 in piece_written (wrote-2) p.ensures.0 p.ensures.1 p.auto.t in
+    let wrote-4 : Wrote 4 c.put_decimal-at-2.new.out c.put_decimal-at-2.result = let p = c.put_decimal-at-2 in piece_written (wrote-3) p.ensures.0 p.ensures.1 p.auto.out in
+    let wrote-5 : Wrote 5 c.put_bytes-at-3.new.t c.put_bytes-at-3.result = let p = c.put_bytes-at-3 in piece_written (wrote-4) p.ensures.0 p.ensures.1 p.auto.t in
+    let wrote-6 : Wrote 6 c.put_decimal-at-3.new.out c.put_decimal-at-3.result = let p = c.put_decimal-at-3 in piece_written (wrote-5) p.ensures.0 p.ensures.1 p.auto.out in
+    let wrote-7 : Wrote 7 c.put_bytes.new.t c.put_bytes.result = let p = c.put_bytes in piece_written (wrote-6) p.ensures.0 p.ensures.1 p.auto.t in
     (wrote-7).same
 
 pub returns : goal.returns
@@ -110,11 +109,11 @@ unfolding line ascii
 returns c =
     let Wrote : ℕ → List ℕ → ℕ → Type 0 = λ k x at. let l = pieces c.args.w in Written c.args.out.now x at (joined [] (take k l)) (drop k l) in
     let wrote-0 : Wrote 0 c.args.out.now 0 = none_written c.args.out.now (pieces c.args.w) (omega (arith, length-line c.args.w, c.requires)) in
-    let wrote-1 : Wrote 1 c.put_bytes-at.new.t c.put_bytes-at.result = let p = c.put_bytes-at in piece_written (wrote-0) p.ensures.0 p.ensures.1 p.auto.0 in
-    let wrote-2 : Wrote 2 c.put_decimal-at.new.out c.put_decimal-at.result = let p = c.put_decimal-at in piece_written (wrote-1) p.ensures.0 p.ensures.1 p.auto.0 in
-    let wrote-3 : Wrote 3 c.put_bytes-at-2.new.t c.put_bytes-at-2.result = let p = c.put_bytes-at-2 in piece_written (wrote-2) p.ensures.0 p.ensures.1 p.auto.0 in
-    let wrote-4 : Wrote 4 c.put_decimal-at-2.new.out c.put_decimal-at-2.result = let p = c.put_decimal-at-2 in piece_written (wrote-3) p.ensures.0 p.ensures.1 p.auto.0 in
-    let wrote-5 : Wrote 5 c.put_bytes-at-3.new.t c.put_bytes-at-3.result = let p = c.put_bytes-at-3 in piece_written (wrote-4) p.ensures.0 p.ensures.1 p.auto.0 in
-    let wrote-6 : Wrote 6 c.put_decimal-at-3.new.out c.put_decimal-at-3.result = let p = c.put_decimal-at-3 in piece_written (wrote-5) p.ensures.0 p.ensures.1 p.auto.0 in
-    let wrote-7 : Wrote 7 c.put_bytes.new.t c.put_bytes.result = let p = c.put_bytes in piece_written (wrote-6) p.ensures.0 p.ensures.1 p.auto.0 in
+    let wrote-1 : Wrote 1 c.put_bytes-at.new.t c.put_bytes-at.result = let p = c.put_bytes-at in piece_written (wrote-0) p.ensures.0 p.ensures.1 p.auto.t in
+    let wrote-2 : Wrote 2 c.put_decimal-at.new.out c.put_decimal-at.result = let p = c.put_decimal-at in piece_written (wrote-1) p.ensures.0 p.ensures.1 p.auto.out in
+    let wrote-3 : Wrote 3 c.put_bytes-at-2.new.t c.put_bytes-at-2.result = let p = c.put_bytes-at-2 in piece_written (wrote-2) p.ensures.0 p.ensures.1 p.auto.t in
+    let wrote-4 : Wrote 4 c.put_decimal-at-2.new.out c.put_decimal-at-2.result = let p = c.put_decimal-at-2 in piece_written (wrote-3) p.ensures.0 p.ensures.1 p.auto.out in
+    let wrote-5 : Wrote 5 c.put_bytes-at-3.new.t c.put_bytes-at-3.result = let p = c.put_bytes-at-3 in piece_written (wrote-4) p.ensures.0 p.ensures.1 p.auto.t in
+    let wrote-6 : Wrote 6 c.put_decimal-at-3.new.out c.put_decimal-at-3.result = let p = c.put_decimal-at-3 in piece_written (wrote-5) p.ensures.0 p.ensures.1 p.auto.out in
+    let wrote-7 : Wrote 7 c.put_bytes.new.t c.put_bytes.result = let p = c.put_bytes in piece_written (wrote-6) p.ensures.0 p.ensures.1 p.auto.t in
     let w = wrote-7 in (w.bytes, w.behind)

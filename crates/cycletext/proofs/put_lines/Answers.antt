@@ -9,7 +9,7 @@ use Rattle.buffer.proofs.Laws.{length-slice, length-splice, part-splice}
 use Rattle.text.proofs.Laws.{splice-none, splice_then}
 use Rattle.cycletext.specs.Text.{line, lines}
 use Rattle.cycletext.specs.Parts.{waits_from}
-use Rattle.cycletext.proofs.Round.{ahead, none_ahead, readable, holder-ahead, lines-ahead, room-ahead, no_lines}
+use Rattle.cycletext.proofs.Round.{none_ahead, readable, holder-ahead, lines-ahead, room-ahead, no_lines}
 use Rattle.cycletext.proofs.put_lines.Goals as goal
 
 pub loop-written-init : goal.loop-written-init

@@ -1,15 +1,11 @@
 -- `put_lines` meets its contract. The invariant: the lines of the first i members are written, and s is the next.
-use mathlib.Core.Path.{◌≡◌, refl, sym, ap, ◌∙◌}
-use Prim.Native.Nat.{◌+◌, ◌-◌, ◌≤◌}
-use native.Mathlib.Nat.{zero-add}
-use native.Mathlib.Omega.{arith}
-use lib.ListN.{length, length-append}
+use mathlib.Core.Path.{◌≡◌}
+use Prim.Native.Nat.{◌-◌, ◌≤◌}
+use lib.ListN.{length}
 use Rattle.buffer.specs.Bytes.{splice}
-use Rattle.buffer.proofs.Laws.{length-slice, length-splice, part-splice}
-use Rattle.text.proofs.Laws.{splice-none, splice_then}
-use Rattle.cycletext.specs.Text.{line, lines}
+use Rattle.cycletext.specs.Text.{lines}
 use Rattle.cycletext.specs.Parts.{waits_from}
-use Rattle.cycletext.proofs.Round.{ahead, none_ahead, readable, holder-ahead, lines-ahead, room-ahead, no_lines}
+use Rattle.cycletext.proofs.Round.{ahead}
 use Rattle.cycletext.proofs.put_lines.Given as goal
 
 abbrev pub invariant-loop-written : goal.invariant-loop-written
