@@ -1,4 +1,6 @@
 // A session is reopened (02: session numbers used again): whether nothing names it any more, and the record that begins anew.
+#![tactic(auto)]
+
 ghost use Rattle.std.specs.Prelude.{◌≡◌, ◌≤◌};
 ghost use Rattle.lists.specs.Lists.{member};
 ghost use Rattle.refusal.specs.Refusal.{first};

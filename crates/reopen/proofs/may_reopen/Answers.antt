@@ -2,7 +2,6 @@
 use mathlib.Core.Path.{refl, sym, ◌∙◌}
 use mathlib.Core.Bool.{◌&&◌, and-false}
 use native.Mathlib.Omega.{arith}
-use borrow.Author.Tests.{not-true, not-false}
 use Rattle.mailbox.specs.Layout.{entry_at}
 use Rattle.mailbox.proofs.Laws.{formed-kept, formed-entry}
 use Rattle.mailbox.proofs.EntryLaws.{entry-facts}
@@ -17,7 +16,7 @@ session-requires c = c.requires.1
 pub returns-then-not-is_over : goal.returns-then-not-is_over
 unfolding may_reopen
 returns-then-not-is_over c =
-    let over = sym c.is_over.ensures ∙ not-true c.is_over.result c.if-not-is_over.true in
+    let over = sym c.is_over.ensures ∙ c.if-not-is_over.true in
     rw (← c.session.ensures, over) refl
 
 pub no_probe_names-requires : goal.no_probe_names-requires
@@ -30,7 +29,7 @@ pub returns-then-not-no_probe_names : goal.returns-then-not-no_probe_names
 unfolding may_reopen
 returns-then-not-no_probe_names c =
     let a = c.args in
-    let probes = sym c.no_probe_names.ensures ∙ not-true c.no_probe_names.result c.if-not-no_probe_names.true in
+    let probes = sym c.no_probe_names.ensures ∙ c.if-not-no_probe_names.true in
     rw (probes, and-false (is_over (Table.session a.table.now a.t))) refl
 
 pub no_item_names-requires : goal.no_item_names-requires
@@ -40,7 +39,7 @@ pub returns-then-not-no_item_names : goal.returns-then-not-no_item_names
 unfolding may_reopen
 returns-then-not-no_item_names c =
     let a = c.args in
-    let items = sym c.no_item_names.ensures ∙ not-true c.no_item_names.result c.if-not-no_item_names.true in
+    let items = sym c.no_item_names.ensures ∙ c.if-not-no_item_names.true in
     rw (items, and-false (is_over (Table.session a.table.now a.t) && no_probe_names a.t a.table.now)) refl
 
 pub no_entry_names-requires : goal.no_entry_names-requires
@@ -62,7 +61,7 @@ returns c =
     let items = c in
     let probes = items in
     let over = probes in
-    let one = sym over.is_over.ensures ∙ not-false over.is_over.result over.if-not-is_over.false in
-    let two = sym probes.no_probe_names.ensures ∙ not-false probes.no_probe_names.result probes.if-not-no_probe_names.false in
-    let three = sym items.no_item_names.ensures ∙ not-false items.no_item_names.result items.if-not-no_item_names.false in
+    let one = sym over.is_over.ensures ∙ over.if-not-is_over.false in
+    let two = sym probes.no_probe_names.ensures ∙ probes.if-not-no_probe_names.false in
+    let three = sym items.no_item_names.ensures ∙ items.if-not-no_item_names.false in
     rw (← over.session.ensures, one, two, three) c.no_entry_names.ensures

@@ -1,10 +1,9 @@
 -- `no_entry_names` meets its contract. The loop's invariant: no entry that was passed names the session.
 use mathlib.Core.Path.{◌≡◌, refl, sym, ap, ◌∙◌}
-use mathlib.Core.Bool.{Bool, true, not}
+use mathlib.Core.Bool.{not}
 use mathlib.Core.List.{List}
-use Prim.Native.Nat.{ℕ, ◌-◌, ◌≤◌}
+use Prim.Native.Nat.{ℕ}
 use native.Mathlib.Omega.{arith}
-use borrow.Author.Rules.{rules}
 use Rattle.lists.specs.Lists.{every_below}
 use Rattle.lists.proofs.Laws.{below_false, below_more, all-tabulate}
 use Rattle.mailbox.specs.Layout.{count_of, entry_at, entries_of}
@@ -32,7 +31,7 @@ entry_names-requires c = c.requires.low
 
 pub returns-then-entry_names : goal.returns-then-entry_names
 returns-then-entry_names c =
-    let here :  → (let a = c.args in c.entry_names.result ≡ entry_names a.t (entry_at a.mail.now c.loop-k.k)) = let s = c in
+    let here : (let a = c.args in c.entry_names.result ≡ entry_names a.t (entry_at a.mail.now c.loop-k.k)) = let s = c in
     let k = c.loop-k.k in
     c.entry_names.ensures (entry_at s.args.mail.now k) (s.requires.plain k (omega arith)) c.message_to_item.ensures in
     let a = c.args in
@@ -41,7 +40,7 @@ returns-then-entry_names c =
 
 pub loop-k-preserved : goal.loop-k-preserved
 loop-k-preserved c =
-    let here :  → (let a = c.args in c.entry_names.result ≡ entry_names a.t (entry_at a.mail.now c.loop-k.k)) = let s = c in
+    let here : (let a = c.args in c.entry_names.result ≡ entry_names a.t (entry_at a.mail.now c.loop-k.k)) = let s = c in
     let k = c.loop-k.k in
     c.entry_names.ensures (entry_at s.args.mail.now k) (s.requires.plain k (omega arith)) c.message_to_item.ensures in
     let v = c.loop-k.invariant in (v.0, omega arith, rw (below_more, v.2, ← here, c.if-entry_names.false) refl)

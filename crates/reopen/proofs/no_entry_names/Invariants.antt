@@ -1,15 +1,11 @@
 -- `no_entry_names` meets its contract. The loop's invariant: no entry that was passed names the session.
-use mathlib.Core.Path.{◌≡◌, refl, sym, ap, ◌∙◌}
+use mathlib.Core.Path.{◌≡◌}
 use mathlib.Core.Bool.{Bool, true, not}
 use mathlib.Core.List.{List}
 use Prim.Native.Nat.{ℕ, ◌-◌, ◌≤◌}
-use native.Mathlib.Omega.{arith}
-use borrow.Author.Rules.{rules}
 use Rattle.lists.specs.Lists.{every_below}
-use Rattle.lists.proofs.Laws.{below_false, below_more, all-tabulate}
-use Rattle.mailbox.specs.Layout.{count_of, entry_at, entries_of}
-use Rattle.mailbox.proofs.Laws.{kept-length}
-use Rattle.reopen.specs.Reopening.{entry_names, no_entry_names}
+use Rattle.mailbox.specs.Layout.{count_of, entry_at}
+use Rattle.reopen.specs.Reopening.{entry_names}
 use Rattle.reopen.proofs.no_entry_names.Given as goal
 
 -- entry k does not name session t

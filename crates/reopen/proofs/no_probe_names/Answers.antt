@@ -1,11 +1,9 @@
 -- `no_probe_names` meets its contract. The loop's invariant: no record that was passed stores a probe that names the session.
 use mathlib.Core.Path.{◌≡◌, refl, sym, ap, ◌∙◌}
-use mathlib.Core.Bool.{Bool, true, false, not}
-use mathlib.Core.List.{List}
-use Prim.Native.Nat.{ℕ, suc, ◌+◌, ◌-◌, ◌≤◌}
+use mathlib.Core.Bool.{true, false, not}
+use Prim.Native.Nat.{suc, ◌+◌}
 use native.Mathlib.Numerals.{add-one}
 use native.Mathlib.Omega.{arith}
-use borrow.Author.Rules.{rules}
 use Rattle.lists.specs.Lists.{every}
 use Rattle.lists.proofs.Searches.{every_more, every-false}
 use Rattle.table.specs.Layout as Table

@@ -1,16 +1,11 @@
 -- `no_probe_names` meets its contract. The loop's invariant: no record that was passed stores a probe that names the session.
-use mathlib.Core.Path.{◌≡◌, refl, sym, ap, ◌∙◌}
-use mathlib.Core.Bool.{Bool, true, false, not}
+use mathlib.Core.Path.{◌≡◌}
+use mathlib.Core.Bool.{Bool, true, not}
 use mathlib.Core.List.{List}
-use Prim.Native.Nat.{ℕ, suc, ◌+◌, ◌-◌, ◌≤◌}
-use native.Mathlib.Numerals.{add-one}
-use native.Mathlib.Omega.{arith}
-use borrow.Author.Rules.{rules}
+use Prim.Native.Nat.{ℕ, ◌-◌, ◌≤◌}
 use Rattle.lists.specs.Lists.{every}
-use Rattle.lists.proofs.Searches.{every_more, every-false}
 use Rattle.table.specs.Layout as Table
-use Rattle.table.proofs.Laws.{header-fits, sized-facts}
-use Rattle.reopen.specs.Reopening.{stored_names, no_probe_names}
+use Rattle.reopen.specs.Reopening.{stored_names}
 use Rattle.reopen.proofs.no_probe_names.Given as goal
 
 -- no probe that session k stores names session t

@@ -1,7 +1,5 @@
 -- A session that may not be reopened is refused; else its record is written.
 use mathlib.Core.Path.{refl, sym, ◌∙◌}
-use borrow.Author.Rules.{rules}
-use borrow.Author.Tests.{not-true, not-false}
 use Rattle.refusal.specs.Refusal.{first}
 use Rattle.reopen.proofs.reopen.Goals as goal
 
@@ -11,7 +9,7 @@ may_reopen-requires c = c.requires
 pub returns-then-not-may_reopen : goal.returns-then-not-may_reopen
 unfolding first
 returns-then-not-may_reopen c =
-    let may = sym c.may_reopen.ensures ∙ not-true c.may_reopen.result c.if-not-may_reopen.true in
+    let may = sym c.may_reopen.ensures ∙ c.if-not-may_reopen.true in
     rw (may) refl
 
 pub session-s-requires : goal.session-s-requires
@@ -24,5 +22,5 @@ pub returns : goal.returns
 unfolding first
 returns c =
     let d = c in
-    let may = sym d.may_reopen.ensures ∙ not-false d.may_reopen.result d.if-not-may_reopen.false in
+    let may = sym d.may_reopen.ensures ∙ d.if-not-may_reopen.false in
     rw (may, c.put_session.ensures) refl

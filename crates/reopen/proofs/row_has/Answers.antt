@@ -1,9 +1,7 @@
 -- `row_has` meets its contract. The loop's invariant: whether t stands among the bytes that were passed.
 use mathlib.Core.Path.{◌≡◌, refl, sym}
-use Prim.Native.Nat.{◌-◌, ◌≤◌}
 use native.Mathlib.Omega.{arith}
-use borrow.Author.Rules.{rules}
-use lib.ListN.{take, length}
+use lib.ListN.{length}
 use lib.Seq.{take_all}
 use Rattle.lists.specs.Lists.{member}
 use Rattle.lists.proofs.Laws.{member-more}

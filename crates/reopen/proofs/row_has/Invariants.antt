@@ -1,12 +1,8 @@
 -- `row_has` meets its contract. The loop's invariant: whether t stands among the bytes that were passed.
-use mathlib.Core.Path.{◌≡◌, refl, sym}
+use mathlib.Core.Path.{◌≡◌}
 use Prim.Native.Nat.{◌-◌, ◌≤◌}
-use native.Mathlib.Omega.{arith}
-use borrow.Author.Rules.{rules}
-use lib.ListN.{take, length}
-use lib.Seq.{take_all}
+use lib.ListN.{take}
 use Rattle.lists.specs.Lists.{member}
-use Rattle.lists.proofs.Laws.{member-more}
 use Rattle.message.specs.Limits.{max_sessions}
 use Rattle.reopen.proofs.row_has.Given as goal
 

@@ -1,6 +1,5 @@
 -- The tests are those of the definition.
 use mathlib.Core.Path.{refl}
-use borrow.Author.Rules.{rules}
 use Rattle.reopen.specs.Reopening.{stored_names}
 use Rattle.reopen.proofs.stored_names.Goals as goal
 
