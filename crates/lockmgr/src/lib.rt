@@ -1,4 +1,6 @@
 // The lock manager (01: the desk): start, step, report, reopen, cycle text and drain on lent bytes, exported to C.
+#![tactic(auto)]
+
 ghost use Rattle.std.specs.Prelude.{◌≡◌};
 ghost use Rattle.refusal.specs.Refusal.{first};
 ghost use Rattle.step.specs.Step.{stepped, Formed};
