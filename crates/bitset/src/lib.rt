@@ -1,4 +1,6 @@
 // A 64-bit mask as a set of the numbers 1 to 64.
+#![tactic(auto)]
+
 ghost use Rattle.std.specs.Prelude.{◌≡◌, ◌∷◌, ◌≤◌, ◌<◌};
 ghost use Rattle.bitset.specs.Bitset.{has, single, full, insert, remove, members};
 

@@ -1,4 +1,6 @@
 // Little-endian numbers and runs of bytes in a buffer.
+#![tactic(auto)]
+
 ghost use Rattle.std.specs.Prelude.{◌≡◌, ◌+◌, ◌≤◌, ◌<◌, eqb, length, get_or, replicate};
 ghost use Rattle.lists.specs.Lists.{all_of};
 ghost use Rattle.buffer.specs.Bytes.{slice, from_bytes, to_bytes, splice};

@@ -1,4 +1,6 @@
 // The causes for which a call or a list of days is refused, by number, and the first of them that holds.
+#![tactic(auto)]
+
 ghost use Rattle.std.specs.Prelude.{◌≡◌, cond};
 
 pub const BAD_VERB: u8 = 1;

@@ -2,7 +2,7 @@
 use mathlib.Core.Path.{◌≡◌, refl, sym, ap, ◌∙◌}
 use mathlib.Core.Bool.{Bool, true, false, not, ◌||◌}
 use mathlib.Core.List.{List, [], ◌∷◌, ◌++◌}
-use Prim.Native.Nat.{ℕ, ◌-◌, ◌<◌}
+use Prim.Native.Nat.{ℕ, ◌<◌}
 use native.Mathlib.Omega.{arith}
 use lib.Dec.{eqb}
 use lib.ListN.{length, get_or}
@@ -15,7 +15,7 @@ use Rattle.message.specs.declared.Message.{Message}
 use Rattle.message.specs.Outbox.{message, plain}
 use Rattle.mailbox.specs.Entry as Entry
 use Rattle.mailbox.specs.Entry.{Entry, from_item, seen_by_item}
-use Rattle.item.specs.Record.{Lock, lock}
+use Rattle.item.specs.Record.{Lock}
 use Rattle.item.proofs.WellFormed.{LockWellFormed, free-lock}
 use Rattle.wellformed.proofs.Entries.{session-range, item-range, a-range, b-range, plain_entry, pair_entry}
 use Rattle.item.specs.Rules.{After, dropped, received, resends, without, probes, granted, queued, handed_over, vacated, on_request, on_release, on_probe, on_clean, on_rebroadcast, on_withdraw}

@@ -1,6 +1,5 @@
 -- `contains` meets its contract, by computation.
 use mathlib.Core.Path.{refl}
-use borrow.Author.Rules.{rules}
 use Rattle.bitset.specs.Bitset.{has}
 use Rattle.bitset.proofs.contains.Goals as goal
 

@@ -1,7 +1,6 @@
 -- `full` meets its contract: a shift by less than 64 is a power of two.
 use mathlib.Core.Path.{refl}
 use native.Mathlib.Omega.{arith}
-use borrow.Author.Rules.{rules}
 use lib.Pow.{pow_pos}
 use Rattle.bitset.proofs.Laws.{shift_one}
 use Rattle.bitset.proofs.full.Goals as goal

@@ -1,7 +1,6 @@
 -- `insert` meets its contract: `or` with a power of two sets a digit.
 use Prim.Native.Nat.{◌-◌}
 use native.Mathlib.Omega.{arith}
-use borrow.Author.Rules.{rules}
 use Rattle.bitset.specs.Bitset.{has, insert}
 use Rattle.bitset.proofs.Laws.{shift_one, or_bit}
 use Rattle.bitset.proofs.insert.Goals as goal

@@ -2,7 +2,6 @@
 use mathlib.Core.Path.{refl, sym, ◌∙◌}
 use Prim.Native.Nat.{◌-◌}
 use native.Mathlib.Omega.{arith}
-use borrow.Author.Rules.{rules}
 use Rattle.bitset.specs.Bitset.{remove}
 use Rattle.bitset.proofs.Laws.{shift_one, present_fits}
 use Rattle.bitset.proofs.remove.Goals as goal

@@ -1,7 +1,6 @@
 -- `byte` meets its contract: an element of the buffer is below 256.
 use mathlib.Core.Path.{refl}
 use native.Mathlib.Omega.{arith}
-use borrow.Author.Rules.{rules}
 use Rattle.buffer.proofs.byte.Goals as goal
 
 pub overflow_cast-result : goal.overflow_cast-result

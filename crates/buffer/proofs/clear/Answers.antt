@@ -1,10 +1,9 @@
 -- `clear` meets its contract. The loop's invariant: what was passed is zeros, and the rest is as it was.
 use mathlib.Core.Path.{◌≡◌, refl, ap, ◌∙◌}
-use Prim.Native.Nat.{ℕ, ◌-◌, ◌≤◌}
+use Prim.Native.Nat.{ℕ}
 use native.Mathlib.Omega.{arith}
-use borrow.Author.Rules.{rules}
 use lib.ListN.{length, replicate}
-use Rattle.lists.proofs.Laws.{filled, filled-all, filled-length, filled_more}
+use Rattle.lists.proofs.Laws.{filled-all, filled-length, filled_more}
 use Rattle.buffer.proofs.clear.Goals as goal
 
 pub loop-i-init : goal.loop-i-init

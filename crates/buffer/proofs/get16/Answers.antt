@@ -1,6 +1,5 @@
 -- `get16` meets its contract, by the law of a part of two bytes.
 use native.Mathlib.Omega.{arith}
-use borrow.Author.Rules.{rules}
 use Rattle.buffer.proofs.Laws.{slice-two}
 use Rattle.buffer.proofs.get16.Goals as goal
 

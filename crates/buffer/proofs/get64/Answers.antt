@@ -2,7 +2,6 @@
 use Prim.Native.Nat.{ℕ, ◌+◌, ◌≤◌, ◌<◌}
 use native.Mathlib.Omega.{arith}
 use lib.ListN.{length}
-use borrow.Author.Rules.{rules}
 use Rattle.buffer.specs.Bytes.{slice, from_bytes}
 use Rattle.buffer.proofs.Laws.{from_bytes-slice-bound, from_bytes-split}
 use Rattle.buffer.proofs.get64.Goals as goal

@@ -1,9 +1,7 @@
 -- `get_row` meets its contract. The invariant: the row is the part copied so far, then zeros.
-use mathlib.Core.Path.{◌≡◌, refl, ◌∙◌}
+use mathlib.Core.Path.{◌≡◌}
 use Prim.Native.Nat.{◌≤◌, ◌-◌}
-use native.Mathlib.Omega.{arith}
 use Rattle.buffer.specs.Bytes.{slice, padded}
-use Rattle.buffer.proofs.Laws.{slice-put, padded-full, length-slice}
 use Rattle.buffer.proofs.get_row.Given as goal
 
 abbrev pub invariant-loop-i : goal.invariant-loop-i

@@ -1,9 +1,6 @@
 -- `is_zero` meets its contract. The invariant: what is gathered so far is zero where all the bytes passed are.
 use mathlib.Core.Path.{◌≡◌, refl}
 use mathlib.Core.Bool.{and-true}
-use Prim.Native.Nat.{◌-◌, ◌≤◌}
-use lib.Dec.{eqb}
-use Rattle.buffer.specs.Bytes.{slice}
 use Rattle.lists.specs.Lists.{all_of}
 use Rattle.lists.proofs.Laws.{all_append}
 use Rattle.buffer.proofs.Laws.{slice-more}

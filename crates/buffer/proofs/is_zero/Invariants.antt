@@ -1,14 +1,9 @@
 -- `is_zero` meets its contract. The invariant: what is gathered so far is zero where all the bytes passed are.
-use mathlib.Core.Path.{◌≡◌, refl}
-use mathlib.Core.Bool.{and-true}
+use mathlib.Core.Path.{◌≡◌}
 use Prim.Native.Nat.{◌-◌, ◌≤◌}
 use lib.Dec.{eqb}
 use Rattle.buffer.specs.Bytes.{slice}
 use Rattle.lists.specs.Lists.{all_of}
-use Rattle.lists.proofs.Laws.{all_append}
-use Rattle.buffer.proofs.Laws.{slice-more}
-use Rattle.lists.proofs.Tests.{or_zero}
-use native.Mathlib.Omega.{arith}
 use Rattle.buffer.proofs.is_zero.Given as goal
 
 abbrev pub invariant-loop-i : goal.invariant-loop-i

@@ -1,13 +1,11 @@
 -- `move_down` meets its contract. The invariant of both loops: what is left, moved now, makes what it would have made where the loop began.
 use mathlib.Core.Path.{◌≡◌, refl, sym, ap, ◌∙◌}
-use mathlib.Core.List.{List}
-use Prim.Native.Nat.{ℕ, ◌+◌, ◌≤◌, ◌-◌}
+use Prim.Native.Nat.{◌+◌, ◌-◌}
 use native.Mathlib.Nat.{add-zero}
 use native.Mathlib.Omega.{arith}
-use lib.ListN.{length, length-set}
+use lib.ListN.{length-set}
 use Rattle.buffer.specs.Bytes.{splice}
 use Rattle.buffer.proofs.Laws.{moved_down, move-none, move-byte, move-more}
-use Rattle.buffer.proofs.move_down.Invariants.{Rest}
 use Rattle.buffer.proofs.move_down.Goals as goal
 
 pub loop-i-init : goal.loop-i-init

@@ -1,12 +1,9 @@
 -- `move_down` meets its contract. The invariant of both loops: what is left, moved now, makes what it would have made where the loop began.
-use mathlib.Core.Path.{◌≡◌, refl, sym, ap, ◌∙◌}
+use mathlib.Core.Path.{◌≡◌}
 use mathlib.Core.List.{List}
 use Prim.Native.Nat.{ℕ, ◌+◌, ◌≤◌, ◌-◌}
-use native.Mathlib.Nat.{add-zero}
-use native.Mathlib.Omega.{arith}
-use lib.ListN.{length, length-set}
-use Rattle.buffer.specs.Bytes.{splice}
-use Rattle.buffer.proofs.Laws.{moved_down, move-none, move-byte, move-more}
+use lib.ListN.{length}
+use Rattle.buffer.proofs.Laws.{moved_down}
 use Rattle.buffer.proofs.move_down.Given as goal
 
 abbrev pub Rest : List ℕ → ℕ → ℕ → ℕ → ℕ → List ℕ → ℕ → Type 0

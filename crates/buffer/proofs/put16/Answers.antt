@@ -2,7 +2,6 @@
 use native.Mathlib.Numerals.{add-one}
 use native.Mathlib.Omega.{arith}
 use lib.ListN.{length-set}
-use borrow.Author.Rules.{rules}
 use Rattle.buffer.specs.Bytes.{to_bytes}
 use Rattle.buffer.proofs.Laws.{sets-splice}
 use Rattle.buffer.proofs.put16.Goals as goal

@@ -1,6 +1,5 @@
 -- `put64` meets its contract: each call adds two bytes to the run that is written.
 use native.Mathlib.Omega.{arith}
-use borrow.Author.Rules.{rules}
 use Rattle.buffer.proofs.Laws.{splice-split}
 use Rattle.buffer.proofs.put64.Goals as goal
 

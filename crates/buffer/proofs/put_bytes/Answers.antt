@@ -1,10 +1,10 @@
 -- `put_bytes` meets its contract. The invariant: the first i bytes are pasted over the buffer.
 use mathlib.Core.Path.{◌≡◌, refl, sym, ap, ◌∙◌}
-use Prim.Native.Nat.{ℕ, ◌+◌, ◌-◌, ◌≤◌}
+use Prim.Native.Nat.{ℕ, ◌+◌}
 use native.Mathlib.Omega.{arith}
 use native.Mathlib.Numerals.{add-one}
 use lib.ListN.{length, length-set}
-use lib.Seq.{paste, paste-zero, paste-suc}
+use lib.Seq.{paste-zero, paste-suc}
 use Rattle.buffer.proofs.Laws.{paste-splice}
 use Rattle.buffer.proofs.put_bytes.Goals as goal
 

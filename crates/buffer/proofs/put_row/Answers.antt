@@ -1,11 +1,10 @@
 -- `put_row` meets its contract. The invariant: the first i bytes of the row are pasted over the buffer.
 use mathlib.Core.Path.{◌≡◌, refl}
-use Prim.Native.Nat.{◌≤◌, ◌-◌}
 use native.Mathlib.Omega.{arith}
 use lib.ListN.{length, length-set}
 use native.Mathlib.Numerals.{add-one}
 use Rattle.buffer.proofs.Laws.{paste-splice}
-use lib.Seq.{paste, paste-zero, paste-suc}
+use lib.Seq.{paste-zero, paste-suc}
 use Rattle.buffer.proofs.put_row.Goals as goal
 
 pub loop-i-init : goal.loop-i-init

@@ -1,11 +1,8 @@
 -- `put_row` meets its contract. The invariant: the first i bytes of the row are pasted over the buffer.
-use mathlib.Core.Path.{◌≡◌, refl}
+use mathlib.Core.Path.{◌≡◌}
 use Prim.Native.Nat.{◌≤◌, ◌-◌}
-use native.Mathlib.Omega.{arith}
-use lib.ListN.{length, length-set}
-use native.Mathlib.Numerals.{add-one}
-use Rattle.buffer.proofs.Laws.{paste-splice}
-use lib.Seq.{paste, paste-zero, paste-suc}
+use lib.ListN.{length}
+use lib.Seq.{paste}
 use Rattle.buffer.proofs.put_row.Given as goal
 
 abbrev pub invariant-loop-i : goal.invariant-loop-i

@@ -1,11 +1,11 @@
 -- `put_zeros` meets its contract. The invariant: the first i of n zeros are pasted over the buffer.
 use mathlib.Core.Path.{◌≡◌, refl}
 use mathlib.Core.List.{List}
-use Prim.Native.Nat.{ℕ, ◌≤◌, ◌-◌}
+use Prim.Native.Nat.{ℕ}
 use native.Mathlib.Numerals.{add-one}
 use native.Mathlib.Omega.{arith}
-use lib.ListN.{length, replicate, length-set, length-replicate, get_or-replicate}
-use lib.Seq.{paste, paste-zero, paste-suc}
+use lib.ListN.{replicate, length-set, length-replicate, get_or-replicate}
+use lib.Seq.{paste-zero, paste-suc}
 use Rattle.buffer.proofs.Laws.{paste-splice}
 use Rattle.buffer.proofs.put_zeros.Goals as goal
 

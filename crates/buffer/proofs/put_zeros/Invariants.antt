@@ -1,12 +1,8 @@
 -- `put_zeros` meets its contract. The invariant: the first i of n zeros are pasted over the buffer.
-use mathlib.Core.Path.{◌≡◌, refl}
-use mathlib.Core.List.{List}
-use Prim.Native.Nat.{ℕ, ◌≤◌, ◌-◌}
-use native.Mathlib.Numerals.{add-one}
-use native.Mathlib.Omega.{arith}
-use lib.ListN.{length, replicate, length-set, length-replicate, get_or-replicate}
-use lib.Seq.{paste, paste-zero, paste-suc}
-use Rattle.buffer.proofs.Laws.{paste-splice}
+use mathlib.Core.Path.{◌≡◌}
+use Prim.Native.Nat.{◌≤◌, ◌-◌}
+use lib.ListN.{length, replicate}
+use lib.Seq.{paste}
 use Rattle.buffer.proofs.put_zeros.Given as goal
 
 abbrev pub invariant-loop-i : goal.invariant-loop-i

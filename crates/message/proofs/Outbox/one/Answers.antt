@@ -3,7 +3,6 @@ use mathlib.Core.Path.{ap}
 use mathlib.Core.List.{[]}
 use native.Mathlib.Omega.{arith}
 use Rattle.message.specs.declared.Outbox.{Outbox}
-use borrow.Author.Rules.{rules}
 use Rattle.message.proofs.Outbox.one.Goals as goal
 
 pub push-requires : goal.push-requires

@@ -7,7 +7,6 @@ use lib.ListN.{length, length-append}
 use Rattle.message.specs.declared.Outbox.{Outbox}
 use Rattle.message.specs.Outbox.{room}
 use Rattle.message.proofs.Laws.{push_cells}
-use borrow.Author.Rules.{rules}
 use Rattle.message.proofs.Outbox.push.Goals as goal
 
 pub returns : goal.returns
