@@ -1,7 +1,9 @@
 // What the statement program prints, as one call from the bytes of its input to the bytes of its output.
+#![tactic(auto)]
+
 ghost use Rattle.std.specs.Prelude.{◌≡◌, ◌+◌, ◌*◌, ◌≤◌, length};
 ghost use Rattle.buffer.specs.Bytes.{splice};
-ghost use Rattle.io.specs.Counts.{IsPrefixLen};
+ghost use Rattle.std.specs.Counts.{IsPrefixLen};
 ghost use Rattle.program.specs.Program.{output, at_start};
 ghost use Rattle.yearly.specs.Input as Input;
 ghost use Rattle.yearly.specs.Input.{value_at, record_at, max_days};
