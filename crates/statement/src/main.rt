@@ -1,8 +1,12 @@
 // The statement program: reads a list of days from standard input and prints the statement over them.
-fn main() {
+#![tactic(auto)]
+
+use std::io;
+
+fn main(rt: HostRuntime) -> io::Result<()> {
     let mut input = yearly::room();
-    let n = io::read_full(0, &mut input);
+    let n = program::read_full(&mut rt.stdin(), &mut input)?;
     let mut out = [0u8; yearly::LONGEST];
     let end = yearly::write(&input[..n], &mut out);
-    io::write_all(1, &out[..end]);
+    rt.write_all(&out[..end])
 }
