@@ -7,7 +7,7 @@ ghost use Rattle.mailbox.specs.Layout as Mail;
 ghost use Rattle.table.specs.Layout as Table;
 ghost use Rattle.lockmgr.specs.Calls.{config, start_result, start};
 ghost use Rattle.tally.specs.Steps.{step_of, tally_of};
-ghost use Rattle.io.specs.Counts.{IsPrefixLen};
+ghost use Rattle.std.specs.Counts.{IsPrefixLen};
 ghost use Rattle.program.specs.Program.{output, at_start};
 ghost use Rattle.transcript.specs.Input as Input;
 ghost use Rattle.transcript.specs.Transcript.{step_line, end_line, capacity, longest_line, longest, transcript};
