@@ -1,8 +1,12 @@
 // The replay program: reads a list of steps from standard input and prints what each answers.
-fn main() {
+#![tactic(auto)]
+
+use std::io;
+
+fn main(rt: HostRuntime) -> io::Result<()> {
     let mut input = transcript::room();
-    let n = io::read_full(0, &mut input);
+    let n = program::read_full(&mut rt.stdin(), &mut input)?;
     let mut out = [0u8; transcript::LONGEST];
     let end = transcript::write(&input[..n], &mut out);
-    io::write_all(1, &out[..end]);
+    rt.write_all(&out[..end])
 }
