@@ -1,6 +1,6 @@
 -- `judge` meets its contract: the first cause that holds.
 use mathlib.Core.Path.{◌≡◌, refl, sym, ap, ◌∙◌}
-use mathlib.Core.Bool.{true}
+use mathlib.Core.Bool.{true, false}
 use native.Mathlib.Omega.{arith}
 use Rattle.yearly.specs.declared.Record.{Record}
 use Rattle.yearly.specs.Input.{days_in, sized, consistent}
@@ -27,7 +27,8 @@ pub returns-then-inconsistent : goal.returns-then-inconsistent
 returns-then-inconsistent c =
     let whole : sized c.args.input.now ≡ true = sym c.sized.ensures ∙ c.if-not-sized.false in
     let r = c.consistent-inconsistent in
-    sym (not-consistent c.args.input.now whole (sym r.ensures ∙ c.if-inconsistent.true))
+    let found : r.result ≡ false = grind (arith, c.if-inconsistent.true) in
+    sym (not-consistent c.args.input.now whole (sym r.ensures ∙ found))
 
 pub returns-then-nobody : goal.returns-then-nobody
 returns-then-nobody c =

@@ -19,7 +19,7 @@ refused input {cause} few e z = (refusal_short cause (omega arith), rw e (sym (s
 
 pub returns-then-out-lt-LONGEST : goal.returns-then-out-lt-LONGEST
 returns-then-out-lt-LONGEST c =
-    let a = c.args in at-start_short longest (Printed.statement a.input.now) a.out.now c.if-out-lt-LONGEST.true
+    let a = c.args in at-start_short longest (Printed.statement a.input.now) a.out.now (omega (arith, c.if-out-lt-LONGEST.true))
 
 pub put_line-requires : goal.put_line-requires
 put_line-requires c =
