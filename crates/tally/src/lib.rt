@@ -1,4 +1,6 @@
 // The steps of a list with their tally: one record of three numbers, lent to the steps that update it.
+#![tactic(auto)]
+
 ghost use Rattle.std.specs.Prelude.{◌≡◌, true, not, ◌&&◌, eqb};
 ghost use Rattle.session.specs.Stage as Stage;
 ghost use Rattle.table.specs.Layout as Table;

@@ -1,0 +1,10 @@
+-- `declares` meets its contract, a test at a time.
+use mathlib.Core.Path.{refl}
+use borrow.Author.Tests.{eq-eqb, ne_eqb}
+use Rattle.tally.proofs.declares.Goals as goal
+
+pub returns-then-a-eq0 : goal.returns-then-a-eq0
+returns-then-a-eq0 c = rw (eq-eqb _ _ c.if-a-eq0.true) refl
+
+pub returns : goal.returns
+returns c = rw (ne_eqb _ _ c.if-a-eq0.false) refl
