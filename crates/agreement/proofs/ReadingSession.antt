@@ -17,7 +17,6 @@ use Rattle.lists.proofs.Tests.{and-agrees, between_intro, within, cond_same}
 use Rattle.bitset.specs.Bitset.{has, insert, remove}
 use Rattle.bitset.proofs.MemberLaws.{rising, those_in, members-rising, has-insert-same, has-insert-other, has-remove-same, has-remove-other, has-none, has_above}
 use Rattle.message.specs.Kind
-use Rattle.message.specs.declared.Message.{Message}
 use Rattle.message.specs.Outbox.{message, plain}
 use Rattle.session.specs.Record as SessionRecord
 use Rattle.session.specs.Rules as SessionRules

@@ -4,7 +4,7 @@ use Rattle.std.proofs.Math.Option.{some}
 use Rattle.lists.specs.Lists.{count_up_to, member}
 use Rattle.waits.specs.Waits.{cycles}
 use Rattle.deadlock.specs.Lists.{occurs}
-use Rattle.deadlock.specs.Machine.{cleaning, Entry, growing, Item, Message, releasing, rolled_back, route, Rules, Stage, State, victim, waiting, waits_for, withdrawing}
+use Rattle.deadlock.specs.Machine.{cleaning, Entry, growing, Item, Message, releasing, route, Rules, Stage, State, victim, waiting, waits_for, withdrawing}
 use Rattle.deadlock.specs.Counts.{clean_of}
 use Rattle.deadlock.specs.Links.{Linked, PairView, view_of}
 use Rattle.deadlock.specs.World.{FreeIsEmpty, Mail, Probes, Victims, World}

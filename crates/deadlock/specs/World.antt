@@ -2,7 +2,7 @@
 use Rattle.std.specs.Prelude.{◌≡◌, false, true, [], ◌∷◌, List, ◌≢◌, ◌⊎◌, ◌+◌, ◌≤◌, ℕ}
 use Rattle.std.proofs.Math.Option.{none, some}
 use Rattle.deadlock.specs.Lists.{occurs}
-use Rattle.deadlock.specs.Machine.{abort, clean, cleaning, down, growing, is_live, Item, Message, probe, releasing, request, rolled_back, Rules, Session, shrinking, Stage, up, victim, waiting, withdrawing}
+use Rattle.deadlock.specs.Machine.{abort, clean, cleaning, down, growing, is_live, Item, Message, probe, releasing, rolled_back, Rules, Session, shrinking, Stage, up, victim, waiting, withdrawing}
 use Rattle.message.specs.Kind
 use Rattle.deadlock.specs.Counts.{behind_request, cleans_of, count_kind, EachBehind, Every, OfProbe}
 use Rattle.deadlock.specs.Links.{Linked, view_of}

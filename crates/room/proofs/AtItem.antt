@@ -10,7 +10,7 @@ use lib.Dec.{eqb}
 use borrow.Author.Tests.{eq-eqb}
 use Rattle.lists.proofs.Tests.{by-test, eqb_self, same?}
 use Rattle.deadlock.specs.Lists.{bit, occurs, without}
-use Rattle.deadlock.specs.Machine.{abort, after_item, clean, down, Entry, hand_over, held_by, in_queue, Item, item_drops, item_receives, ItemStep, Laws, Message, on_rebroadcast, on_release, pass_clean, pass_probe, probe, probes_anew, rebroadcast, release, request, Rules, Sends, State, take_first, taken, up, victim, withdraw}
+use Rattle.deadlock.specs.Machine.{abort, after_item, clean, down, Entry, hand_over, held_by, in_queue, Item, item_drops, item_receives, ItemStep, Laws, Message, on_rebroadcast, on_release, pass_clean, pass_probe, probe, probes_anew, rebroadcast, release, request, Rules, Sends, State, take_first, taken, up, withdraw}
 use Rattle.message.specs.Kind
 use Rattle.deadlock.specs.Counts.{cleans_of, count_kind, every-cons, every-nil}
 use Rattle.deadlock.specs.Links.{may_release}

@@ -10,7 +10,7 @@ use lib.Dec.{eqb}
 use lib.ListN.{length}
 use Rattle.lists.proofs.Tests.{by-test, eqb_self}
 use Rattle.deadlock.specs.Lists.{bit, occurs, updated}
-use Rattle.deadlock.specs.Machine.{abort, after_item, after_session, Call, deliver_to_item, deliver_to_session, down, Entry, from_item, from_session, grant, growing, held_by, in_queue, is_live, is_news, is_on_route, Item, item_receives, ItemStep, item_takes, junior, Laws, Message, move, on_abort, on_grant, on_probe, pass_probe, probe, release_call, releasing, reopen, request, request_call, route, Rules, Session, session_drops, session_receives, SessionStep, Stage, State, store_probe, take_first, Taken, taken, to_awaited, victim, waiting}
+use Rattle.deadlock.specs.Machine.{abort, after_item, after_session, Call, deliver_to_item, deliver_to_session, down, Entry, from_item, from_session, grant, growing, held_by, in_queue, is_live, is_news, is_on_route, Item, item_receives, ItemStep, item_takes, junior, Laws, Message, move, on_abort, on_grant, on_probe, pass_probe, probe, release_call, releasing, reopen, request_call, route, Rules, Session, session_drops, session_receives, SessionStep, Stage, State, store_probe, take_first, Taken, taken, to_awaited, victim, waiting}
 use Rattle.message.specs.Kind
 use Rattle.deadlock.specs.Counts.{count_kind, Every, every-cons, every-nil, kind_of}
 use Rattle.deadlock.specs.Links.{awaits, waits}

@@ -1,1 +1,3 @@
+#![tactic(auto)]
+
 // The room in the mailbox. No code: the weights, the phases and the statement are in specs/, the proofs in proofs/.

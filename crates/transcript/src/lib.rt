@@ -1,4 +1,6 @@
 // What the replay program prints, as one call from the bytes of its input to the bytes of its output.
+#![tactic(auto)]
+
 ghost use Rattle.std.specs.Prelude.{◌≡◌, true, ◌+◌, ◌≤◌, ◌<◌, length};
 ghost use Rattle.buffer.specs.Bytes.{splice};
 ghost use Rattle.message.specs.Limits.{max_sessions};

@@ -9,7 +9,7 @@ use native.Mathlib.Omega.{arith}
 use Rattle.lists.specs.Lists.{member}
 use Rattle.lists.proofs.Tests.{by-test, same?}
 use Rattle.deadlock.specs.Lists.{bit, occurs, without}
-use Rattle.deadlock.specs.Machine.{down, grant_or_queue, hand_over, held_by, Item, item_receives, ItemStep, Laws, Message, on_release, on_request, probes_anew, release, request, Rules, Sends, up}
+use Rattle.deadlock.specs.Machine.{grant_or_queue, hand_over, held_by, Item, item_receives, ItemStep, Laws, Message, on_release, on_request, probes_anew, release, request, Rules, Sends, up}
 use Rattle.message.specs.Kind
 use Rattle.deadlock.specs.Counts.{cleans_of, cleans_sent, count_kind, every-cons, every-nil, sent_to}
 use Rattle.deadlock.specs.Links.{awaits, may_release}

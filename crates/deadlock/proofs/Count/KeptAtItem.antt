@@ -12,7 +12,7 @@ use Rattle.lists.proofs.Tests.{by-test, fails, same?}
 use Rattle.deadlock.specs.Lists.{bit, occurs, without}
 use Rattle.item.specs.declared.Event.{Event as ItemEvent}
 use Rattle.item.specs.declared.Event.TheVariants.{Declared, Joined, Nothing}
-use Rattle.deadlock.specs.Machine.{abort, after_item, clean, cleaning, declares, down, Entry, grant_or_queue, growing, hand_over, held_by, in_queue, Item, item_drops, item_event, item_receives, ItemStep, Laws, Message, on_cycle, on_release, on_request, probe, rebroadcast, release, releasing, request, rolled_back, Rules, Stage, State, take_first, taken, up, victim, waiting, withdraw, withdrawing, withdrawn}
+use Rattle.deadlock.specs.Machine.{abort, after_item, clean, cleaning, declares, down, Entry, grant_or_queue, growing, hand_over, held_by, in_queue, Item, item_drops, item_event, item_receives, ItemStep, Laws, Message, on_cycle, on_release, on_request, probe, rebroadcast, release, releasing, request, Rules, Stage, State, take_first, taken, up, victim, waiting, withdraw, withdrawing, withdrawn}
 use Rattle.message.specs.Kind
 use Rattle.deadlock.specs.Counts.{count_kind}
 use Rattle.deadlock.specs.Links.{withdraws}

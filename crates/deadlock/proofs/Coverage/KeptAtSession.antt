@@ -10,7 +10,7 @@ use lib.Dec.{eqb}
 use borrow.Author.Tests.{eqb-false, eqb-true, ne_eqb}
 use Rattle.lists.proofs.Tests.{by-test, eqb_self, same?}
 use Rattle.deadlock.specs.Lists.{bit, occurs, one_to, updated}
-use Rattle.deadlock.specs.Machine.{abort, clean, cleaning, cleared, down, grant, growing, held_by, is_live, is_news, junior, Laws, Message, on_abort, on_clean, on_grant, on_probe, on_resend, on_withdrawn, probe, probes_from, rebroadcast, rebroadcasts, releasing, request, resend, Rules, Sends, session_drops, session_receives, SessionStep, Stage, stored_probes, store_probe, to_awaited, up, victim, waiting, withdrawing, withdrawn}
+use Rattle.deadlock.specs.Machine.{abort, clean, cleaning, cleared, down, grant, growing, held_by, is_live, is_news, junior, Laws, Message, on_abort, on_clean, on_grant, on_probe, on_resend, on_withdrawn, probe, probes_from, rebroadcasts, releasing, resend, Rules, Sends, session_drops, session_receives, SessionStep, Stage, stored_probes, store_probe, to_awaited, up, victim, waiting, withdrawing, withdrawn}
 use Rattle.message.specs.Kind
 use Rattle.deadlock.specs.Counts.{behind_request, cleans_of, cleans_sent, count_kind, EachBehind, fresh_probes, is_stored, kind_of, probe_of, sent_to, unless_cleaned}
 use Rattle.deadlock.specs.Links.{awaits}

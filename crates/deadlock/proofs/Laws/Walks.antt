@@ -9,7 +9,6 @@ use borrow.Author.Tests.{ne_eqb}
 use Rattle.lists.proofs.Tests.{eqb_self, same?}
 use Rattle.deadlock.specs.Lists.{bit, occurs}
 use Rattle.deadlock.specs.Walks.{FirstApart, LastApart, onward, onward_path, Path, rest, rest_path, Walk}
-use Rattle.deadlock.specs.Invariant.{down_route}
 
 module _ {E F : ℕ → ℕ → Type 0} where
   pub walk-map : ((a b : ℕ) → E a b → F a b) → {a t : ℕ} → Walk E a t → Walk F a t

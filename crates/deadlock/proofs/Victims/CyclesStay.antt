@@ -5,7 +5,7 @@ use mathlib.Core.Logic.{◌⊎◌, inl, inr}
 use Prim.Native.Nat.{◌+◌, ◌≤◌, ℕ}
 use native.Mathlib.Omega.{arith}
 use Rattle.lists.proofs.Tests.{same?}
-use Rattle.deadlock.specs.Machine.{abort, clean, down, growing, Item, Message, probe, releasing, request, Rules, Sends, Stage, up, victim, waiting}
+use Rattle.deadlock.specs.Machine.{abort, clean, down, growing, Item, Message, probe, releasing, Rules, Sends, Stage, up, victim, waiting}
 use Rattle.message.specs.Kind
 use Rattle.deadlock.specs.Counts.{clean_of, cleans_of, cleans_sent, Every, sent_to}
 use Rattle.deadlock.specs.Walks.{FirstApart, onward, rest, Walk}

@@ -7,25 +7,23 @@ use Rattle.text.proofs.Laws.{splice_then}
 use Rattle.transcript.specs.Transcript.{end_line}
 use Rattle.tally.specs.Steps.{tally_of}
 use Rattle.transcript.proofs.Lines.{end_short}
-use borrow.Author.Rules.{rules}
-use Rattle.transcript.proofs.put_end.Statement.{statement}
-use Rattle.transcript.proofs.put_end.Tie as tie
+use Rattle.transcript.proofs.put_end.Goals as goal
 
-end-line-requires : tie.Need-end-line-requires
-end-line-requires c κs =
-    let s = c.before.before.before.before.before.before.before.before in
+pub end_line-requires : goal.end_line-requires
+end_line-requires c =
+    let s = c in
     let a = s.args in
-    let p = c.before.before.before.before.put-bytes in
+    let p = c.put_bytes-next in
     let short = end_short a.left (tally_of a.t) s.requires.0 s.requires.1 s.requires.2 s.requires.3 in
-    omega (arith, p.ensures.1, p.auto.0)
+    omega (arith, p.ensures.1, p.auto.t)
 
-returns : tie.Need-returns
+pub returns : goal.returns
 unfolding end_line ascii
 returns c =
-    let s = c.before.before.before.before.before.before.before.before.before.before.before in
+    let s = c in
     let a = s.args in
-    let p = c.before.before.before.before.before.before.before.put-bytes in
-    let e = c.before.before.end_line in
+    let p = c.put_bytes-next in
+    let e = c.end_line in
     let y = tally_of a.t in
     let l = a.left ∷ y.closed ∷ y.declared ∷ y.rolled_back ∷ [] in
     let len = length-append (ascii "end") (rest l) in
@@ -34,7 +32,3 @@ returns c =
       omega (arith, p.ensures.1, e.ensures.1),
       omega (arith, p.ensures.1, e.ensures.1),
     )
-
-pub put-end-spec : {M : Type 1} → statement M
-put-end-spec =
-    tie.close (tie.spec (λ c. search rules) (λ c κs. search rules) (λ c. search rules) end-line-requires (λ c. search rules) returns)
