@@ -1,4 +1,4 @@
-// The lock manager (01: the desk): start, step, report, reopen, cycle text and drain on lent bytes, exported to C.
+// The lock manager (01: the desk): start, step, report, reopen, cycle text and drain on lent bytes. Crate lockmgr_c exports them to C.
 #![tactic(auto)]
 
 ghost use Rattle.std.specs.Prelude.{◌≡◌};
@@ -67,8 +67,7 @@ fn start_refusal(
 }
 
 // Opens a lock manager in two lent buffers; byte k of the list, from 1, is the rank of session k.
-#[unsafe(no_mangle)]
-pub extern "C" fn lockmgr_start(
+pub fn lockmgr_start(
     sessions: u64,
     items: u64,
     capacity: u64,
@@ -136,14 +135,7 @@ fn judge(verb: u64, session: u64, item: u64, table: &[u8], mail: &[u8]) -> u8
 }
 
 // One step: a request, a release or a delivery.
-#[unsafe(no_mangle)]
-pub extern "C" fn lockmgr_step(
-    verb: u64,
-    session: u64,
-    item: u64,
-    table: &mut [u8],
-    mail: &mut [u8],
-) -> Answer
+pub fn lockmgr_step(verb: u64, session: u64, item: u64, table: &mut [u8], mail: &mut [u8]) -> Answer
     ensures { stepped result table.new mail.new ≡ step verb session item table.old mail.old }
 {
     let cause = judge(verb, session, item, table, mail);
@@ -173,8 +165,7 @@ fn report_refusal(session: u64, table: &[u8]) -> u8
 }
 
 // The length of the cycle on which a session lies, or 0.
-#[unsafe(no_mangle)]
-pub extern "C" fn lockmgr_report(session: u64, table: &[u8]) -> Cycle
+pub fn lockmgr_report(session: u64, table: &[u8]) -> Cycle
     ensures { result ≡ report session table.now }
 {
     let cause = report_refusal(session, table);
@@ -191,8 +182,7 @@ pub extern "C" fn lockmgr_report(session: u64, table: &[u8]) -> Cycle
 }
 
 // Reopens a session whose work is over and that nothing names: it begins anew. The mail is read, never written.
-#[unsafe(no_mangle)]
-pub extern "C" fn lockmgr_reopen(session: u64, table: &mut [u8], mail: &[u8]) -> u8
+pub fn lockmgr_reopen(session: u64, table: &mut [u8], mail: &[u8]) -> u8
     ensures { reopened result table.new ≡ reopen session table.old mail.now }
 {
     let cause = buffers_refusal(table, mail);
@@ -209,8 +199,7 @@ pub extern "C" fn lockmgr_reopen(session: u64, table: &mut [u8], mail: &[u8]) ->
 }
 
 // The text of the cycle on which a session lies, a line for each member, at the start of a lent buffer.
-#[unsafe(no_mangle)]
-pub extern "C" fn lockmgr_cycle_text(session: u64, table: &[u8], text: &mut [u8]) -> Text
+pub fn lockmgr_cycle_text(session: u64, table: &[u8], text: &mut [u8]) -> Text
     ensures { described result text.new ≡ cycle_text session table.now text.old }
 {
     let cause = report_refusal(session, table);
@@ -321,8 +310,7 @@ fn deliver_all(limit: u64, table: &mut [u8], mail: &mut [u8]) -> Drained
 }
 
 // Delivers the oldest entry again and again: until no mail is left, the next delivery would be refused with 9, or so many are made.
-#[unsafe(no_mangle)]
-pub extern "C" fn lockmgr_drain(limit: u64, table: &mut [u8], mail: &mut [u8]) -> Drained
+pub fn lockmgr_drain(limit: u64, table: &mut [u8], mail: &mut [u8]) -> Drained
     ensures { drain_result result table.new mail.new ≡ drain limit table.old mail.old }
 {
     let cause = buffers_refusal(table, mail);
