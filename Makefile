@@ -24,7 +24,7 @@
 #   make picture       draws docs/cycle.svg anew (needs Graphviz)
 #   make format        lays out all sources anew; make format-check only looks
 #   make links         looks whether the links and paths in the documents lead somewhere
-#   make clean         removes what was built
+#   make clean         removes what was built, and what the prover keeps in the crates
 #
 # LIB=path takes another library than the one made from the proved crates.
 
@@ -50,7 +50,7 @@ CFLAGS ?= -O2 -g
 WARNINGS := -std=c99 -D_DEFAULT_SOURCE -Wall -Wextra -Werror
 SANITIZE := -fsanitize=address,undefined -fno-sanitize-recover=all
 
-# Cargo builds outside target/, which the prover removes.
+# Cargo builds below build/ too.
 export CARGO_TARGET_DIR := $(CURDIR)/build/cargo
 export LOCKMGR_LIB := $(abspath $(LIB))
 
@@ -58,7 +58,9 @@ CARGO_MODEL := --manifest-path model/Cargo.toml --release --offline --quiet
 CARGO_MISREAD := --manifest-path misread/Cargo.toml --release --offline --quiet
 CARGO_COMPARE := --manifest-path compare/Cargo.toml --release --offline --quiet
 
-PROVED := crates.txt $(shell find crates -type f -not -path '*/must-fail/*')
+PROVED := crates.txt $(shell find crates -type f -not -path '*/must-fail/*' -not -path 'crates/*/out/*')
+
+PROGRAMS := replay statement
 
 VERSION := $(shell sed -n 's/^.define LOCKMGR_VERSION "\(.*\)"$$/\1/p' include/lockmgr.h)
 SHARED := build/lib/liblockmgr.so.$(VERSION)
@@ -77,38 +79,41 @@ help:
 
 # The crates are proved first, and the tests run on the library of what was proved. The prover's verdict
 # is repeated as the last line.
-test: format-check links model proofs compare replays statements ctest workers install-test replay-test \
+test: proofs format-check links model compare replays statements ctest workers install-test replay-test \
 	statement-test demo
 	@tail -n 1 build/proofs.log
 
+# The prover passes a must-fail edit that fits no text any more, though it shows nothing: here it fails. The
+# programs are those that the prover has compiled and run.
 proofs:
-	@mkdir -p build && rm -f build/proofs.log
+	@mkdir -p build/bin
 	@rt ci 2>&1 | tee build/proofs.log
+	@if grep '^rt: ok;.*, [1-9][0-9]* bad' build/proofs.log; then grep 'BAD EDIT' build/proofs.log; exit 1; fi
+	@set -e; for program in $(PROGRAMS); do cp crates/$$program/out/$$program build/bin/; done
 
 lib: build/lib/liblockmgr.a $(SHARED) build/include/lockmgr.h
 
-# prove NAME, COMMAND: what the prover says goes to a log.
+# prove NAME, CRATE, COMMAND: what the prover says goes to a log.
 define prove
 	@command -v rt > /dev/null || { \
 		echo "No command rt: the Rattle toolchain, which proves and compiles $(1), is missing."; \
 		$(if $(filter liblockmgr,$(1)),echo "With a library that is built already: use LIB=path/to/liblockmgr.a.";) exit 1; }
 	@mkdir -p build
-	@echo "Proving and compiling $(1). This takes up to 5 minutes on two cores; see build/$(1).log."
-	@$(2) > build/$(1).log 2>&1 || { tail -n 20 build/$(1).log; exit 1; }
+	@echo "Proving and compiling $(1). The first time this takes many minutes; see build/$(1).log."
+	@(cd crates/$(2) && $(3)) > build/$(1).log 2>&1 || { tail -n 20 build/$(1).log; exit 1; }
 endef
 
-# A copy outlives target/.
+# A copy outlives the prover's folder out/.
 build/lib/liblockmgr.a: $(PROVED)
-	$(call prove,liblockmgr,rt staticlib lockmgr)
+	$(call prove,liblockmgr,lockmgr_c,rt lib)
 	@mkdir -p $(@D)
-	@cp target/staticlib/liblockmgr.a $@
+	@cp crates/lockmgr_c/out/liblockmgr_c.a $@
 
-PROGRAMS := replay statement
-
+# A program is compiled to be run, so it is run, on nothing.
 $(PROGRAMS:%=build/bin/%): build/bin/%: $(PROVED)
-	$(call prove,$*,rt check $*)
+	$(call prove,$*,$*,rt run < /dev/null)
 	@mkdir -p $(@D)
-	@cp target/bin/$* $@
+	@cp crates/$*/out/$* $@
 
 # Made anew each time, since LIB may have been another.
 $(SHARED): $(LIB) FORCE
@@ -228,13 +233,12 @@ RUST := model misread compare
 C_FILES := $(wildcard include/*.h examples/*.c tests/*.[ch] tools/*.c)
 
 format:
-	rt fmt
+	for crate in crates/*/; do (cd $$crate && rt fmt) || exit 1; done
 	for package in $(RUST); do cargo fmt --manifest-path $$package/Cargo.toml; done
 	clang-format -i $(C_FILES)
 
-# Without clang-format the C files are not looked at.
+# The crates are looked at by the prover. Without clang-format the C files are not looked at.
 format-check:
-	@rt fmt --check
 	@set -e; for package in $(RUST); do cargo fmt --check --manifest-path $$package/Cargo.toml; done
 	@if command -v clang-format > /dev/null; then \
 		clang-format --dry-run -Werror $(C_FILES); \
@@ -244,4 +248,4 @@ links:
 	@scripts/check-links
 
 clean:
-	rm -rf build target
+	rm -rf build crates/*/out
