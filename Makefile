@@ -103,9 +103,9 @@ define prove
 	@(cd crates/$(2) && $(3)) > build/$(1).log 2>&1 || { tail -n 20 build/$(1).log; exit 1; }
 endef
 
-# A copy outlives the prover's folder out/.
+# For every x86-64 processor: without --cpu the prover takes a newer one. A copy outlives its folder out/.
 build/lib/liblockmgr.a: $(PROVED)
-	$(call prove,liblockmgr,lockmgr_c,rt lib)
+	$(call prove,liblockmgr,lockmgr_c,rt lib --cpu=x86-64)
 	@mkdir -p $(@D)
 	@cp crates/lockmgr_c/out/liblockmgr_c.a $@
 
