@@ -99,7 +99,7 @@ define prove
 		echo "No command rt: the Rattle toolchain, which proves and compiles $(1), is missing."; \
 		$(if $(filter liblockmgr,$(1)),echo "With a library that is built already: use LIB=path/to/liblockmgr.a.";) exit 1; }
 	@mkdir -p build
-	@echo "Proving and compiling $(1). The first time this takes many minutes; see build/$(1).log."
+	@echo "Proving and compiling $(1). The first time this takes some minutes; see build/$(1).log."
 	@(cd crates/$(2) && $(3)) > build/$(1).log 2>&1 || { tail -n 20 build/$(1).log; exit 1; }
 endef
 
