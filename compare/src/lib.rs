@@ -9,5 +9,6 @@ pub mod fast;
 pub mod forge;
 pub mod library;
 pub mod numbers;
+pub mod one_maker;
 pub mod program;
 pub mod stream;

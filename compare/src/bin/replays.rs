@@ -94,7 +94,8 @@ impl Recorder {
 
     /// The verb, session and item that deliver a message of the mail.
     fn delivery(&self, random: &mut Random) -> Option<[u8; 3]> {
-        let mailbox = Mailbox::decode(&self.mail, self.sessions, self.items)?;
+        let Table { makers, .. } = Table::decode(&self.table)?;
+        let mailbox = Mailbox::decode(&self.mail, &makers)?;
         let last = mailbox.messages.len().checked_sub(1)?;
         let route = mailbox.messages[random.between(0, last as u64) as usize].route;
         let verb = match route.direction {

@@ -1,3 +1,4 @@
 pub mod EntryLaws
 pub mod Cells
 pub mod Cuts
+pub mod WithinLaws

@@ -1,1 +1,2 @@
 mod FormLaws
+pub mod WithinLaws

@@ -3,3 +3,5 @@ pub mod Laws
 mod Triples
 mod Moves
 pub mod Tests
+pub mod Shares
+pub mod Masked

@@ -1,2 +1,3 @@
 pub use Rattle.entry.specs.Entry
 pub mod Layout
+pub mod Shares

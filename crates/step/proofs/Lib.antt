@@ -1,3 +1,6 @@
 pub mod Acting
-pub mod Form
+pub mod Parties
 pub mod Frame
+pub mod Sharing
+pub mod Room
+pub mod Form

@@ -1,2 +1,4 @@
 pub mod Laws
+pub mod Owned
 pub mod StartLaws
+pub mod WithinLaws

@@ -1,0 +1,2 @@
+pub mod MakerLaws
+pub mod Owners

@@ -1,0 +1,13 @@
+pub mod Views
+pub mod Cycles
+pub mod Texts
+pub mod Delivered
+pub mod Step
+pub mod Drain
+pub mod Reopen
+pub mod Runs
+pub mod Theorem
+pub mod Alone
+pub mod OneMaker
+pub mod Drains
+pub mod Progress

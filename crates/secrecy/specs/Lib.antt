@@ -1,0 +1,4 @@
+pub mod Secrecy
+pub mod OneMaker
+pub mod Drains
+pub mod Progress
