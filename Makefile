@@ -1,6 +1,5 @@
 #   make test          every proof and every must-fail edit, and every test
-#   make demo          two sessions into a deadlock and out again, and two makers on one lock
-#                      manager, in C
+#   make demo          two sessions into a deadlock and out again, in C
 #   make replay        tells what happens in a list of steps: FILE=examples/two_sessions.steps;
 #                      STEP=10 DOT=waits.dot also writes the waits after step 10 for Graphviz
 #   make statement     prints the rollback statement over a list of days: FILE=examples/week.days
@@ -18,10 +17,10 @@
 #   make statement-test
 #                      lists of days, good and bad
 #   make fuzz          the comparison with new seeds: FUZZ_SECONDS=60, SEED=n to repeat one
-#   make bench         times of a call beside model, floor and hand-written Rust, and with two
-#                      makers beside one; BEFORE=path/to/liblockmgr.a beside an earlier library too
-#   make earlier       the library with one maker and an earlier one of before F-9 on the same
-#                      calls, byte for byte: BEFORE=path/to/liblockmgr.a
+#   make bench         times of a call beside model, floor and hand-written Rust;
+#                      BEFORE=path/to/liblockmgr.a beside an earlier library too
+#   make earlier       the library and an earlier one, which need not reopen sessions, on the
+#                      same calls, byte for byte: BEFORE=path/to/liblockmgr.a
 #   make picture       draws docs/cycle.svg anew (needs Graphviz)
 #   make format        lays out all sources anew; make format-check only looks
 #   make links         looks whether the links and paths in the documents lead somewhere
@@ -127,9 +126,7 @@ build/include/lockmgr.h: include/lockmgr.h
 
 C_NEEDS := build/include/lockmgr.h $(LIB) FORCE
 
-DEMOS := two_sessions two_makers
-
-$(DEMOS:%=build/bin/%): build/bin/%: examples/%.c $(C_NEEDS)
+build/bin/two_sessions: examples/two_sessions.c $(C_NEEDS)
 	@mkdir -p $(@D)
 	@$(CC) $(CFLAGS) $(WARNINGS) -Ibuild/include $< $(LIB) -o $@
 
@@ -149,10 +146,8 @@ $(C_TESTS:%=build/bin/%): build/bin/%: tests/%.c tests/check.h $(C_NEEDS)
 	@mkdir -p $(@D)
 	@$(CC) $(CFLAGS) $(WARNINGS) $(SANITIZE) -Ibuild/include $< $(LIB) -o $@
 
-demo: $(DEMOS:%=build/bin/%)
+demo: build/bin/two_sessions
 	@build/bin/two_sessions
-	@echo
-	@build/bin/two_makers
 
 model:
 	cargo test $(CARGO_MODEL)

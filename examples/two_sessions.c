@@ -208,7 +208,7 @@ static void drain(unsigned deliveries, const char *meaning)
     lockmgr_drained drained;
     unsigned session;
     memcpy(before, table, sizeof table);
-    drained = lockmgr_drain(1, UINT64_MAX, table, sizeof table, mail, sizeof mail);
+    drained = lockmgr_drain(UINT64_MAX, table, sizeof table, mail, sizeof mail);
     print_number();
     printf("drain\n");
     print_indented(meaning);

@@ -77,7 +77,7 @@ static void perform(unsigned verb, unsigned session, unsigned item)
     answer = lockmgr_step(verb, session, item, table, sizeof table, mail, sizeof mail);
     if (answer.refusal != LOCKMGR_ACCEPTED)
         fail(lockmgr_verb_text(verb), lockmgr_refusal_text(answer.refusal));
-    drained = lockmgr_drain(1, UINT64_MAX, table, sizeof table, mail, sizeof mail);
+    drained = lockmgr_drain(UINT64_MAX, table, sizeof table, mail, sizeof mail);
     if (drained.refusal != LOCKMGR_ACCEPTED)
         fail("drain", lockmgr_refusal_text(drained.refusal));
     if (drained.ending != LOCKMGR_DRAIN_EMPTY)

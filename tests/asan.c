@@ -19,9 +19,9 @@
 #include <sys/mman.h>
 
 enum {
-    MAX_NUMBERS = 5,
+    MAX_NUMBERS = 3,
     MAX_ANSWERS = 5,
-    MAX_BUFFERS = 5,
+    MAX_BUFFERS = 3,
     /* Both are multiples of every usual size of a page. */
     LONGEST = 1 << 17,
     GUARD = 1 << 20
@@ -42,15 +42,10 @@ typedef struct {
 } shape;
 
 static const shape shapes[] = {
-    [START] =
-        {"start",
-         5,
-         1,
-         5,
-         {{"ranks", 0}, {"session makers", 0}, {"item makers", 0}, {"table", 1}, {"mail", 1}}},
+    [START] = {"start", 3, 1, 3, {{"ranks", 0}, {"table", 1}, {"mail", 1}}},
     [STEP] = {"step", 3, 5, 2, {{"table", 1}, {"mail", 1}}},
     [REPORT] = {"report", 1, 2, 1, {{"table", 0}}},
-    [DRAIN] = {"drain", 2, 3, 2, {{"table", 1}, {"mail", 1}}},
+    [DRAIN] = {"drain", 1, 3, 2, {{"table", 1}, {"mail", 1}}},
     [CYCLE_TEXT] = {"cycle text", 1, 2, 2, {{"table", 0}, {"text", 1}}},
     [REOPEN] = {"reopen", 1, 1, 2, {{"table", 1}, {"mail", 0}}},
 };
@@ -59,12 +54,11 @@ static const shape shapes[] = {
 
 /* The refusals that a call gives. */
 static const unsigned refusals[] = {
-    [START] = BIT(BAD_SIZE) | BIT(BAD_RANKS) | BIT(BAD_MAKERS),
+    [START] = BIT(BAD_SIZE) | BIT(BAD_RANKS),
     [STEP] = BIT(BAD_VERB) | BIT(BAD_SIZE) | BIT(BAD_TABLE) | BIT(BAD_MAIL) | BIT(BAD_NUMBER) |
-             BIT(OTHER_MAKER) | BIT(WRONG_STAGE) | BIT(WRONG_ITEM) | BIT(NO_MESSAGE) |
-             BIT(MAIL_FULL),
+             BIT(WRONG_STAGE) | BIT(WRONG_ITEM) | BIT(NO_MESSAGE) | BIT(MAIL_FULL),
     [REPORT] = BIT(BAD_SIZE) | BIT(BAD_TABLE) | BIT(BAD_NUMBER),
-    [DRAIN] = BIT(BAD_SIZE) | BIT(BAD_TABLE) | BIT(BAD_MAIL) | BIT(BAD_NUMBER),
+    [DRAIN] = BIT(BAD_SIZE) | BIT(BAD_TABLE) | BIT(BAD_MAIL),
     [CYCLE_TEXT] =
         BIT(BAD_SIZE) | BIT(BAD_TABLE) | BIT(BAD_NUMBER) | BIT(NO_CYCLE) | BIT(SHORT_BUFFER),
     [REOPEN] = BIT(BAD_SIZE) | BIT(BAD_TABLE) | BIT(BAD_MAIL) | BIT(BAD_NUMBER) | BIT(IN_USE),
@@ -212,8 +206,7 @@ static void make_call(uint8_t *const *b, uint64_t *found)
     lockmgr_text text;
     switch (which) {
     case START:
-        found[0] = lockmgr_start(n[0], n[1], n[2], b[0], l[0], b[1], l[1], b[2], l[2], n[3], n[4],
-                                 b[3], l[3], b[4], l[4]);
+        found[0] = lockmgr_start(n[0], n[1], n[2], b[0], l[0], b[1], l[1], b[2], l[2]);
         break;
     case STEP:
         step = lockmgr_step(n[0], n[1], n[2], b[0], l[0], b[1], l[1]);
@@ -229,7 +222,7 @@ static void make_call(uint8_t *const *b, uint64_t *found)
         found[1] = cycle.length;
         break;
     case DRAIN:
-        drained = lockmgr_drain(n[0], n[1], b[0], l[0], b[1], l[1]);
+        drained = lockmgr_drain(n[0], b[0], l[0], b[1], l[1]);
         found[0] = drained.refusal;
         found[1] = drained.made;
         found[2] = drained.ending;
@@ -303,28 +296,21 @@ static int has_empty_buffer(void)
 /* Null in place of each buffer of each call, and of all. */
 static void test_null(void)
 {
-    static uint8_t ranks[] = {1, 2}, makers[] = {1, 2};
+    static const uint8_t ranks[] = {1, 2};
     static uint8_t table[LOCKMGR_TABLE_SIZE(2, 2)], mail[LOCKMGR_MAIL_SIZE(2)];
-    const size_t t = sizeof table, m = sizeof mail;
-    /* Each of the five in turn, then all, then none. */
-    for (unsigned null = 0; null <= MAX_BUFFERS + 1; null++) {
-        uint8_t *b[MAX_BUFFERS] = {ranks, makers, makers, table, mail};
-        size_t l[MAX_BUFFERS] = {sizeof ranks, sizeof makers, sizeof makers, t, m};
-        for (unsigned k = 0; k < MAX_BUFFERS; k++)
-            if (k == null || null == MAX_BUFFERS) {
-                b[k] = NULL;
-                l[k] = 0;
-            }
-        CHECK(lockmgr_start(2, 2, 2, b[0], l[0], b[1], l[1], b[2], l[2], 1, 1, b[3], l[3], b[4],
-                            l[4]) == (null > MAX_BUFFERS ? LOCKMGR_ACCEPTED : LOCKMGR_BAD_SIZE));
-    }
+    const size_t r = sizeof ranks, t = sizeof table, m = sizeof mail;
+    CHECK(lockmgr_start(2, 2, 2, NULL, 0, table, t, mail, m) == LOCKMGR_BAD_SIZE);
+    CHECK(lockmgr_start(2, 2, 2, ranks, r, NULL, 0, mail, m) == LOCKMGR_BAD_SIZE);
+    CHECK(lockmgr_start(2, 2, 2, ranks, r, table, t, NULL, 0) == LOCKMGR_BAD_SIZE);
+    CHECK(lockmgr_start(2, 2, 2, NULL, 0, NULL, 0, NULL, 0) == LOCKMGR_BAD_SIZE);
+    CHECK(lockmgr_start(2, 2, 2, ranks, r, table, t, mail, m) == LOCKMGR_ACCEPTED);
     CHECK(lockmgr_step(LOCKMGR_REQUEST, 1, 1, NULL, 0, mail, m).refusal == LOCKMGR_BAD_SIZE);
     CHECK(lockmgr_step(LOCKMGR_REQUEST, 1, 1, table, t, NULL, 0).refusal == LOCKMGR_BAD_SIZE);
     CHECK(lockmgr_step(LOCKMGR_REQUEST, 1, 1, NULL, 0, NULL, 0).refusal == LOCKMGR_BAD_SIZE);
     CHECK(lockmgr_step(0, 1, 1, NULL, 0, NULL, 0).refusal == LOCKMGR_BAD_VERB);
-    CHECK(lockmgr_drain(1, UINT64_MAX, NULL, 0, mail, m).refusal == LOCKMGR_BAD_SIZE);
-    CHECK(lockmgr_drain(1, UINT64_MAX, table, t, NULL, 0).refusal == LOCKMGR_BAD_SIZE);
-    CHECK(lockmgr_drain(0, 0, NULL, 0, NULL, 0).refusal == LOCKMGR_BAD_SIZE);
+    CHECK(lockmgr_drain(UINT64_MAX, NULL, 0, mail, m).refusal == LOCKMGR_BAD_SIZE);
+    CHECK(lockmgr_drain(UINT64_MAX, table, t, NULL, 0).refusal == LOCKMGR_BAD_SIZE);
+    CHECK(lockmgr_drain(0, NULL, 0, NULL, 0).refusal == LOCKMGR_BAD_SIZE);
     CHECK(lockmgr_reopen(1, NULL, 0, mail, m) == LOCKMGR_BAD_SIZE);
     CHECK(lockmgr_reopen(1, table, t, NULL, 0) == LOCKMGR_BAD_SIZE);
     CHECK(lockmgr_reopen(1, NULL, 0, NULL, 0) == LOCKMGR_BAD_SIZE);
@@ -337,7 +323,7 @@ static void test_null(void)
 static void check_met(void)
 {
     for (size_t k = 0; k < LENGTH(shapes); k++)
-        for (unsigned refusal = LOCKMGR_ACCEPTED; refusal <= LOCKMGR_OTHER_MAKER; refusal++) {
+        for (unsigned refusal = LOCKMGR_ACCEPTED; refusal <= LOCKMGR_IN_USE; refusal++) {
             char text[100];
             snprintf(text, sizeof text, "no %s has answered %u", shapes[k].name, refusal);
             if ((refusals[k] | BIT(ACCEPTED)) >> refusal & 1)

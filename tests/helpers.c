@@ -1,8 +1,8 @@
 /*
- * The helpers of the header: versions, texts, options, ranks, makers and shares,
- * the bound of a drain, deliveries with their events, sessions that are
- * finished, a larger mail; and what each answers to null, to wrong lengths and to
- * numbers out of bounds.
+ * The helpers of the header: versions, texts, options, ranks, the bound of a
+ * drain, deliveries with their events, sessions that are finished, a larger
+ * mail; and what each answers to null, to wrong lengths and to numbers out of
+ * bounds.
  */
 #include "lockmgr.h"
 
@@ -10,7 +10,7 @@
 
 #include <string.h>
 
-enum { S = 2, M = 3, C = 6 * S + M + 2 };
+enum { S = 2, M = 3, C = 6 * S + M + 1 };
 
 static uint8_t table[LOCKMGR_TABLE_SIZE(S, M)], mail[LOCKMGR_MAIL_SIZE(C)];
 static uint8_t table_before[sizeof table], mail_before[sizeof mail];
@@ -49,25 +49,19 @@ static void test_version(void)
              LOCKMGR_VERSION_PATCH);
     CHECK(strcmp(text, LOCKMGR_VERSION) == 0);
     CHECK(lockmgr_version() == LOCKMGR_VERSION_NUMBER);
-    CHECK(LOCKMGR_LAYOUT_VERSION == 3);
+    CHECK(LOCKMGR_LAYOUT_VERSION == 2);
     /* This layout: its figures. A change of them is a new layout version. */
-    enum { header = 2, session = 75, item = 67, rank = 1, share = 2 };
-    CHECK(LOCKMGR_SESSION_MAKER == session - 1 && LOCKMGR_ITEM_MAKER == item - 1);
+    enum { header = 2, session = 74, item = 66, rank = 1 };
     CHECK(LOCKMGR_SESSION_PLACE(3) == header + session * 2);
     CHECK(LOCKMGR_ITEM_PLACE(3, 5) == header + session * 3 + item * 4);
     CHECK(LOCKMGR_RANKS_PLACE(3, 5) == header + session * 3 + item * 5);
     CHECK(LOCKMGR_RANKS_END(3, 5) == header + session * 3 + item * 5 + rank * 3);
-    CHECK(LOCKMGR_SHARE_PLACE(3, 5, 1) == LOCKMGR_RANKS_END(3, 5));
-    CHECK(LOCKMGR_SHARE_PLACE(3, 5, 2) == LOCKMGR_RANKS_END(3, 5) + share);
-    CHECK(LOCKMGR_SHARES_END(3, 5) == LOCKMGR_RANKS_END(3, 5) + 2 * share);
-    CHECK(LOCKMGR_TABLE_SIZE(3, 5) == 6 + 76 * 3 + 67 * 5);
+    CHECK(LOCKMGR_TABLE_SIZE(3, 5) == LOCKMGR_RANKS_END(3, 5));
     CHECK(LOCKMGR_MAIL_SIZE(7) == 4 + 6 * 7);
     CHECK(LOCKMGR_ROUTE_PLACE(2) == 4 + 3 * 2);
     CHECK(LOCKMGR_BODY_PLACE(7, 2) == 4 + 3 * (7 + 2));
     CHECK(LOCKMGR_MAX_TEXT == 3045);
-    CHECK(LOCKMGR_SHARE(64, 64) == 449 && LOCKMGR_SHARE(S, M) == C - 1);
-    CHECK(LOCKMGR_CAPACITY(64, 64) == 450 && LOCKMGR_CAPACITY(S, M) == C);
-    CHECK(LOCKMGR_CAPACITY_TWO(64, 64) == 898 && LOCKMGR_CAPACITY_TWO(S, M) == 2 * C - 2);
+    CHECK(LOCKMGR_CAPACITY(64, 64) == 449 && LOCKMGR_CAPACITY(S, M) == C);
 }
 
 /* The texts of 1 to the last are there, distinct and known; others are not. */
@@ -87,7 +81,7 @@ static void check_texts(const char *text(uint64_t number), unsigned first, unsig
 
 static void test_texts(void)
 {
-    check_texts(lockmgr_refusal_text, LOCKMGR_ACCEPTED, LOCKMGR_OTHER_MAKER);
+    check_texts(lockmgr_refusal_text, LOCKMGR_ACCEPTED, LOCKMGR_IN_USE);
     check_texts(lockmgr_verb_text, LOCKMGR_REQUEST, LOCKMGR_DELIVER_TO_SESSION);
     check_texts(lockmgr_stage_text, LOCKMGR_GROWING, LOCKMGR_ROLLED_BACK);
     check_texts(lockmgr_kind_text, LOCKMGR_MSG_REQUEST, LOCKMGR_MSG_WITHDRAWN);
@@ -96,8 +90,6 @@ static void test_texts(void)
     CHECK(strcmp(lockmgr_refusal_text(LOCKMGR_BAD_NUMBER), "bad number") == 0);
     CHECK(strcmp(lockmgr_refusal_text(LOCKMGR_BAD_RANKS), "bad ranks") == 0);
     CHECK(LOCKMGR_IN_USE == 15 && strcmp(lockmgr_refusal_text(15), "in use") == 0);
-    CHECK(LOCKMGR_BAD_MAKERS == 16 && strcmp(lockmgr_refusal_text(16), "bad makers") == 0);
-    CHECK(LOCKMGR_OTHER_MAKER == 17 && strcmp(lockmgr_refusal_text(17), "other maker") == 0);
     CHECK(strcmp(lockmgr_verb_text(LOCKMGR_DELIVER_TO_ITEM), "deliver to item") == 0);
     CHECK(strcmp(lockmgr_stage_text(LOCKMGR_CLEANING), "cleaning") == 0);
     CHECK(strcmp(lockmgr_kind_text(LOCKMGR_MSG_ABORT), "abort") == 0);
@@ -120,18 +112,10 @@ static void test_options(void)
 {
     lockmgr_options options = lockmgr_default_options(S, M), bad;
     CHECK(options.sessions == S && options.items == M && options.capacity == C);
-    CHECK(options.share1 == 0 && options.share2 == 1);
     for (unsigned k = 1; k <= LOCKMGR_MAX_SESSIONS; k++)
-        CHECK(options.ranks[k - 1] == k && options.session_makers[k - 1] == 1);
-    for (unsigned k = 1; k <= LOCKMGR_MAX_ITEMS; k++)
-        CHECK(options.item_makers[k - 1] == 1);
+        CHECK(options.ranks[k - 1] == k);
     fresh();
     CHECK(lockmgr_mail_capacity(mail) == C && lockmgr_mail_count(mail) == 0);
-    CHECK(lockmgr_share(table, 1) == C - 1 && lockmgr_share(table, 2) == 1);
-    for (unsigned session = 1; session <= S; session++)
-        CHECK(lockmgr_session_maker(table, session) == 1);
-    for (unsigned item = 1; item <= M; item++)
-        CHECK(lockmgr_item_maker(table, item) == 1);
     request(1, 1);
     remember();
     CHECK(lockmgr_start_with(NULL, table, sizeof table, mail, sizeof mail) == LOCKMGR_BAD_SIZE);
@@ -217,8 +201,7 @@ static void test_reversed(void)
     CHECK(lockmgr_start_with(&options, table, sizeof table, mail, sizeof mail) == LOCKMGR_ACCEPTED);
     request(1, 1);
     request(2, 2);
-    CHECK(lockmgr_drain(1, 4, table, sizeof table, mail, sizeof mail).ending ==
-          LOCKMGR_DRAIN_EMPTY);
+    CHECK(lockmgr_drain(4, table, sizeof table, mail, sizeof mail).ending == LOCKMGR_DRAIN_EMPTY);
     request(1, 2);
     request(2, 1);
     for (unsigned k = 0; k < 4 && declared.victim == 0; k++)
@@ -229,199 +212,13 @@ static void test_reversed(void)
         CHECK(cycle.refusal == LOCKMGR_ACCEPTED && cycle.length == sizeof expected - 1);
         CHECK(memcmp(text, expected, cycle.length) == 0);
     }
-    CHECK(lockmgr_drain(1, 10, table, sizeof table, mail, sizeof mail).ending ==
-          LOCKMGR_DRAIN_EMPTY);
+    CHECK(lockmgr_drain(10, table, sizeof table, mail, sizeof mail).ending == LOCKMGR_DRAIN_EMPTY);
     CHECK(lockmgr_stage(table, 1) == LOCKMGR_ROLLED_BACK);
     CHECK(lockmgr_holds(table, 2, 1) && lockmgr_holds(table, 2, 2));
     CHECK(lockmgr_finished(table, 1) && !lockmgr_finished(table, 2));
     CHECK(lockmgr_reopen(1, table, sizeof table, mail, sizeof mail) == LOCKMGR_ACCEPTED);
     CHECK(lockmgr_stage(table, 1) == LOCKMGR_GROWING);
     CHECK(lockmgr_rank(table, 1) == 2 && lockmgr_rank(table, 2) == 1);
-}
-
-/* ---- Makers and shares ------------------------------------------------------ */
-
-/* Session 2 and item 3 belong to maker 2. */
-static lockmgr_options two_makers(void)
-{
-    lockmgr_options options = lockmgr_default_options(S, M);
-    options.session_makers[1] = 2;
-    options.item_makers[2] = 2;
-    return options;
-}
-
-static unsigned start_with(const lockmgr_options *options)
-{
-    return lockmgr_start_with(options, table, sizeof table, mail, sizeof mail);
-}
-
-static void test_makers(void)
-{
-    lockmgr_options options = two_makers(), bad;
-    CHECK(start_with(&options) == LOCKMGR_ACCEPTED);
-    CHECK(lockmgr_session_maker(table, 1) == 1 && lockmgr_session_maker(table, 2) == 2);
-    CHECK(lockmgr_item_maker(table, 1) == 1 && lockmgr_item_maker(table, 2) == 1);
-    CHECK(lockmgr_item_maker(table, 3) == 2);
-    CHECK(table[LOCKMGR_SESSION_PLACE(2) + LOCKMGR_SESSION_MAKER] == 2);
-    CHECK(table[LOCKMGR_ITEM_PLACE(S, 3) + LOCKMGR_ITEM_MAKER] == 2);
-    request(1, 1);
-    remember();
-    for (unsigned maker = 0; maker < 256; maker++) {
-        bad = options;
-        if (maker == 1 || maker == 2)
-            continue;
-        bad.session_makers[S - 1] = (uint8_t)maker;
-        CHECK(start_with(&bad) == LOCKMGR_BAD_MAKERS);
-        bad = options;
-        bad.item_makers[M - 1] = (uint8_t)maker;
-        CHECK(start_with(&bad) == LOCKMGR_BAD_MAKERS);
-        bad.ranks[0] = 0;
-        CHECK(start_with(&bad) == LOCKMGR_BAD_RANKS);
-    }
-    CHECK(unchanged());
-    /* Those behind the last session and the last item are not read. */
-    options.session_makers[S] = 0;
-    options.item_makers[M] = 3;
-    CHECK(start_with(&options) == LOCKMGR_ACCEPTED);
-    /* One maker may own all, and a table may be as large as can be. */
-    static uint8_t largest[LOCKMGR_TABLE_SIZE(LOCKMGR_MAX_SESSIONS, LOCKMGR_MAX_ITEMS)];
-    options = lockmgr_default_options(LOCKMGR_MAX_SESSIONS, LOCKMGR_MAX_ITEMS);
-    options.capacity = C;
-    memset(options.session_makers, 2, sizeof options.session_makers);
-    options.item_makers[LOCKMGR_MAX_ITEMS - 1] = 2;
-    CHECK(lockmgr_start_with(&options, largest, sizeof largest, mail, sizeof mail) ==
-          LOCKMGR_ACCEPTED);
-    for (unsigned k = 1; k <= LOCKMGR_MAX_SESSIONS; k++)
-        CHECK(lockmgr_session_maker(largest, k) == 2);
-    for (unsigned k = 1; k <= LOCKMGR_MAX_ITEMS; k++)
-        CHECK(lockmgr_item_maker(largest, k) == (k == LOCKMGR_MAX_ITEMS ? 2 : 1));
-    CHECK(lockmgr_share(largest, 1) == C - 1 && lockmgr_share(largest, 2) == 1);
-}
-
-static void test_shares(void)
-{
-    static uint8_t most[LOCKMGR_MAIL_SIZE(LOCKMGR_MAX_CAPACITY)];
-    static const uint64_t others[] = {C, C + 1, UINT64_C(1) << 32, UINT64_MAX};
-    lockmgr_options options = two_makers();
-    /* A share 1 of 0 is what share 2 leaves. */
-    for (unsigned share = 1; share < C; share++) {
-        options.share1 = 0;
-        options.share2 = share;
-        CHECK(start_with(&options) == LOCKMGR_ACCEPTED);
-        CHECK(lockmgr_share(table, 1) == C - share && lockmgr_share(table, 2) == share);
-        options.share1 = C - share;
-        CHECK(start_with(&options) == LOCKMGR_ACCEPTED);
-        CHECK(lockmgr_share(table, 1) == C - share && lockmgr_share(table, 2) == share);
-        remember();
-        options.share1++;
-        CHECK(start_with(&options) == LOCKMGR_BAD_MAKERS);
-        options.share1 = C - share;
-        options.share2 += UINT64_C(1) << 16;
-        CHECK(start_with(&options) == LOCKMGR_BAD_MAKERS);
-        CHECK(unchanged());
-    }
-    remember();
-    for (size_t k = 0; k < LENGTH(others); k++) {
-        options = two_makers();
-        options.share2 = others[k];
-        CHECK(start_with(&options) == LOCKMGR_BAD_MAKERS);
-        /* The sum is the capacity only if it is cut off at 64 bits. */
-        options.share1 = UINT64_C(0) - others[k] + C;
-        if (options.share1 > C)
-            CHECK(start_with(&options) == LOCKMGR_BAD_MAKERS);
-        options = two_makers();
-        options.share1 = others[k];
-        CHECK(start_with(&options) == LOCKMGR_BAD_MAKERS);
-    }
-    options = two_makers();
-    options.share2 = 0;
-    CHECK(start_with(&options) == LOCKMGR_BAD_MAKERS);
-    CHECK(unchanged());
-
-    /* The least capacity and the greatest. */
-    options = two_makers();
-    options.capacity = 1;
-    CHECK(lockmgr_start_with(&options, table, sizeof table, most, LOCKMGR_MAIL_SIZE(1)) ==
-          LOCKMGR_BAD_MAKERS);
-    options.capacity = 2;
-    CHECK(lockmgr_start_with(&options, table, sizeof table, most, LOCKMGR_MAIL_SIZE(2)) ==
-          LOCKMGR_ACCEPTED);
-    CHECK(lockmgr_share(table, 1) == 1 && lockmgr_share(table, 2) == 1);
-    options.capacity = LOCKMGR_MAX_CAPACITY;
-    CHECK(lockmgr_start_with(&options, table, sizeof table, most, sizeof most) == LOCKMGR_ACCEPTED);
-    CHECK(lockmgr_share(table, 1) == 4095 && lockmgr_share(table, 2) == 1);
-    options.share2 = 4000;
-    CHECK(lockmgr_start_with(&options, table, sizeof table, most, sizeof most) == LOCKMGR_ACCEPTED);
-    CHECK(lockmgr_share(table, 1) == 96 && lockmgr_share(table, 2) == 4000);
-    CHECK(table[LOCKMGR_SHARE_PLACE(S, M, 2)] == 4000 % 256);
-    CHECK(table[LOCKMGR_SHARE_PLACE(S, M, 2) + 1] == 4000 / 256);
-}
-
-static unsigned step(unsigned verb, unsigned session, unsigned item)
-{
-    return lockmgr_step(verb, session, item, table, sizeof table, mail, sizeof mail).refusal;
-}
-
-/* The mail of each maker: counted, found and drained by itself. */
-static void test_mail_of_makers(void)
-{
-    lockmgr_options options = two_makers();
-    lockmgr_drained drained;
-    options.share2 = 2;
-    CHECK(start_with(&options) == LOCKMGR_ACCEPTED);
-    for (unsigned maker = 1; maker <= 2; maker++) {
-        CHECK(lockmgr_mail_count_of(table, mail, maker) == 0);
-        CHECK(lockmgr_mail_oldest_of(table, mail, maker) == 0);
-    }
-    /* Across makers. */
-    remember();
-    CHECK(step(LOCKMGR_REQUEST, 1, 3) == LOCKMGR_OTHER_MAKER);
-    CHECK(step(LOCKMGR_REQUEST, 2, 1) == LOCKMGR_OTHER_MAKER);
-    CHECK(step(LOCKMGR_DELIVER_TO_ITEM, 1, 3) == LOCKMGR_OTHER_MAKER);
-    CHECK(step(LOCKMGR_DELIVER_TO_SESSION, 2, 2) == LOCKMGR_OTHER_MAKER);
-    CHECK(step(LOCKMGR_RELEASE, 1, 3) == LOCKMGR_WRONG_ITEM);
-    CHECK(unchanged());
-
-    request(1, 1);
-    request(2, 3);
-    CHECK(lockmgr_mail_count(mail) == 2);
-    CHECK(lockmgr_mail_count_of(table, mail, 1) == 1 && lockmgr_mail_count_of(table, mail, 2) == 1);
-    CHECK(lockmgr_mail_oldest_of(table, mail, 1) == 0);
-    CHECK(lockmgr_mail_oldest_of(table, mail, 2) == 1);
-    remember();
-    drained = lockmgr_drain(0, UINT64_MAX, table, sizeof table, mail, sizeof mail);
-    CHECK(drained.refusal == LOCKMGR_BAD_NUMBER && drained.made == 0 && drained.ending == 0);
-    CHECK(lockmgr_drain(3, UINT64_MAX, table, sizeof table, mail, sizeof mail).refusal ==
-          LOCKMGR_BAD_NUMBER);
-    CHECK(unchanged());
-    drained = lockmgr_drain(2, UINT64_MAX, table, sizeof table, mail, sizeof mail);
-    CHECK(drained.refusal == LOCKMGR_ACCEPTED && drained.made == 2);
-    CHECK(drained.ending == LOCKMGR_DRAIN_EMPTY);
-    CHECK(lockmgr_holds(table, 2, 3) && lockmgr_stage(table, 1) == LOCKMGR_WAITING);
-    CHECK(lockmgr_mail_count_of(table, mail, 1) == 1 && lockmgr_mail_count_of(table, mail, 2) == 0);
-    /* None of maker 2: no place. */
-    CHECK(lockmgr_mail_oldest_of(table, mail, 2) == 1);
-    CHECK(lockmgr_deliver(lockmgr_mail_oldest_of(table, mail, 2), table, sizeof table, mail,
-                          sizeof mail)
-              .answer.refusal == LOCKMGR_NO_MESSAGE);
-    CHECK(step(LOCKMGR_RELEASE, 2, 3) == LOCKMGR_ACCEPTED);
-    CHECK(lockmgr_mail_oldest_of(table, mail, 1) == 0);
-    CHECK(lockmgr_mail_oldest_of(table, mail, 2) == 1);
-    drained = lockmgr_drain(1, UINT64_MAX, table, sizeof table, mail, sizeof mail);
-    CHECK(drained.made == 2 && drained.ending == LOCKMGR_DRAIN_EMPTY);
-    CHECK(lockmgr_mail_oldest_of(table, mail, 2) == 0 && lockmgr_mail_count(mail) == 1);
-
-    /* Shares in a table and makers across a message are judged. */
-    remember();
-    table[LOCKMGR_SHARE_PLACE(S, M, 1)]++;
-    CHECK(step(LOCKMGR_REQUEST, 1, 2) == LOCKMGR_BAD_MAIL);
-    CHECK(lockmgr_report(1, table, sizeof table).refusal == LOCKMGR_ACCEPTED);
-    memcpy(table, table_before, sizeof table);
-    table[LOCKMGR_ITEM_PLACE(S, 3) + LOCKMGR_ITEM_MAKER] = 1;
-    CHECK(lockmgr_report(1, table, sizeof table).refusal == LOCKMGR_BAD_TABLE);
-    memcpy(table, table_before, sizeof table);
-    mail[LOCKMGR_ROUTE_PLACE(0) + LOCKMGR_ROUTE_SESSION] = 1;
-    CHECK(step(LOCKMGR_REQUEST, 1, 2) == LOCKMGR_BAD_MAIL);
 }
 
 /* ---- Deliveries ------------------------------------------------------------ */
@@ -445,14 +242,14 @@ static void test_drain_and_events(void)
     fresh();
     request(1, 1);
     request(2, 2);
-    drained = lockmgr_drain(1, 4, table, sizeof table, mail, sizeof mail);
+    drained = lockmgr_drain(4, table, sizeof table, mail, sizeof mail);
     CHECK(drained.made == 4 && drained.ending == LOCKMGR_DRAIN_EMPTY);
     request(1, 2);
     request(2, 1);
     remember();
     memcpy(stepped_table, table, sizeof table);
     memcpy(stepped_mail, mail, sizeof mail);
-    drained = lockmgr_drain(1, UINT64_MAX, table, sizeof table, mail, sizeof mail);
+    drained = lockmgr_drain(UINT64_MAX, table, sizeof table, mail, sizeof mail);
     for (; lockmgr_mail_count(stepped_mail) > 0; made++) {
         lockmgr_delivery d =
             lockmgr_deliver(0, stepped_table, sizeof table, stepped_mail, sizeof mail);
@@ -626,69 +423,36 @@ static void test_reopened(void)
 
 /* ---- A larger mail ---------------------------------------------------------- */
 
-static uint8_t larger[LOCKMGR_MAIL_SIZE(300)];
-
-static unsigned enlarges(uint64_t maker, uint8_t *records, size_t records_len,
-                         const uint8_t *messages, size_t messages_len, uint64_t capacity,
-                         uint8_t *more, size_t more_len)
-{
-    return lockmgr_enlarge_mail(maker, records, records_len, messages, messages_len, capacity, more,
-                                more_len);
-}
-
-/* The mail of the table. */
-static unsigned enlarge(uint64_t maker, size_t mail_len, uint64_t capacity, uint8_t *more,
-                        size_t more_len)
-{
-    return enlarges(maker, table, sizeof table, mail, mail_len, capacity, more, more_len);
-}
-
 static void test_enlarge(void)
 {
-    static uint8_t untouched[sizeof larger];
-    lockmgr_options options = two_makers();
+    static uint8_t larger[LOCKMGR_MAIL_SIZE(300)], untouched[sizeof larger];
     memset(larger, 0xA5, sizeof larger);
     memset(untouched, 0xA5, sizeof untouched);
-    CHECK(start_with(&options) == LOCKMGR_ACCEPTED);
+    fresh();
     request(1, 1);
     request(2, 3);
     remember();
-    for (unsigned maker = 1; maker <= 2; maker++) {
-        enum { ALL = sizeof mail, MORE = sizeof larger };
-        CHECK(enlarges(maker, NULL, 0, mail, ALL, 300, larger, MORE) == LOCKMGR_BAD_SIZE);
-        CHECK(enlarges(maker, NULL, 9, mail, ALL, 300, larger, MORE) == LOCKMGR_BAD_SIZE);
-        CHECK(enlarges(maker, table, sizeof table, NULL, 0, 300, larger, MORE) == LOCKMGR_BAD_SIZE);
-        CHECK(enlarges(maker, table, sizeof table, NULL, 9, 300, larger, MORE) == LOCKMGR_BAD_SIZE);
-        CHECK(enlarge(maker, ALL, 300, NULL, 0) == LOCKMGR_BAD_SIZE);
-        CHECK(enlarge(maker, ALL, 300, NULL, 9) == LOCKMGR_BAD_SIZE);
-        for (size_t length = 0; length < sizeof table; length++)
-            CHECK(enlarges(maker, table, length, mail, ALL, 300, larger, MORE) == LOCKMGR_BAD_SIZE);
-        for (size_t length = 0; length < sizeof mail; length++)
-            CHECK(enlarge(maker, length, 300, larger, MORE) == LOCKMGR_BAD_SIZE);
-        for (size_t length = 0; length < sizeof larger; length++)
-            CHECK(enlarge(maker, ALL, 300, larger, length) == LOCKMGR_BAD_SIZE);
-        CHECK(enlarge(maker, ALL, 299, larger, MORE) == LOCKMGR_BAD_SIZE);
-        CHECK(enlarge(maker, ALL, C - 1, larger, LOCKMGR_MAIL_SIZE(C - 1)) == LOCKMGR_BAD_SIZE);
-        CHECK(enlarge(maker, ALL, 4097, larger, LOCKMGR_MAIL_SIZE(4097)) == LOCKMGR_BAD_SIZE);
-        CHECK(enlarge(maker, ALL, UINT64_MAX, larger, MORE) == LOCKMGR_BAD_SIZE);
-        mail[LOCKMGR_MAIL_COUNT] = C + 1;
-        CHECK(enlarge(maker, ALL, 300, larger, MORE) == LOCKMGR_BAD_SIZE);
-        mail[LOCKMGR_MAIL_COUNT] = 2;
-        table[LOCKMGR_SHARE_PLACE(S, M, maker)]++;
-        CHECK(enlarge(maker, ALL, 300, larger, MORE) == LOCKMGR_BAD_MAIL);
-        CHECK(enlarge(3, ALL, 300, larger, MORE) == LOCKMGR_BAD_MAIL);
-        table[LOCKMGR_SHARE_PLACE(S, M, maker)]--;
-    }
-    static const uint64_t no_makers[] = {0, 3, 257, UINT64_C(1) << 32, UINT64_MAX};
-    for (size_t k = 0; k < LENGTH(no_makers); k++)
-        CHECK(enlarge(no_makers[k], sizeof mail, 300, larger, sizeof larger) == LOCKMGR_BAD_NUMBER);
+    CHECK(lockmgr_enlarge_mail(NULL, 0, 300, larger, sizeof larger) == LOCKMGR_BAD_SIZE);
+    CHECK(lockmgr_enlarge_mail(NULL, 9, 300, larger, sizeof larger) == LOCKMGR_BAD_SIZE);
+    CHECK(lockmgr_enlarge_mail(mail, sizeof mail, 300, NULL, 0) == LOCKMGR_BAD_SIZE);
+    CHECK(lockmgr_enlarge_mail(mail, sizeof mail, 300, NULL, 9) == LOCKMGR_BAD_SIZE);
+    for (size_t length = 0; length < sizeof mail; length++)
+        CHECK(lockmgr_enlarge_mail(mail, length, 300, larger, sizeof larger) == LOCKMGR_BAD_SIZE);
+    for (size_t length = 0; length < sizeof larger; length++)
+        CHECK(lockmgr_enlarge_mail(mail, sizeof mail, 300, larger, length) == LOCKMGR_BAD_SIZE);
+    CHECK(lockmgr_enlarge_mail(mail, sizeof mail, 299, larger, sizeof larger) == LOCKMGR_BAD_SIZE);
+    CHECK(lockmgr_enlarge_mail(mail, sizeof mail, C - 1, larger, LOCKMGR_MAIL_SIZE(C - 1)) ==
+          LOCKMGR_BAD_SIZE);
+    CHECK(lockmgr_enlarge_mail(mail, sizeof mail, 4097, larger, LOCKMGR_MAIL_SIZE(4097)) ==
+          LOCKMGR_BAD_SIZE);
+    CHECK(lockmgr_enlarge_mail(mail, sizeof mail, UINT64_MAX, larger, sizeof larger) ==
+          LOCKMGR_BAD_SIZE);
+    mail[LOCKMGR_MAIL_COUNT] = C + 1;
+    CHECK(lockmgr_enlarge_mail(mail, sizeof mail, 300, larger, sizeof larger) == LOCKMGR_BAD_SIZE);
+    mail[LOCKMGR_MAIL_COUNT] = 2;
     CHECK(unchanged() && memcmp(larger, untouched, sizeof larger) == 0);
 
-    CHECK(enlarge(2, sizeof mail, 300, larger, sizeof larger) == LOCKMGR_ACCEPTED);
-    /* Of the table only that share was written. */
-    CHECK(lockmgr_share(table, 1) == C - 1 && lockmgr_share(table, 2) == 300 - (C - 1));
-    memcpy(table_before + LOCKMGR_SHARE_PLACE(S, M, 2), table + LOCKMGR_SHARE_PLACE(S, M, 2),
-           LOCKMGR_SHARE_SIZE);
+    CHECK(lockmgr_enlarge_mail(mail, sizeof mail, 300, larger, sizeof larger) == LOCKMGR_ACCEPTED);
     CHECK(unchanged());
     CHECK(lockmgr_mail_capacity(larger) == 300 && lockmgr_mail_count(larger) == 2);
     for (unsigned k = 0; k < 2; k++) {
@@ -700,19 +464,9 @@ static void test_enlarge(void)
         CHECK(lockmgr_deliver(0, table, sizeof table, larger, sizeof larger).answer.refusal ==
               LOCKMGR_ACCEPTED);
     CHECK(lockmgr_holds(table, 1, 1) && lockmgr_holds(table, 2, 3));
-    /* To maker 1. */
-    CHECK(start_with(&options) == LOCKMGR_ACCEPTED);
-    CHECK(enlarge(1, sizeof mail, 300, larger, sizeof larger) == LOCKMGR_ACCEPTED);
-    CHECK(lockmgr_share(table, 1) == 299 && lockmgr_share(table, 2) == 1);
-    CHECK(lockmgr_drain(1, 0, table, sizeof table, larger, sizeof larger).refusal ==
-          LOCKMGR_ACCEPTED);
-    CHECK(lockmgr_drain(1, 0, table, sizeof table, mail, sizeof mail).refusal == LOCKMGR_BAD_MAIL);
-    /* The same capacity makes a copy and leaves the table. */
-    CHECK(start_with(&options) == LOCKMGR_ACCEPTED);
-    request(1, 1);
-    remember();
-    CHECK(enlarge(1, sizeof mail, C, larger, sizeof mail) == LOCKMGR_ACCEPTED);
-    CHECK(unchanged() && memcmp(mail, larger, sizeof mail) == 0);
+    /* The same capacity makes a copy. */
+    CHECK(lockmgr_enlarge_mail(mail, sizeof mail, C, mail_before, sizeof mail) == LOCKMGR_ACCEPTED);
+    CHECK(memcmp(mail, mail_before, sizeof mail) == 0);
 }
 
 int main(void)
@@ -722,9 +476,6 @@ int main(void)
     test_options();
     test_ranks();
     test_reversed();
-    test_makers();
-    test_shares();
-    test_mail_of_makers();
     test_drain_bound();
     test_events();
     test_drain_and_events();

@@ -3,9 +3,8 @@
 
 use crate::comparison::{held, Buffers, Comparison};
 use crate::forge::{
-    self, breaks, circling, clear_route, full_mail, largest_maker, reopenable, room, two_makers,
-    well_formed, with_capacity, with_owners, Beside, Break, Filling, Routes, MAKER_BREAKS, NAMED,
-    RANK_BREAKS,
+    self, breaks, circling, clear_route, full_mail, reopenable, well_formed, Beside, Break,
+    Filling, Routes, NAMED, RANK_BREAKS,
 };
 use crate::numbers::{
     kind, CLEANING, DELIVER_TO_ITEM, DELIVER_TO_SESSION, GROWING, RELEASE, REQUEST, ROLLED_BACK,
@@ -13,12 +12,11 @@ use crate::numbers::{
 };
 use model::demand3::Demand3;
 use model::layout::{
-    table_length, AWAITED, HELD, JUNIORS, KIND, MAX_SESSIONS, MAX_TEXT, SESSION_MAKER, STAGE,
+    AWAITED, HELD, ITEM_SIZE, JUNIORS, KIND, MAX_SESSIONS, MAX_TEXT, SESSION_SIZE, STAGE,
     TABLE_ITEMS, TABLE_SESSIONS,
 };
-use model::makers::MAKERS;
 use model::scenario::Random;
-use model::{Answer, Config, Drained, Ending, Makers, Ranks, Refusal, ACCEPTED, RULES};
+use model::{Answer, Config, Drained, Ending, Ranks, Refusal, ACCEPTED, RULES};
 
 type Outcome = Result<(), String>;
 type Case = fn(&mut Comparison, &mut Random) -> Outcome;
@@ -36,8 +34,6 @@ const ROUND: &[(&str, u64, u64, Case)] = &[
     ("run from start, more sessions", 1, 5, medium_run),
     ("run from start, largest", 1, 100, largest_run),
     ("run from start, sessions reused", 1, 100, reusing_run),
-    ("run from start, two makers", 2, 1, makers_run),
-    ("pair of runs", 40, 1, pairs),
     ("cycle of all sessions", 1, 50, long_cycle),
     ("forged", 150, 1, forged),
     ("forged, largest", 1, 2, forged_largest),
@@ -59,13 +55,10 @@ const ROUND: &[(&str, u64, u64, Case)] = &[
     ("many messages at once", 1, 5, many_sends),
     ("broken form", 2, 1, broken),
     ("broken form, largest", 1, 20, broken_largest),
-    ("broken form, two makers", 3, 1, broken_makers),
-    ("steps of two makers", 12, 1, makers_steps),
-    ("makers at a start", 2, 1, makers_at_start),
     ("bad ranks", 2, 1, bad_ranks),
     ("bad ranks, largest", 1, 20, bad_ranks_largest),
     ("damaged", 250, 1, damaged),
-    ("other bounds", 4, 1, other_bounds),
+    ("other bounds of equal length", 4, 1, other_bounds),
     ("numbers out of bounds", 60, 1, numbers),
     ("start", 60, 1, starts),
 ];
@@ -149,7 +142,6 @@ impl Started {
         let answer = comparison.step(verb, session, item, after)?;
         let counted = self.demand3;
         self.demand3.after_step(
-            session,
             answer,
             (&before.table, &before.mail),
             (&after.table, &after.mail),
@@ -159,19 +151,13 @@ impl Started {
         Ok(answer)
     }
 
-    fn drain(
-        &mut self,
-        comparison: &mut Comparison,
-        maker: u64,
-        limit: u64,
-    ) -> Result<Drained, String> {
+    fn drain(&mut self, comparison: &mut Comparison, limit: u64) -> Result<Drained, String> {
         let before = self.buffers.clone();
         let after = &mut self.buffers;
-        let drained = comparison.drain(maker, limit, after)?;
+        let drained = comparison.drain(limit, after)?;
         let counted = self.demand3;
         self.demand3.after_drain(
             &RULES,
-            maker,
             limit,
             drained,
             (&before.table, &before.mail),
@@ -209,16 +195,6 @@ impl Started {
         if before.reopened > 0 {
             comparison.coverage.reused_steps(steps);
         }
-    }
-}
-
-/// A maker to drain for, mostly one that can have messages.
-fn any_maker(random: &mut Random, config: &Config) -> u64 {
-    match room(config) {
-        _ if random.one_in(8) => random.between(1, MAKERS as u64),
-        [0, _] => 2,
-        [_, 0] => 1,
-        _ => random.between(1, MAKERS as u64),
     }
 }
 
@@ -448,8 +424,7 @@ fn run(
             let session = config.any_session(random);
             read(comparison, random, session, &started.buffers)?;
         } else if random.one_in(rates.drain_one_in) {
-            let maker = any_maker(random, config);
-            started.drain(comparison, maker, any_limit(random))?;
+            started.drain(comparison, any_limit(random))?;
         } else if random.one_in(rates.reopen_one_in) {
             if let Some(session) = done_session(random, config, &started.buffers) {
                 started.reopen(comparison, session)?;
@@ -471,9 +446,7 @@ fn run(
             started.step(comparison, (verb, session, item))?;
         }
     }
-    for maker in 1..=MAKERS as u64 {
-        started.drain(comparison, maker, u64::MAX)?;
-    }
+    started.drain(comparison, u64::MAX)?;
     Ok(())
 }
 
@@ -487,9 +460,6 @@ fn own_step(random: &mut Random, config: &Config, buffers: &Buffers, verb: u64) 
         let stage = record[STAGE];
         let holds = held(record) >> (drawn.1 - 1) & 1 == 1;
         let releases = verb == RELEASE;
-        if buffers.item_maker(drawn.1 as u8) != record[SESSION_MAKER] {
-            continue;
-        }
         if (stage == GROWING || stage == SHRINKING && releases) && holds == releases {
             break;
         }
@@ -510,37 +480,18 @@ fn done_session(random: &mut Random, config: &Config, buffers: &Buffers) -> Opti
     })
 }
 
-fn small_config(random: &mut Random) -> Config<'static> {
+fn small_run(comparison: &mut Comparison, random: &mut Random) -> Outcome {
     let (sessions, items) = (random.between(1, 8), random.between(1, 8));
     let capacity = match random.between(1, 8) {
-        1 => 2,
-        2 => 3,
-        3 => random.between(4, 16),
+        1 => 1,
+        2 => 2,
+        3 => random.between(3, 16),
         4 => 64,
         _ => 300,
     };
-    Config::plain(sessions, items, capacity)
-}
-
-fn small_run(comparison: &mut Comparison, random: &mut Random) -> Outcome {
-    let config = small_config(random);
+    let config = Config::plain(sessions, items, capacity);
     let rates = Rates::draw(random);
     run(comparison, random, &config, rates, 400)
-}
-
-/// Two makers with any shares, some without a session or an item.
-fn makers_run(comparison: &mut Comparison, random: &mut Random) -> Outcome {
-    let drawn = small_config(random);
-    let config = with_owners(random, drawn);
-    let rates = Rates::draw(random);
-    run(comparison, random, &config, rates, 300)
-}
-
-/// One maker's calls are the same in both.
-fn pairs(comparison: &mut Comparison, random: &mut Random) -> Outcome {
-    let seed = random.bits();
-    let outcome = comparison.pair(seed);
-    outcome.map_err(|reason| format!("seed {seed}: {reason}"))
 }
 
 /// Three sessions, whose ranks come in every order.
@@ -559,10 +510,7 @@ fn reusing_run(comparison: &mut Comparison, random: &mut Random) -> Outcome {
 
 fn medium_run(comparison: &mut Comparison, random: &mut Random) -> Outcome {
     let (sessions, items) = (random.between(9, 32), random.between(9, 32));
-    let mut config = Config::plain(sessions, items, random.between(200, 1000));
-    if random.one_in(2) {
-        config = with_owners(random, config);
-    }
+    let config = Config::plain(sessions, items, random.between(200, 1000));
     let rates = Rates::draw(random);
     run(comparison, random, &config, rates, 500)
 }
@@ -621,7 +569,7 @@ fn long_cycle(comparison: &mut Comparison, random: &mut Random) -> Outcome {
     } else {
         random.between(0, 1000)
     };
-    started.drain(comparison, 1, limit)?;
+    started.drain(comparison, limit)?;
     Ok(())
 }
 
@@ -642,15 +590,14 @@ fn texts_of(
     every_room(comparison, random, session, buffers)
 }
 
-/// Texts on a forged cycle of so many of a maker: on a member and on any session.
+/// Texts on a forged cycle of so many: on a member and on any session.
 fn forged_cycle(
     comparison: &mut Comparison,
     random: &mut Random,
     config: &Config,
-    maker: u8,
     members: u64,
 ) -> Outcome {
-    let (buffers, member) = forge::cycle(random, config, maker, members as usize);
+    let (buffers, member) = forge::cycle(random, config, members as usize);
     texts_of(comparison, random, member.into(), members, &buffers)?;
     let session = config.any_session(random);
     every_room(comparison, random, session, &buffers)
@@ -658,14 +605,9 @@ fn forged_cycle(
 
 fn texts(comparison: &mut Comparison, random: &mut Random) -> Outcome {
     let drawn = forge::config(random);
-    let plain = Config::plain(drawn.sessions.max(2), drawn.items.max(2), drawn.capacity);
-    let config = match largest_maker(&drawn) {
-        (_, 0 | 1) => plain,
-        _ => drawn,
-    };
-    let (maker, most) = largest_maker(&config);
-    let members = random.between(2, most as u64);
-    forged_cycle(comparison, random, &config, maker, members)
+    let config = Config::plain(drawn.sessions.max(2), drawn.items.max(2), drawn.capacity);
+    let members = random.between(2, config.sessions.min(config.items));
+    forged_cycle(comparison, random, &config, members)
 }
 
 /// Cycles of every length.
@@ -673,13 +615,16 @@ fn texts_wide(comparison: &mut Comparison, random: &mut Random) -> Outcome {
     let members = random.between(2, LARGEST.sessions);
     let sessions = random.between(members, LARGEST.sessions);
     let items = random.between(members, LARGEST.items);
-    let config = Config::plain(sessions, items, 2);
-    forged_cycle(comparison, random, &config, 1, members)
+    let config = Config::plain(sessions, items, 1);
+    forged_cycle(comparison, random, &config, members)
 }
 
 fn texts_largest(comparison: &mut Comparison, random: &mut Random) -> Outcome {
-    let config = Config::plain(LARGEST.sessions, LARGEST.items, 2);
-    forged_cycle(comparison, random, &config, 1, LARGEST.sessions)
+    let config = Config {
+        capacity: 1,
+        ..LARGEST
+    };
+    forged_cycle(comparison, random, &config, LARGEST.sessions)
 }
 
 /// A few steps, a report, a text, drains and reopenings on well-formed buffers.
@@ -707,8 +652,7 @@ fn some_steps(
                 comparison.step(verb, session, item, buffers)?;
             }
             5 => {
-                let maker = any_maker(random, config);
-                comparison.drain(maker, limit(random), buffers)?;
+                comparison.drain(limit(random), buffers)?;
             }
             6 => {
                 let session = done_session(random, config, buffers);
@@ -723,8 +667,7 @@ fn some_steps(
     }
     let session = config.any_session(random);
     read(comparison, random, session, buffers)?;
-    let maker = any_maker(random, config);
-    comparison.drain(maker, limit(random), buffers)?;
+    comparison.drain(limit(random), buffers)?;
     Ok(())
 }
 
@@ -743,29 +686,18 @@ fn forged_largest(comparison: &mut Comparison, random: &mut Random) -> Outcome {
         5 => LARGEST.capacity - random.between(1, 130),
         _ => random.between(1, LARGEST.capacity),
     };
-    let config = largest(random);
-    let mut buffers = well_formed(random, &config, count);
-    some_steps(comparison, random, &config, &mut buffers, 12)
-}
-
-/// S, M and C as large as can be, of one maker or of two.
-fn largest(random: &mut Random) -> Config<'static> {
-    match random.between(1, 3) {
-        1 => with_owners(random, LARGEST),
-        _ => LARGEST,
-    }
+    let mut buffers = well_formed(random, &LARGEST, count);
+    some_steps(comparison, random, &LARGEST, &mut buffers, 12)
 }
 
 /// No room, or hardly any.
 fn hardly_any_room(comparison: &mut Comparison, random: &mut Random) -> Outcome {
     let mut config = forge::config(random);
     if random.one_in(2) {
-        let capacity = random.between(2, 3);
-        config = with_capacity(random, config, capacity);
+        config.capacity = random.between(1, 2);
     }
-    let most = room(&config).iter().sum::<u64>();
-    let left = random.between(0, 3).min(most);
-    let mut buffers = well_formed(random, &config, most - left);
+    let room = random.between(0, 3).min(config.capacity);
+    let mut buffers = well_formed(random, &config, config.capacity - room);
     let steps = random.between(3, 8);
     some_steps(comparison, random, &config, &mut buffers, steps)
 }
@@ -782,9 +714,6 @@ enum OnRoute {
 /// more than one session or item: the message is alone on its route, as the first,
 /// one between or the last; or the route is as drawn; or there is none on it.
 fn search(comparison: &mut Comparison, random: &mut Random, config: &Config) -> Outcome {
-    if room(config) == [0; MAKERS] {
-        return Ok(());
-    }
     for routes in [Routes::Any, Routes::OneItem, Routes::OneSessionAndItem] {
         let buffers = full_mail(random, config, routes);
         let last = buffers.count() - 1;
@@ -810,22 +739,22 @@ fn search(comparison: &mut Comparison, random: &mut Random, config: &Config) -> 
 }
 
 fn searches(comparison: &mut Comparison, random: &mut Random) -> Outcome {
-    let (drawn, capacity) = (forge::config(random), random.between(2, 70));
-    let config = with_capacity(random, drawn, capacity);
+    let config = Config {
+        capacity: random.between(2, 70),
+        ..forge::config(random)
+    };
     search(comparison, random, &config)
 }
 
 fn searches_largest(comparison: &mut Comparison, random: &mut Random) -> Outcome {
-    let config = largest(random);
-    search(comparison, random, &config)
+    search(comparison, random, &LARGEST)
 }
 
 /// A drain of any buffers at each count of messages from none to all.
 fn every_fill(comparison: &mut Comparison, random: &mut Random, config: &Config) -> Outcome {
     for count in 0..=config.capacity {
         let mut buffers = well_formed(random, config, count);
-        let maker = any_maker(random, config);
-        comparison.drain(maker, limit(random), &mut buffers)?;
+        comparison.drain(limit(random), &mut buffers)?;
     }
     Ok(())
 }
@@ -837,8 +766,10 @@ fn drain_every_fill(comparison: &mut Comparison, random: &mut Random) -> Outcome
 
 /// Small numbers and a wide mail.
 fn wide_config(random: &mut Random) -> Config<'static> {
-    let (drawn, capacity) = (forge::config(random), random.between(65, 200));
-    with_capacity(random, drawn, capacity)
+    Config {
+        capacity: random.between(65, 200),
+        ..forge::config(random)
+    }
 }
 
 fn drain_every_fill_wide(comparison: &mut Comparison, random: &mut Random) -> Outcome {
@@ -858,10 +789,9 @@ fn largest_count(random: &mut Random) -> u64 {
 }
 
 fn drain_largest(comparison: &mut Comparison, random: &mut Random) -> Outcome {
-    let (config, count) = (largest(random), largest_count(random));
-    let mut buffers = well_formed(random, &config, count);
-    let maker = any_maker(random, &config);
-    comparison.drain(maker, limit(random), &mut buffers)?;
+    let count = largest_count(random);
+    let mut buffers = well_formed(random, &LARGEST, count);
+    comparison.drain(limit(random), &mut buffers)?;
     Ok(())
 }
 
@@ -878,17 +808,12 @@ fn circle(
         2 => Beside::Dropped,
         _ => Beside::Nothing,
     };
-    let (maker, own) = largest_maker(config);
-    if own == 0 {
-        return Ok(());
-    }
-    let mut buffers = circling(random, config, maker, count, beside);
-    let some = buffers.own_count(maker) > 0;
+    let mut buffers = circling(random, config, count, beside);
     for _ in 0..2 {
         let limit = random.between(0, most);
-        let drained = comparison.drain(maker.into(), limit, &mut buffers)?;
+        let drained = comparison.drain(limit, &mut buffers)?;
         let circles = drained.made == limit && drained.ending == Ending::Limit as u8;
-        if beside == Beside::Nothing && some && !circles {
+        if beside == Beside::Nothing && count > 0 && !circles {
             return Err(format!("no clean circles: {drained:?}"));
         }
     }
@@ -908,17 +833,16 @@ fn circles_wide(comparison: &mut Comparison, random: &mut Random) -> Outcome {
 }
 
 fn circles_largest(comparison: &mut Comparison, random: &mut Random) -> Outcome {
-    let (config, count) = (largest(random), largest_count(random));
-    circle(comparison, random, &config, count, 300)
+    let count = largest_count(random);
+    circle(comparison, random, &LARGEST, count, 300)
 }
 
 /// More deliveries than two bytes can count.
 fn circles_long(comparison: &mut Comparison, random: &mut Random) -> Outcome {
-    let drawn = forge::config(random);
-    let config = Config::plain(drawn.sessions, drawn.items, drawn.capacity);
+    let config = forge::config(random);
     let count = random.between(1, config.capacity);
-    let mut buffers = circling(random, &config, 1, count, Beside::Nothing);
-    comparison.drain(1, 70_000, &mut buffers)?;
+    let mut buffers = circling(random, &config, count, Beside::Nothing);
+    comparison.drain(70_000, &mut buffers)?;
     Ok(())
 }
 
@@ -930,10 +854,7 @@ fn every_reason(
     config: &Config,
     count: u64,
 ) -> Outcome {
-    let Some(session) = forge::with_others(random, config) else {
-        return Ok(());
-    };
-    let own_items = forge::items_of(config, config.session_makers[usize::from(session) - 1]);
+    let session = config.any_session(random) as u8;
     let mut answers = |random: &mut Random, buffers: &Buffers, expected, name| {
         let found = comparison.reopen(session.into(), &mut buffers.clone())?;
         if found != expected {
@@ -961,12 +882,12 @@ fn every_reason(
         let record = buffers.session_mut(session.into());
         record[STAGE] = stage;
         if stage != GROWING {
-            record[AWAITED] = *random.pick(&own_items).ok_or("no item")?;
+            record[AWAITED] = config.any_item(random) as u8;
         }
         answers(random, &buffers, in_use, "another stage")?;
     }
     let mut buffers = done;
-    let held = 1u64 << (random.pick(&own_items).ok_or("no item")? - 1);
+    let held = 1u64 << (config.any_item(random) - 1);
     buffers.session_mut(session.into())[HELD].copy_from_slice(&held.to_le_bytes());
     answers(random, &buffers, in_use, "stage 3 with an item")
 }
@@ -974,11 +895,7 @@ fn every_reason(
 /// Two sessions or more: the only one is named by every message.
 fn reopenings(comparison: &mut Comparison, random: &mut Random) -> Outcome {
     let drawn = forge::config(random);
-    let plain = Config::plain(drawn.sessions.max(2), drawn.items, drawn.capacity);
-    let config = match forge::with_others(random, &drawn) {
-        None => plain,
-        Some(_) => drawn,
-    };
+    let config = Config::plain(drawn.sessions.max(2), drawn.items, drawn.capacity);
     let count = Filling::draw(random).of(random, config.capacity);
     every_reason(comparison, random, &config, count)?;
     let only = Config::plain(1, drawn.items, drawn.capacity);
@@ -994,16 +911,17 @@ fn reopenings_largest(comparison: &mut Comparison, random: &mut Random) -> Outco
         1 => random.between(1, LARGEST.capacity),
         _ => 0,
     };
-    let config = largest(random);
-    every_reason(comparison, random, &config, LARGEST.capacity - room)
+    every_reason(comparison, random, &LARGEST, LARGEST.capacity - room)
 }
 
 /// The steps that send most: a request with all 64 probes; a clean, a release
 /// or a rebroadcast at an item where everyone waits, into mail with more or less
 /// room. And a release that finds a queue of 64 and no holder. In a drain too.
 fn many_sends(comparison: &mut Comparison, random: &mut Random) -> Outcome {
-    let (sessions, items) = (LARGEST.sessions, LARGEST.items);
-    let config = Config::plain(sessions, items, random.between(100, 400));
+    let config = Config {
+        capacity: random.between(100, 400),
+        ..LARGEST
+    };
     let room = random.between(0, 140);
     let count = config.capacity.saturating_sub(room);
     let buffers = well_formed(random, &config, count);
@@ -1011,7 +929,7 @@ fn many_sends(comparison: &mut Comparison, random: &mut Random) -> Outcome {
     let mut own = buffers.clone();
     let session = config.any_session(random);
     let record = own.session_mut(session as usize);
-    record[..SESSION_MAKER].fill(0);
+    record.fill(0);
     record[STAGE] = GROWING;
     for junior in &mut record[JUNIORS] {
         *junior = config.any_session(random) as u8;
@@ -1056,7 +974,7 @@ fn everyone_waits(
     let (route, body) = ([TO_ITEM, from, item as u8], [kind, ab, ab]);
     let mut first = buffers.clone();
     first.set_message(0, route, body);
-    comparison.drain(1, limit(random), &mut first)?;
+    comparison.drain(limit(random), &mut first)?;
     let place = buffers.count() - 1;
     buffers.set_message(place, route, body);
     comparison.step(DELIVER_TO_ITEM, from.into(), item, &mut buffers)?;
@@ -1100,8 +1018,7 @@ fn refused(
 ) -> Outcome {
     let (verb, session, item) = any_call(random, config);
     let step = comparison.step(verb, session, item, buffers)?.refusal;
-    let maker = any_maker(random, config);
-    let drained = comparison.drain(maker, limit(random), buffers)?.refusal;
+    let drained = comparison.drain(limit(random), buffers)?.refusal;
     let reopened = comparison.reopen(session, buffers)?;
     let [report, text] = read(comparison, random, session, buffers)?;
     let judging = match way.refusal {
@@ -1115,232 +1032,9 @@ fn refused(
     Ok(())
 }
 
-/// Each way to break makers and shares or to go across, on buffers of two makers with
-/// sessions, items and messages.
-fn broken_makers(comparison: &mut Comparison, random: &mut Random) -> Outcome {
-    for way in MAKER_BREAKS {
-        // Not all that is drawn can be broken so.
-        for _ in 0..20 {
-            let config = two_makers(random, 1);
-            let count = random.between(0, config.capacity);
-            let mut buffers = well_formed(random, &config, count);
-            if way.apply(random, &config, &mut buffers) {
-                refused(comparison, random, &config, &mut buffers, way)?;
-                comparison.coverage.broken_makers(way.name);
-                break;
-            }
-        }
-    }
-    Ok(())
-}
-
-/// Steps of two makers: any session and item, so that half of them go across; then some
-/// with the share of one full; and drains for a number that is no maker.
-fn makers_steps(comparison: &mut Comparison, random: &mut Random) -> Outcome {
-    let config = two_makers(random, 1);
-    let most = room(&config).iter().sum::<u64>();
-    let count = match random.between(1, 3) {
-        1 => random.between(0, most),
-        _ => most - random.between(0, 1),
-    };
-    let mut buffers = well_formed(random, &config, count);
-    for verb in REQUEST..=LAST_VERB {
-        let (_, session, item) = any_call(random, &config);
-        comparison.step(verb, session, item, &mut buffers)?;
-    }
-    for _ in 0..4 {
-        let verb = if random.one_in(3) { RELEASE } else { REQUEST };
-        let (session, item) = own_step(random, &config, &buffers, verb);
-        comparison.step(verb, session, item, &mut buffers)?;
-    }
-    let maker = any_maker(random, &config);
-    let nobody = match random.between(1, 3) {
-        1 => 0,
-        2 => 3,
-        _ => maker + (1 << random.between(8, 63)),
-    };
-    comparison.drain(nobody, limit(random), &mut buffers)?;
-    comparison.drain(maker, limit(random), &mut buffers)?;
-    comparison.drain(3 - maker, limit(random), &mut buffers)?;
-    Ok(())
-}
-
-/// Makers and shares at a start: right, and wrong in each way alone.
-fn makers_at_start(comparison: &mut Comparison, random: &mut Random) -> Outcome {
-    let config = two_makers(random, 1);
-    let ranks = forge::ranks(random, config.sessions);
-    let config = config.with_ranks(&ranks);
-    let mut answers = |config: &Config, refusal: u8, name| {
-        let mut buffers = Buffers::filled(config, 0xA5);
-        let found = comparison.start(config, &mut buffers)?;
-        match found == refusal {
-            true => Ok(()),
-            false => Err(format!("{name} is answered with {found}")),
-        }
-    };
-    let bad = Refusal::BadMakers as u8;
-    answers(&config, ACCEPTED, "two makers")?;
-    let (one, two) = (Makers::plain_list(64), [2; 64]);
-    let (sessions, items) = (config.sessions as usize, config.items as usize);
-    for list in [one, &two] {
-        let session_makers = &list[..sessions];
-        let item_makers = &list[..items];
-        answers(
-            &Config {
-                session_makers,
-                ..config
-            },
-            ACCEPTED,
-            "one maker's sessions",
-        )?;
-        answers(
-            &Config {
-                item_makers,
-                ..config
-            },
-            ACCEPTED,
-            "one maker's items",
-        )?;
-    }
-    for maker in [0, 3, random.between(4, 255) as u8] {
-        let mut list = config.session_makers.to_vec();
-        list[config.any_session(random) as usize - 1] = maker;
-        answers(
-            &Config {
-                session_makers: &list,
-                ..config
-            },
-            bad,
-            "owner of a session",
-        )?;
-        let mut list = config.item_makers.to_vec();
-        list[config.any_item(random) as usize - 1] = maker;
-        answers(
-            &Config {
-                item_makers: &list,
-                ..config
-            },
-            bad,
-            "owner of an item",
-        )?;
-    }
-    let capacity = config.capacity;
-    let [share_1, share_2] = config.shares;
-    let far = random.between(2, 1 << 40);
-    for shares in [[1, capacity - 1], [capacity - 1, 1]] {
-        answers(&Config { shares, ..config }, ACCEPTED, "a share of 1")?;
-    }
-    let two = Config::plain(config.sessions, config.items, 2);
-    answers(&two, ACCEPTED, "C = 2")?;
-    for shares in [
-        [0, capacity],
-        [capacity, 0],
-        [share_1 + 1, share_2],
-        [share_1, share_2 + random.between(1, 1 << 20)],
-        [0u64.wrapping_sub(far), capacity + far],
-        [capacity + far, 0u64.wrapping_sub(far)],
-        [share_1 + (1 << 16), share_2],
-        [share_1, share_2 + (1 << 32)],
-    ] {
-        answers(&Config { shares, ..config }, bad, "shares")?;
-    }
-    let wider = capacity + random.between(1, 20);
-    answers(
-        &Config {
-            capacity: wider,
-            ..config
-        },
-        bad,
-        "shares below C",
-    )?;
-    let one = Config {
-        capacity: 1,
-        ..config
-    };
-    for shares in [[1, 0], [0, 1], [1, 1], [u64::MAX, 2]] {
-        answers(&Config { shares, ..one }, bad, "C = 1")?;
-    }
-    not_16(comparison, random, &config)
-}
-
-/// Makers in lists of a wrong length, and bad makers beside what comes before 16.
-fn not_16(comparison: &mut Comparison, random: &mut Random, config: &Config) -> Outcome {
-    let good = [config.session_makers, config.item_makers];
-    let [shorter, longer] = [
-        good.map(|list| {
-            list[..list.len() - random.between(1, list.len() as u64) as usize].to_vec()
-        }),
-        good.map(|list| [list, &vec![1; 1 << random.between(0, 8)]].concat()),
-    ];
-    let bad_ranks = vec![1; config.ranks.len()];
-    let shares = [0, config.capacity];
-    let size = Refusal::BadSize;
-    let ranks = Refusal::BadRanks;
-    for (config, refusal, name) in [
-        (
-            Config {
-                session_makers: &shorter[0],
-                ..*config
-            },
-            size,
-            "makers of sessions: list too short",
-        ),
-        (
-            Config {
-                session_makers: &longer[0],
-                ..*config
-            },
-            size,
-            "makers of sessions: list too long",
-        ),
-        (
-            Config {
-                item_makers: &shorter[1],
-                ..*config
-            },
-            size,
-            "makers of items: list too short",
-        ),
-        (
-            Config {
-                item_makers: &longer[1],
-                ..*config
-            },
-            size,
-            "makers of items: list too long",
-        ),
-        (
-            Config {
-                item_makers: &longer[1],
-                shares,
-                ..*config
-            },
-            size,
-            "bad makers beside a wrong size",
-        ),
-        (
-            Config {
-                ranks: &bad_ranks,
-                shares,
-                ..*config
-            },
-            ranks,
-            "bad makers beside bad ranks",
-        ),
-    ] {
-        let found = comparison.start(&config, &mut Buffers::filled(&config, 0xA5))?;
-        if found != refusal as u8 {
-            return Err(format!("{name} is refused with {found}"));
-        }
-        comparison.coverage.bad_makers(name);
-    }
-    Ok(())
-}
-
 fn bad_ranks(comparison: &mut Comparison, random: &mut Random) -> Outcome {
     let drawn = forge::config(random);
-    let plain = Config::plain(drawn.sessions.max(2), drawn.items, drawn.capacity);
-    let config = if drawn.sessions > 1 { drawn } else { plain };
+    let config = Config::plain(drawn.sessions.max(2), drawn.items, drawn.capacity);
     every_bad_list(comparison, random, &config)
 }
 
@@ -1449,8 +1143,7 @@ fn damaged(comparison: &mut Comparison, random: &mut Random) -> Outcome {
     comparison.reopen(session, &mut buffers)?;
     comparison.step(verb, session, item, &mut buffers)?;
     read(comparison, random, session, &buffers)?;
-    let maker = any_maker(random, &config);
-    comparison.drain(maker, limit(random), &mut buffers)?;
+    comparison.drain(limit(random), &mut buffers)?;
     Ok(())
 }
 
@@ -1499,26 +1192,31 @@ fn any_byte(random: &mut Random, old: u8) -> u8 {
     }
 }
 
-/// A table with other numbers of sessions and items, whose records then lie elsewhere, and
-/// of the length that belongs to them. No two such numbers have tables of equal length.
+/// So many sessions more and items less give a table of equal length, whose
+/// records then lie elsewhere. A session has a record and a rank.
+const MORE_SESSIONS: u64 = ITEM_SIZE as u64 / 3;
+const LESS_ITEMS: u64 = (SESSION_SIZE as u64 + 1) / 3;
+const _: () = assert!(
+    MORE_SESSIONS * (SESSION_SIZE as u64 + 1) == LESS_ITEMS * ITEM_SIZE as u64,
+    "tables of equal length"
+);
+
 fn other_bounds(comparison: &mut Comparison, random: &mut Random) -> Outcome {
-    let [sessions, items] = [LARGEST.sessions, LARGEST.items].map(|most| random.between(1, most));
-    let config = Config::plain(sessions, items, random.between(2, 8));
+    let sessions = random.between(MORE_SESSIONS + 1, LARGEST.sessions);
+    let items = random.between(1, LARGEST.items - LESS_ITEMS);
+    let config = Config::plain(sessions, items, random.between(1, 8));
     let mut buffers = if random.one_in(2) {
         fresh(comparison, random, &config)?
     } else {
         well_formed(random, &config, 0)
     };
-    let [more, fewer] = [sessions, items].map(|number| random.between(1, number) as usize);
-    let length = table_length(more, fewer);
-    buffers.table[TABLE_SESSIONS] = more as u8;
-    buffers.table[TABLE_ITEMS] = fewer as u8;
-    buffers.table.resize(length, 0);
+    buffers.table[TABLE_SESSIONS] -= MORE_SESSIONS as u8;
+    buffers.table[TABLE_ITEMS] += LESS_ITEMS as u8;
     let (_, session, item) = any_call(random, &config);
     comparison.reopen(session, &mut buffers)?;
     comparison.step(REQUEST, session, item, &mut buffers)?;
     read(comparison, random, session, &buffers)?;
-    comparison.drain(1, limit(random), &mut buffers)?;
+    comparison.drain(limit(random), &mut buffers)?;
     Ok(())
 }
 
@@ -1535,9 +1233,6 @@ fn numbers(comparison: &mut Comparison, random: &mut Random) -> Outcome {
     comparison.step(verb, odd_session, odd_item, &mut buffers)?;
     comparison.reopen(odd_session, &mut buffers)?;
     read(comparison, random, odd_session, &buffers)?;
-    let maker = any_maker(random, &config);
-    let odd_maker = odd_number(random, maker, MAKERS as u64);
-    comparison.drain(odd_maker, limit(random), &mut buffers)?;
     Ok(())
 }
 
@@ -1547,7 +1242,7 @@ fn starts(comparison: &mut Comparison, random: &mut Random) -> Outcome {
     if random.one_in(8) {
         let sessions = random.between(1, LARGEST.sessions);
         let items = random.between(1, LARGEST.items);
-        config = Config::plain(sessions, items, random.between(2, 300));
+        config = Config::plain(sessions, items, random.between(1, 300));
     }
     if random.one_in(60) {
         config = LARGEST;
@@ -1560,11 +1255,7 @@ fn starts(comparison: &mut Comparison, random: &mut Random) -> Outcome {
         2 => config.items = odd_number(random, config.items, LARGEST.items),
         3 => config.capacity = odd_number(random, config.capacity, LARGEST.capacity),
         4 => damage(random, &mut buffers),
-        5 => {
-            (config.sessions, config.items) = (config.items, config.sessions);
-            (config.session_makers, config.item_makers) =
-                (config.item_makers, config.session_makers);
-        }
+        5 => (config.sessions, config.items) = (config.items, config.sessions),
         6 => {
             let session = config.any_session(random) as usize;
             ranks[session - 1] = any_byte(random, ranks[session - 1]);
@@ -1575,11 +1266,11 @@ fn starts(comparison: &mut Comparison, random: &mut Random) -> Outcome {
     // Bounds passed, and buffers of the length that would belong to them.
     if random.one_in(4) {
         let config = match random.between(1, 6) {
-            1 => Config::plain(LARGEST.sessions + 1, 1, 2),
-            2 => Config::plain(1, LARGEST.items + 1, 2),
+            1 => Config::plain(LARGEST.sessions + 1, 1, 1),
+            2 => Config::plain(1, LARGEST.items + 1, 1),
             3 => Config::plain(1, 1, LARGEST.capacity + 1),
-            4 => Config::plain(0, 1, 2),
-            5 => Config::plain(1, 0, 2),
+            4 => Config::plain(0, 1, 1),
+            5 => Config::plain(1, 0, 1),
             _ => Config::plain(1, 1, 0),
         };
         let mut buffers = Buffers::filled(&config, filler);
@@ -1589,7 +1280,7 @@ fn starts(comparison: &mut Comparison, random: &mut Random) -> Outcome {
         comparison.step(REQUEST, 1, 1, &mut buffers)?;
         comparison.reopen(1, &mut buffers)?;
         read(comparison, random, 1, &buffers)?;
-        comparison.drain(1, limit(random), &mut buffers)?;
+        comparison.drain(limit(random), &mut buffers)?;
     }
     Ok(())
 }
@@ -1598,8 +1289,8 @@ fn starts(comparison: &mut Comparison, random: &mut Random) -> Outcome {
 /// for the table, a report and a text; and where a session may be reopened, that.
 pub fn every_value(comparison: &mut Comparison) -> Outcome {
     let mut random = Random::new(0);
-    let config = Config::plain(2, 2, 3);
-    for count in 0..config.capacity {
+    let config = Config::plain(2, 2, 2);
+    for count in 0..=config.capacity {
         let buffers = well_formed(&mut random, &config, count);
         for place in 0..buffers.table.len() + buffers.mail.len() {
             for value in 0..=255 {
@@ -1622,11 +1313,9 @@ pub fn every_value(comparison: &mut Comparison) -> Outcome {
 pub fn every_place(comparison: &mut Comparison) -> Outcome {
     let mut random = Random::new(0);
     let (last_session, last_item) = (LARGEST.sessions, LARGEST.items);
-    let two_makers = with_owners(&mut random, Config::plain(16, 15, 40));
     let configs = [
-        (Config::plain(1, 1, 2), 1),
+        (Config::plain(1, 1, 1), 1),
         (Config::plain(3, 5, 7), 4),
-        (two_makers, 30),
         (Config::plain(16, 15, 17), 16),
         (Config::plain(17, 33, 31), 15),
         (Config::plain(last_session - 1, last_item, 65), 32),
@@ -1679,7 +1368,6 @@ fn one_change(
         read(comparison, random, session, &changed)?;
     }
     comparison.step(verb, session, item, &mut changed)?;
-    let maker = any_maker(random, config);
-    comparison.drain(maker, random.between(0, 1), &mut changed)?;
+    comparison.drain(random.between(0, 1), &mut changed)?;
     Ok(())
 }

@@ -6,14 +6,10 @@ use crate::numbers::{DELIVER_TO_ITEM, DELIVER_TO_SESSION, GROWING, TO_ITEM};
 use crate::stream::{Call, Stream, Which};
 use model::item::Item;
 use model::layout::{
-    body_at, item_at, ranks_at, read_u16, route_at, session_at, shares_at, write_u16, BODY_SIZE,
-    DIRECTION, HELD, ITEM_MAKER, MAIL_CAPACITY, MAIL_COUNT, MAIL_HEADER, QUEUE, QUEUE_LENGTH,
-    ROUTE_ITEM, ROUTE_SESSION, ROUTE_SIZE, SESSION_MAKER, SHARE_SIZE, STAGE, TABLE_HEADER,
-    TABLE_ITEMS, TABLE_SESSIONS,
+    body_at, item_at, ranks_at, read_u16, route_at, session_at, write_u16, BODY_SIZE, DIRECTION,
+    HELD, MAIL_CAPACITY, MAIL_COUNT, MAIL_HEADER, QUEUE, QUEUE_LENGTH, ROUTE_ITEM, ROUTE_SESSION,
+    ROUTE_SIZE, STAGE, TABLE_HEADER, TABLE_ITEMS, TABLE_SESSIONS,
 };
-use model::makers::{read_shares, MAKERS};
-use model::pairs::pair;
-use model::scenario::{Answering, DELIVERIES_BOUND};
 use model::session::Session;
 use model::{Answer, Calls, Config, Cycle, Drained, Text, ACCEPTED};
 use std::fmt::Debug;
@@ -40,54 +36,6 @@ impl Buffers {
         self.table[TABLE_ITEMS] = config.items as u8;
         write_u16(&mut self.mail[MAIL_CAPACITY], config.capacity as usize);
         self.set_ranks(config.ranks);
-        self.set_makers(config);
-    }
-
-    /// The makers and shares of it.
-    pub fn set_makers(&mut self, config: &Config) {
-        for (session, &maker) in (1..).zip(config.session_makers) {
-            self.session_mut(session)[SESSION_MAKER] = maker;
-        }
-        for (item, &maker) in (1..).zip(config.item_makers) {
-            self.item_mut(item)[ITEM_MAKER] = maker;
-        }
-        for (maker, &share) in (1..).zip(&config.shares) {
-            self.set_share(maker, share as u16);
-        }
-    }
-
-    /// The shares that stand in the table.
-    pub fn shares(&self) -> [u64; MAKERS] {
-        read_shares(&self.table[shares_at(self.sessions(), self.items())])
-    }
-
-    pub fn set_share(&mut self, maker: usize, share: u16) {
-        let shares = shares_at(self.sessions(), self.items());
-        let place = shares.start + SHARE_SIZE * (maker - 1);
-        write_u16(&mut self.table[place..place + SHARE_SIZE], share.into());
-    }
-
-    /// The makers of all sessions and items.
-    pub fn makers(&self) -> Vec<u8> {
-        let sessions = (1..=self.sessions()).map(|k| self.session(k)[SESSION_MAKER]);
-        let items = (1..=self.items()).map(|k| self.item(k)[ITEM_MAKER]);
-        sessions.chain(items).collect()
-    }
-
-    pub fn session_maker(&self, session: u8) -> u8 {
-        self.session(session.into())[SESSION_MAKER]
-    }
-
-    pub fn item_maker(&self, item: u8) -> u8 {
-        self.item(item.into())[ITEM_MAKER]
-    }
-
-    /// How many messages of well-formed buffers count for a maker.
-    pub fn own_count(&self, maker: u8) -> usize {
-        let owner = |place| self.session_maker(self.route(place)[ROUTE_SESSION]);
-        (0..self.count())
-            .filter(|&place| owner(place) == maker)
-            .count()
     }
 
     pub fn ranks(&self) -> &[u8] {
@@ -242,8 +190,7 @@ pub struct Comparison {
     pub coverage: Coverage,
     /// Where calls are written, if anywhere.
     pub stream: Option<Stream>,
-    /// Ranks, makers of sessions and makers of items.
-    lists: [Guarded; 3],
+    ranks: Guarded,
     table: Guarded,
     mail: Guarded,
     text: Guarded,
@@ -258,7 +205,7 @@ impl Comparison {
             subject: Box::new(subject),
             coverage: Coverage::new(),
             stream: None,
-            lists: Default::default(),
+            ranks: Guarded::default(),
             table: Guarded::default(),
             mail: Guarded::default(),
             text: Guarded::default(),
@@ -282,35 +229,24 @@ impl Comparison {
 
     pub fn start(&mut self, config: &Config, buffers: &mut Buffers) -> Result<u8, String> {
         self.load(buffers);
-        let lists = [config.ranks, config.session_makers, config.item_makers];
-        let [ranks, session_makers, item_makers] = &mut self.lists;
-        ranks.load(lists[0]);
-        session_makers.load(lists[1]);
-        item_makers.load(lists[2]);
-        let lent = Config {
-            ranks: ranks.lent(),
-            session_makers: session_makers.lent(),
-            item_makers: item_makers.lent(),
-            ..*config
-        };
+        self.ranks.load(config.ranks);
+        let lent = config.with_ranks(self.ranks.lent());
         let (table, mail) = (self.table.lent(), self.mail.lent());
         let found = self.subject.start(&lent, table, mail);
         let after = &mut self.after;
         let expected = model::start(config, &mut after.table, &mut after.mail);
-        let (numbers, lengths) = (config.numbers(), lists.map(<[u8]>::len));
-        let call = format!("start {numbers:?} with lists of {lengths:?}");
+        let (numbers, ranks) = (config.numbers(), config.ranks.len());
+        let call = format!("start {numbers:?} with {ranks} ranks");
         same_answer(&call, buffers, found, expected)?;
         self.same_buffers(&call, buffers)?;
-        for (guarded, list) in self.lists.iter().zip(lists) {
-            same_bytes(&call, buffers, "list", guarded, list)?;
-        }
+        same_bytes(&call, buffers, "ranks", &self.ranks, config.ranks)?;
         self.coverage.start(config, buffers, expected);
         if let Some(stream) = &mut self.stream {
             stream.call(&Call {
                 seldom: self.coverage.met_seldom(),
                 which: Which::Start,
                 numbers: &config.numbers(),
-                lent: &[lists[0], lists[1], lists[2], &buffers.table, &buffers.mail],
+                lent: &[config.ranks, &buffers.table, &buffers.mail],
                 answer: &[expected.into()],
                 written: &[&self.after.table, &self.after.mail],
             })?;
@@ -379,26 +315,21 @@ impl Comparison {
         Ok(expected)
     }
 
-    pub fn drain(
-        &mut self,
-        maker: u64,
-        limit: u64,
-        buffers: &mut Buffers,
-    ) -> Result<Drained, String> {
+    pub fn drain(&mut self, limit: u64, buffers: &mut Buffers) -> Result<Drained, String> {
         self.load(buffers);
         let (table, mail) = (self.table.lent(), self.mail.lent());
-        let found = self.subject.drain(maker, limit, table, mail);
+        let found = self.subject.drain(limit, table, mail);
         let after = &mut self.after;
-        let expected = model::drain(maker, limit, &mut after.table, &mut after.mail);
-        let call = format!("drain {maker} {limit}");
+        let expected = model::drain(limit, &mut after.table, &mut after.mail);
+        let call = format!("drain {limit}");
         same_answer(&call, buffers, found, expected)?;
         self.same_buffers(&call, buffers)?;
-        self.coverage.drain([maker, limit], buffers, expected);
+        self.coverage.drain(limit, buffers, expected);
         if let Some(stream) = &mut self.stream {
             stream.call(&Call {
                 seldom: self.coverage.met_seldom(),
                 which: Which::Drain,
-                numbers: &[maker, limit],
+                numbers: &[limit],
                 lent: &[&buffers.table, &buffers.mail],
                 answer: &[
                     expected.refusal.into(),
@@ -448,18 +379,6 @@ impl Comparison {
         Ok(expected)
     }
 
-    /// A pair of runs of the subject from one start: what one maker sees does not depend
-    /// on the other.
-    pub fn pair(&mut self, seed: u64) -> Result<(), String> {
-        let by = Answering {
-            calls: &*self.subject,
-            to_the_end: DELIVERIES_BOUND,
-        };
-        let counts = pair(seed, by)?;
-        self.coverage.pair(&counts);
-        Ok(())
-    }
-
     pub fn reopen(&mut self, session: u64, buffers: &mut Buffers) -> Result<u8, String> {
         self.load(buffers);
         let (table, mail) = (self.table.lent(), self.mail.lent());
@@ -500,7 +419,7 @@ impl Comparison {
 fn reopened_alone(session: u64, before: &Buffers, after: &Buffers) -> bool {
     let mut expected = before.clone();
     let record = expected.session_mut(session as usize);
-    record[..SESSION_MAKER].fill(0);
+    record.fill(0);
     record[STAGE] = GROWING;
     *after == expected
 }

@@ -3,15 +3,12 @@
 //! last of something.
 
 use crate::comparison::{Buffers, Comparison};
-use crate::forge::{
-    self, breaks, circling, reopenable, two_makers, well_formed, with_owners, Beside, NAMED,
-};
+use crate::forge::{self, breaks, circling, reopenable, well_formed, Beside, NAMED};
 use crate::numbers::{
     DELIVER_TO_ITEM, DELIVER_TO_SESSION, RELEASE, REQUEST, ROLLED_BACK, SHRINKING,
 };
 use model::layout::{BODY_SIZE, MAX_TEXT, ROUTE_SIZE, STAGE};
 use model::mailbox;
-use model::makers::MAKERS;
 use model::names::by_message;
 use model::scenario::Random;
 use model::{Config, Ending, Refusal, ACCEPTED};
@@ -22,8 +19,8 @@ const LARGEST: Config = Config::LARGEST;
 
 /// From the smallest to the largest.
 const SIZES: [Config; 10] = [
+    Config::plain(1, 1, 1),
     Config::plain(1, 1, 2),
-    Config::plain(1, 1, 3),
     Config::plain(2, 2, 2),
     Config::plain(3, 5, 16),
     Config::plain(8, 8, 64),
@@ -44,7 +41,6 @@ pub fn all(comparison: &mut Comparison) -> Outcome {
         numbers(comparison, config)?;
         limits(comparison, config)?;
         ranks(comparison, &mut random, config)?;
-        makers(comparison, &mut random, config)?;
         garbage(comparison, &mut random, config)?;
         if config.sessions > 1 {
             last_place(comparison, &mut random, config)?;
@@ -68,15 +64,9 @@ fn every_call(comparison: &mut Comparison, buffers: &Buffers) -> Outcome {
     }
     comparison.step(REQUEST, 0, 0, &mut buffers.clone())?;
     for limit in LIMITS {
-        for maker in 0..=MAKERS as u64 + 1 {
-            // Without a limit it might never end if it were accepted.
-            if comparison
-                .drain(maker, limit, &mut buffers.clone())?
-                .refusal
-                == ACCEPTED
-            {
-                return Err("these buffers are well-formed".to_string());
-            }
+        // Without a limit it might never end if it were accepted.
+        if comparison.drain(limit, &mut buffers.clone())?.refusal == ACCEPTED {
+            return Err("these buffers are well-formed".to_string());
         }
     }
     for session in 0..=1 {
@@ -103,33 +93,13 @@ fn lengths(comparison: &mut Comparison, config: &Config) -> Outcome {
         comparison.start(config, &mut buffers)?;
         every_call(comparison, &buffers)?;
     }
-    let mut start = |config: &Config| comparison.start(config, &mut right.clone());
-    for list in other_lengths(config.ranks) {
-        start(&config.with_ranks(&list))?;
-    }
-    for list in other_lengths(config.session_makers) {
-        start(&Config {
-            session_makers: &list,
-            ..*config
-        })?;
-    }
-    for list in other_lengths(config.item_makers) {
-        start(&Config {
-            item_makers: &list,
-            ..*config
-        })?;
+    let ranks = config.ranks.len();
+    for length in [0, ranks - 1, ranks + 1, 2 * ranks, ranks + (1 << 8)] {
+        let mut list = config.ranks.to_vec();
+        list.resize(length, 0);
+        comparison.start(&config.with_ranks(&list), &mut right.clone())?;
     }
     Ok(())
-}
-
-/// A list too short or too long, down to nothing.
-fn other_lengths(list: &[u8]) -> [Vec<u8>; 5] {
-    let right = list.len();
-    [0, right - 1, right + 1, 2 * right, right + (1 << 8)].map(|length| {
-        let mut other = list.to_vec();
-        other.resize(length, 1);
-        other
-    })
 }
 
 /// Numbers out of bounds, and such as would be right if they were cut off.
@@ -145,8 +115,7 @@ fn numbers(comparison: &mut Comparison, config: &Config) -> Outcome {
         sessions,
         items,
         capacity,
-        shares: [share_1, share_2],
-        ..
+        ranks: _,
     } = config;
     let mut start = |config: Config| comparison.start(&config, &mut buffers.clone());
     for sessions in odd_numbers(sessions, LARGEST.sessions) {
@@ -163,21 +132,6 @@ fn numbers(comparison: &mut Comparison, config: &Config) -> Outcome {
             capacity,
             ..*config
         })?;
-    }
-    for [share_1, share_2] in odd_numbers(share_1, capacity - 1)
-        .map(|share| [share, share_2])
-        .into_iter()
-        .chain(odd_numbers(share_2, capacity - 1).map(|share| [share_1, share]))
-    {
-        for shares in [
-            [share_1, share_2],
-            [share_1, capacity.wrapping_sub(share_1)],
-        ] {
-            start(Config { shares, ..*config })?;
-        }
-    }
-    for maker in odd_numbers(1, MAKERS as u64) {
-        comparison.drain(maker, 1, &mut buffers.clone())?;
     }
     for verb in odd_numbers(REQUEST, DELIVER_TO_SESSION) {
         comparison.step(verb, 1, 1, &mut buffers.clone())?;
@@ -204,9 +158,7 @@ fn limits(comparison: &mut Comparison, config: &Config) -> Outcome {
     let mut right = fresh(comparison, config)?;
     comparison.step(REQUEST, 1, 1, &mut right)?;
     for limit in LIMITS.into_iter().chain(2..=3) {
-        for maker in 1..=MAKERS as u64 {
-            comparison.drain(maker, limit, &mut right.clone())?;
-        }
+        comparison.drain(limit, &mut right.clone())?;
     }
     let mut bad_mail = right.clone();
     bad_mail.set_message(0, message(&right, 0).0, [0; BODY_SIZE]);
@@ -225,7 +177,10 @@ fn limits(comparison: &mut Comparison, config: &Config) -> Outcome {
 /// Every rank in turn made 0, too high, or that of another session: in the list, and
 /// in the table.
 fn ranks(comparison: &mut Comparison, random: &mut Random, config: &Config) -> Outcome {
-    let config = Config::plain(config.sessions, config.items, 2);
+    let config = Config {
+        capacity: 1,
+        ..*config
+    };
     let sessions = config.sessions as usize;
     let right = random.order(config.sessions);
     let buffers = fresh(comparison, &config.with_ranks(&right))?;
@@ -240,70 +195,14 @@ fn ranks(comparison: &mut Comparison, random: &mut Random, config: &Config) -> O
             comparison.start(&config.with_ranks(&list), &mut buffers.clone())?;
             let mut broken = buffers.clone();
             broken.set_ranks(&list);
-            each_call(comparison, &broken)?;
+            comparison.step(REQUEST, 1, 1, &mut broken.clone())?;
+            comparison.drain(u64::MAX, &mut broken.clone())?;
+            comparison.reopen(1, &mut broken.clone())?;
+            comparison.report(1, &broken)?;
+            comparison.cycle_text(1, MAX_TEXT, &broken)?;
         }
     }
     Ok(())
-}
-
-/// Each call but a start, once.
-fn each_call(comparison: &mut Comparison, buffers: &Buffers) -> Outcome {
-    comparison.step(REQUEST, 1, 1, &mut buffers.clone())?;
-    comparison.drain(1, u64::MAX, &mut buffers.clone())?;
-    comparison.reopen(1, &mut buffers.clone())?;
-    comparison.report(1, buffers)?;
-    comparison.cycle_text(1, MAX_TEXT, buffers)?;
-    Ok(())
-}
-
-/// Every owner in turn made one that is none: in the lists, and in the table; and shares
-/// of 0 and of another sum.
-fn makers(comparison: &mut Comparison, random: &mut Random, config: &Config<'static>) -> Outcome {
-    let config = with_owners(random, *config);
-    let buffers = fresh(comparison, &config)?;
-    for session_makers in with_bad(config.session_makers) {
-        let wrong = Config {
-            session_makers: &session_makers,
-            ..config
-        };
-        bad_makers(comparison, &wrong, &buffers)?;
-    }
-    for item_makers in with_bad(config.item_makers) {
-        let wrong = Config {
-            item_makers: &item_makers,
-            ..config
-        };
-        bad_makers(comparison, &wrong, &buffers)?;
-    }
-    let (capacity, [one, two]) = (config.capacity, config.shares);
-    for shares in [
-        [0, capacity],
-        [capacity, 0],
-        [one, two + 1],
-        [one + 256, two],
-        [u16::MAX.into(), capacity + 1],
-    ] {
-        bad_makers(comparison, &Config { shares, ..config }, &buffers)?;
-    }
-    Ok(())
-}
-
-/// A list of makers with each place in turn made none.
-fn with_bad(makers: &[u8]) -> impl Iterator<Item = Vec<u8>> + '_ {
-    let bad = [0, 3, 65, 129, 255].into_iter().cycle();
-    (0..makers.len()).zip(bad).map(|(place, bad)| {
-        let mut list = makers.to_vec();
-        list[place] = bad;
-        list
-    })
-}
-
-/// A start with makers or shares that are none, and each call on a table that has them.
-fn bad_makers(comparison: &mut Comparison, config: &Config, right: &Buffers) -> Outcome {
-    comparison.start(config, &mut right.clone())?;
-    let mut broken = right.clone();
-    broken.set_config(config);
-    each_call(comparison, &broken)
 }
 
 /// Any bytes, behind right and wrong numbers.
@@ -332,11 +231,9 @@ fn garbage(comparison: &mut Comparison, random: &mut Random, config: &Config) ->
 fn broken(comparison: &mut Comparison, random: &mut Random) -> Outcome {
     for way in breaks() {
         let mut times = 0;
-        let one_maker = [LARGEST, Config::plain(16, 15, 256)].map(Some);
-        for config in one_maker.into_iter().chain([None]) {
+        for config in [LARGEST, Config::plain(16, 15, 256)] {
             // Not all that is drawn can be broken so.
             let drawn = (0..20).find_map(|_| {
-                let config = config.unwrap_or_else(|| two_makers(random, 2));
                 let mut buffers = well_formed(random, &config, config.capacity / 2);
                 way.apply(random, &config, &mut buffers).then_some(buffers)
             });
@@ -390,16 +287,16 @@ fn message(buffers: &Buffers, place: usize) -> ([u8; ROUTE_SIZE], [u8; BODY_SIZE
 
 /// A release that sends a grant and resends to all others, which do not fit.
 fn full(comparison: &mut Comparison) -> Outcome {
-    let config = Config::with_room(8, 1, 6);
+    let config = Config::plain(8, 1, 6);
     let mut buffers = fresh(comparison, &config)?;
     for session in (1..=config.sessions).rev() {
         comparison.step(REQUEST, session, 1, &mut buffers)?;
-        comparison.drain(1, u64::MAX, &mut buffers)?;
+        comparison.drain(u64::MAX, &mut buffers)?;
     }
     comparison.step(RELEASE, config.sessions, 1, &mut buffers)?;
     comparison.step(DELIVER_TO_ITEM, config.sessions, 1, &mut buffers)?;
     for limit in LIMITS {
-        let ending = comparison.drain(1, limit, &mut buffers)?.ending;
+        let ending = comparison.drain(limit, &mut buffers)?.ending;
         if ending != Ending::Full as u8 {
             return Err(format!("a drain ends with {ending}"));
         }
@@ -409,10 +306,10 @@ fn full(comparison: &mut Comparison) -> Outcome {
 
 /// A clean that circles until the limit.
 fn circles(comparison: &mut Comparison, random: &mut Random) -> Outcome {
-    let config = Config::with_room(3, 2, 1);
+    let config = Config::plain(3, 2, 1);
     for limit in [0, 1, 2, 3, 4, 5, 1000, 100_000, 1 << 20] {
-        let mut buffers = circling(random, &config, 1, 1, Beside::Nothing);
-        let made = comparison.drain(1, limit, &mut buffers)?.made;
+        let mut buffers = circling(random, &config, 1, Beside::Nothing);
+        let made = comparison.drain(limit, &mut buffers)?.made;
         if made != limit {
             return Err(format!("{made} deliveries at a limit of {limit}"));
         }

@@ -7,13 +7,12 @@ use crate::numbers::{
 };
 use model::layout::{
     body_at, item_at, items_end, mail_length, ranks_at, read_u16, route_at, routes_end, session_at,
-    shares_at, table_length, within, write_u16, AWAITED, BODY_A, BODY_B, BODY_SIZE, DIRECTION,
-    HELD, HOLDER, ITEM_MAKER, ITEM_SIZE, JUNIORS, MAIL_CAPACITY, MAIL_COUNT, MAIL_HEADER,
-    MAX_CAPACITY, MAX_ITEMS, MAX_SESSIONS, QUEUE, QUEUE_LENGTH, ROUTE_ITEM, ROUTE_SESSION,
-    ROUTE_SIZE, SESSION_MAKER, SESSION_SIZE, STAGE, TABLE_HEADER, TABLE_ITEMS, TABLE_SESSIONS,
+    table_length, within, write_u16, AWAITED, BODY_SIZE, DIRECTION, HELD, HOLDER, ITEM_SIZE,
+    JUNIORS, MAIL_CAPACITY, MAIL_COUNT, MAIL_HEADER, MAX_CAPACITY, MAX_ITEMS, MAX_SESSIONS, QUEUE,
+    QUEUE_LENGTH, ROUTE_ITEM, ROUTE_SESSION, ROUTE_SIZE, SESSION_SIZE, STAGE, TABLE_HEADER,
+    TABLE_ITEMS, TABLE_SESSIONS,
 };
 use model::mailbox::count;
-use model::makers::{read_shares, write_shares, MAKERS};
 use model::{Answer, Calls, Config, Cycle, Drained, Ending, Refusal, Text, Verb, ACCEPTED};
 
 type SessionBytes = [u8; SESSION_SIZE];
@@ -111,101 +110,6 @@ fn table_well_formed(table: &[u8], size: Size) -> bool {
     }
     wrong |= !ranks_well_formed(ranks(table, size));
     !wrong && over.iter().fold(0, |all, &byte| all | byte) == 0
-}
-
-/// Who owns what, of a table whose records are well-formed.
-struct Owners {
-    /// The maker of each session and item, by its number; 0 has none.
-    sessions: [u8; MAX_SESSIONS + 1],
-    items: [u8; MAX_ITEMS + 1],
-    shares: [usize; MAKERS],
-    /// Whether there are two makers to be kept apart.
-    two: bool,
-}
-
-/// The makers and shares, if they are such and nothing in the table goes across.
-fn owners(table: &[u8], size: Size) -> Option<Owners> {
-    let shares = read_shares(&table[shares_at(size.sessions, size.items)]);
-    let mut owners = Owners {
-        sessions: [0; MAX_SESSIONS + 1],
-        items: [0; MAX_ITEMS + 1],
-        shares: shares.map(|share| share as usize),
-        two: false,
-    };
-    let mut seen = 0u64;
-    let mut wrong = owners.shares.contains(&0);
-    let mut note = |place: &mut u8, maker: u8| {
-        wrong |= maker.wrapping_sub(1) >= MAKERS as u8;
-        seen |= 1 << (maker & 3);
-        *place = maker;
-    };
-    for session in 1..=size.sessions {
-        let maker = session_record(table, session)[SESSION_MAKER];
-        note(&mut owners.sessions[session], maker);
-    }
-    for item in 1..=size.items {
-        let maker = item_record(table, size, item)[ITEM_MAKER];
-        note(&mut owners.items[item], maker);
-    }
-    owners.two = seen.count_ones() > 1;
-    if wrong || owners.two && goes_across(table, size, &owners) {
-        return None;
-    }
-    Some(owners)
-}
-
-/// Whether a record names a session or an item of another maker.
-fn goes_across(table: &[u8], size: Size, owners: &Owners) -> bool {
-    let mut across = false;
-    for session in 1..=size.sessions {
-        let record = session_record(table, session);
-        let maker = owners.sessions[session];
-        let other = |owner: u8| owner != 0 && owner != maker;
-        across |= other(owners.items[usize::from(record[AWAITED])]);
-        let mut held = held(record);
-        while held != 0 {
-            across |= other(owners.items[held.trailing_zeros() as usize + 1]);
-            held &= held - 1;
-        }
-        for (initiator, &junior) in (1..).zip(&record[JUNIORS]) {
-            across |= junior != 0 && other(owners.sessions[initiator]);
-            across |= other(owners.sessions[usize::from(junior)]);
-        }
-    }
-    for item in 1..=size.items {
-        let record = item_record(table, size, item);
-        let maker = owners.items[item];
-        let other = |session: u8| {
-            let owner = owners.sessions[usize::from(session)];
-            owner != 0 && owner != maker
-        };
-        across |= other(record[HOLDER]);
-        for &waiting in &record[QUEUE] {
-            across |= other(waiting);
-        }
-    }
-    across
-}
-
-/// How many messages each maker has, if none goes across, each has room for its own,
-/// and the shares sum to the capacity. The entries themselves are well-formed.
-fn counts(mail: &[u8], capacity: usize, owners: &Owners) -> Option<[usize; MAKERS]> {
-    let count = count(mail);
-    let mut counts = [0; MAKERS];
-    let mut across = false;
-    for place in 0..count {
-        let (route, body) = (&mail[route_at(place)], body(mail, capacity, place));
-        let maker = owners.sessions[usize::from(route[ROUTE_SESSION])];
-        counts[usize::from(maker) - 1] += 1;
-        across |= owners.items[usize::from(route[ROUTE_ITEM])] != maker;
-        for field in [BODY_A, BODY_B] {
-            let owner = owners.sessions[usize::from(body[field])];
-            across |= owner != 0 && owner != maker;
-        }
-    }
-    let [share_1, share_2] = owners.shares;
-    let fits = counts[0] <= share_1 && counts[1] <= share_2 && share_1 + share_2 == capacity;
-    (fits && !across).then_some(counts)
 }
 
 /// The rank of each session.
@@ -461,37 +365,21 @@ fn start(config: &Config, table: &mut [u8], mail: &mut [u8]) -> Result<u8, Refus
     let (Some(sessions), Some(items), Some(capacity)) = numbers else {
         return Err(Refusal::BadSize);
     };
-    let lengths = [table.len(), mail.len()];
-    let lists = [config.ranks, config.session_makers, config.item_makers];
-    if lengths != [config.table_length(), config.mail_length()]
-        || lists.map(<[u8]>::len) != [sessions, sessions, items]
-    {
+    let lengths = [table.len(), mail.len(), config.ranks.len()];
+    if lengths != [config.table_length(), config.mail_length(), sessions] {
         return Err(Refusal::BadSize);
     }
     if !ranks_well_formed(config.ranks) {
         return Err(Refusal::BadRanks);
-    }
-    let mut owners = config.session_makers.iter().chain(config.item_makers);
-    let known = owners.all(|&owner| owner == 1 || owner == 2);
-    let [one, two] = config.shares;
-    if !known || one == 0 || two == 0 || one.checked_add(two) != Some(config.capacity) {
-        return Err(Refusal::BadMakers);
     }
     table.fill(0);
     mail.fill(0);
     table[TABLE_SESSIONS] = sessions as u8;
     table[TABLE_ITEMS] = items as u8;
     for session in 1..=sessions {
-        let record = &mut table[session_at(session)];
-        record[STAGE] = GROWING;
-        record[SESSION_MAKER] = config.session_makers[session - 1];
-    }
-    for item in 1..=items {
-        table[item_at(sessions, item)][ITEM_MAKER] = config.item_makers[item - 1];
+        table[session_at(session)][STAGE] = GROWING;
     }
     table[ranks_at(sessions, items)].copy_from_slice(config.ranks);
-    let shares = config.shares.map(|share| share as u16);
-    write_shares(&mut table[shares_at(sessions, items)], shares);
     write_u16(&mut mail[MAIL_CAPACITY], capacity);
     Ok(ACCEPTED)
 }
@@ -500,7 +388,9 @@ fn start(config: &Config, table: &mut [u8], mail: &mut [u8]) -> Result<u8, Refus
 /// carries, and the session.
 fn judge_reading(session: u64, table: &[u8]) -> Result<(Size, u8), Refusal> {
     let size = size(table).ok_or(Refusal::BadSize)?;
-    judge_table(table, size)?;
+    if !table_well_formed(table, size) {
+        return Err(Refusal::BadTable);
+    }
     let session = within(session, size.sessions).ok_or(Refusal::BadNumber)?;
     Ok((size, session as u8))
 }
@@ -591,17 +481,11 @@ fn step(
     mail: &mut [u8],
 ) -> Result<Answer, Refusal> {
     let verb = Verb::decode(verb).ok_or(Refusal::BadVerb)?;
-    let judged = judge(table, mail)?;
-    let Judged { size, capacity, .. } = judged;
+    let (size, capacity) = judge(table, mail)?;
     let session = within(session, size.sessions).ok_or(Refusal::BadNumber)?;
     let item = within(item, size.items).ok_or(Refusal::BadNumber)?;
     let (t, x) = (session as u8, item as u8);
-    let maker = judged.owners.sessions[session];
-    if verb != Verb::Release && maker != judged.owners.items[item] {
-        return Err(Refusal::OtherMaker);
-    }
     let count = count(mail);
-    let (own, share) = judged.room(maker.into());
 
     let mut sends = Sends::new();
     let mut answer = Answer::default();
@@ -633,7 +517,7 @@ fn step(
                 record[STAGE] = SHRINKING;
                 record[JUNIORS].fill(0);
             }
-            if own + sends.count > share {
+            if count + sends.count > capacity {
                 return Err(Refusal::MailFull);
             }
             table[session_at(session)].copy_from_slice(&record);
@@ -648,7 +532,7 @@ fn step(
             let place = find(mail, count, route).ok_or(Refusal::NoMessage)?;
             let body = body(mail, capacity, place);
             let (record, joined) = receive(table, size, route, body, &mut sends, &mut answer);
-            if own - 1 + sends.count > share {
+            if count - 1 + sends.count > capacity {
                 return Err(Refusal::MailFull);
             }
             record.write(table, size, route);
@@ -664,97 +548,56 @@ fn step(
     Ok(answer)
 }
 
-/// What well-formed buffers carry.
-struct Judged {
-    size: Size,
-    capacity: usize,
-    owners: Owners,
-    /// The messages of each maker.
-    counts: [usize; MAKERS],
-}
-
-impl Judged {
-    /// How many messages a maker has, and how many it may have.
-    fn room(&self, maker: usize) -> (usize, usize) {
-        (self.counts[maker - 1], self.owners.shares[maker - 1])
-    }
-}
-
-/// The cause that lies in a table of the right length.
-fn judge_table(table: &[u8], size: Size) -> Result<Owners, Refusal> {
+/// The causes that lie in the buffers; the numbers that these carry.
+fn judge(table: &[u8], mail: &[u8]) -> Result<(Size, usize), Refusal> {
+    let size = size(table).ok_or(Refusal::BadSize)?;
+    let capacity = capacity(mail).ok_or(Refusal::BadSize)?;
     if !table_well_formed(table, size) {
         return Err(Refusal::BadTable);
     }
-    owners(table, size).ok_or(Refusal::BadTable)
-}
-
-/// The causes that lie in the buffers.
-fn judge(table: &[u8], mail: &[u8]) -> Result<Judged, Refusal> {
-    let size = size(table).ok_or(Refusal::BadSize)?;
-    let capacity = capacity(mail).ok_or(Refusal::BadSize)?;
-    let owners = judge_table(table, size)?;
     if !mail_well_formed(mail, capacity, size) {
         return Err(Refusal::BadMail);
     }
-    let counts = counts(mail, capacity, &owners).ok_or(Refusal::BadMail)?;
-    Ok(Judged {
-        size,
-        capacity,
-        owners,
-        counts,
-    })
+    Ok((size, capacity))
 }
 
-/// The buffers are judged once. The messages left are those before `kept`, of the other
-/// maker, and those from `next` on and before `end`: the delivered ones leave a gap
-/// until the drain ends, or until what is sent finds no room at the end.
-fn drain(maker: u64, limit: u64, table: &mut [u8], mail: &mut [u8]) -> Result<Drained, Refusal> {
-    let judged = judge(table, mail)?;
-    let Judged { size, capacity, .. } = judged;
-    let maker = within(maker, MAKERS).ok_or(Refusal::BadNumber)?;
-    let (mut own, share) = judged.room(maker);
-    let owners = judged.owners;
-    let (mut kept, mut next, mut end) = (0, 0, count(mail));
+/// The buffers are judged once. The messages left are those from `front` on and
+/// before `end`: the delivered ones stay in front of them until the drain ends,
+/// or until what is sent finds no room behind them.
+fn drain(limit: u64, table: &mut [u8], mail: &mut [u8]) -> Result<Drained, Refusal> {
+    let (size, capacity) = judge(table, mail)?;
+    let (mut front, mut end) = (0, count(mail));
     let mut made = 0;
     let mut sends = Sends::new();
     let ending = loop {
-        if own == 0 {
+        if front == end {
             break Ending::Empty;
         }
-        while usize::from(owners.sessions[usize::from(mail[route_at(next)][ROUTE_SESSION])])
-            != maker
-        {
-            mail.copy_within(route_at(next), route_at(kept).start);
-            mail.copy_within(body_at(capacity, next), body_at(capacity, kept).start);
-            kept += 1;
-            next += 1;
-        }
-        let route = mail[route_at(next)].try_into().unwrap();
-        let body = body(mail, capacity, next);
+        let route = mail[route_at(front)].try_into().unwrap();
+        let body = body(mail, capacity, front);
         sends.count = 0;
         let (record, _) = receive(table, size, route, body, &mut sends, &mut Answer::default());
-        if own - 1 + sends.count > share {
+        if end - front - 1 + sends.count > capacity {
             break Ending::Full;
         }
         if made == limit {
             break Ending::Limit;
         }
         record.write(table, size, route);
-        next += 1;
+        front += 1;
         made += 1;
-        own = own - 1 + sends.count;
         if end + sends.count > capacity {
-            remove(mail, capacity, end, kept, next - kept);
-            end -= next - kept;
-            next = kept;
+            remove(mail, capacity, end, 0, front);
+            end -= front;
+            front = 0;
         }
         append(mail, capacity, end, answering(route), &sends);
         end += sends.count;
     };
-    if next > kept {
-        remove(mail, capacity, end, kept, next - kept);
+    if front > 0 {
+        remove(mail, capacity, end, 0, front);
     }
-    write_u16(&mut mail[MAIL_COUNT], end - (next - kept));
+    write_u16(&mut mail[MAIL_COUNT], end - front);
     Ok(Drained {
         refusal: ACCEPTED,
         made,
@@ -763,7 +606,7 @@ fn drain(maker: u64, limit: u64, table: &mut [u8], mail: &mut [u8]) -> Result<Dr
 }
 
 fn reopen(session: u64, table: &mut [u8], mail: &[u8]) -> Result<u8, Refusal> {
-    let Judged { size, capacity, .. } = judge(table, mail)?;
+    let (size, capacity) = judge(table, mail)?;
     let session = within(session, size.sessions).ok_or(Refusal::BadNumber)?;
     let record = session_record(table, session);
     let done = match record[STAGE] {
@@ -774,7 +617,7 @@ fn reopen(session: u64, table: &mut [u8], mail: &[u8]) -> Result<u8, Refusal> {
         return Err(Refusal::InUse);
     }
     let record = &mut table[session_at(session)];
-    record[..SESSION_MAKER].fill(0);
+    record.fill(0);
     record[STAGE] = GROWING;
     Ok(ACCEPTED)
 }
@@ -1099,8 +942,8 @@ impl Calls for Fast {
         report(session, table).unwrap_or_else(Cycle::from)
     }
 
-    fn drain(&self, maker: u64, limit: u64, table: &mut [u8], mail: &mut [u8]) -> Drained {
-        drain(maker, limit, table, mail).unwrap_or_else(Drained::from)
+    fn drain(&self, limit: u64, table: &mut [u8], mail: &mut [u8]) -> Drained {
+        drain(limit, table, mail).unwrap_or_else(Drained::from)
     }
 
     fn cycle_text(&self, session: u64, table: &[u8], text: &mut [u8]) -> Text {

@@ -6,150 +6,17 @@ use crate::numbers::{
     kind, CLEANING, GROWING, ROLLED_BACK, SHRINKING, TO_ITEM, TO_SESSION, WAITING, WITHDRAWING,
 };
 use model::layout::{
-    body_at, mail_length, route_at, routes_end, write_u16, AWAITED, BODY_A, BODY_B, BODY_SIZE,
-    DIRECTION, HELD, HOLDER, ITEM_MAKER, JUNIORS, KIND, MAIL_CAPACITY, MAX_ITEMS, MAX_SESSIONS,
-    QUEUE, QUEUE_LENGTH, ROUTE_ITEM, ROUTE_SESSION, ROUTE_SIZE, SESSION_MAKER, STAGE,
+    body_at, mail_length, route_at, routes_end, AWAITED, BODY_A, BODY_B, BODY_SIZE, DIRECTION,
+    HELD, HOLDER, JUNIORS, KIND, MAX_ITEMS, MAX_SESSIONS, QUEUE, QUEUE_LENGTH, ROUTE_ITEM,
+    ROUTE_SESSION, ROUTE_SIZE, STAGE,
 };
 use model::mailbox::{self, Direction};
-use model::makers::MAKERS;
 use model::names::{by_message, Named, Part};
 use model::scenario::Random;
-use model::{Config, Makers, Ranks, Refusal};
+use model::{Config, Ranks, Refusal};
 
-/// Makers in no order, of which a part is a list of owners.
-const OWNERS: [u8; 1 << 12] = {
-    let mut owners = [1; 1 << 12];
-    let mut bits = 1u32;
-    let mut k = 0;
-    while k < owners.len() {
-        bits = bits.wrapping_mul(1_664_525).wrapping_add(1_013_904_223);
-        owners[k] += (bits >> 31) as u8;
-        k += 1;
-    }
-    owners
-};
-
-/// Any owners for so many sessions or items, sometimes all the same.
-fn owners(random: &mut Random, number: u64) -> &'static [u8] {
-    const ALL_OF_2: [u8; MAX_SESSIONS] = [2; MAX_SESSIONS];
-    let number = number as usize;
-    match random.between(1, 12) {
-        1 => &ALL_OF_2[..number],
-        2 => Makers::plain_list(number),
-        _ => {
-            let first = random.between(0, (OWNERS.len() - number) as u64) as usize;
-            &OWNERS[first..][..number]
-        }
-    }
-}
-
-/// The same with any shares of this capacity, which is 2 or more.
-pub fn with_capacity<'a>(random: &mut Random, config: Config<'a>, capacity: u64) -> Config<'a> {
-    let share = match random.between(1, 4) {
-        1 => 1,
-        2 => capacity - 1,
-        _ => random.between(1, capacity - 1),
-    };
-    Config {
-        capacity,
-        shares: [share, capacity - share],
-        ..config
-    }
-}
-
-/// The same with any owners and shares.
-pub fn with_owners(random: &mut Random, config: Config<'static>) -> Config<'static> {
-    let config = Config {
-        session_makers: owners(random, config.sessions),
-        item_makers: owners(random, config.items),
-        ..config
-    };
-    with_capacity(random, config, config.capacity)
-}
-
-/// The numbers of a maker's sessions or items.
-fn numbers_of(owners: &[u8], maker: u8) -> Vec<u8> {
-    let numbered = (1..).zip(owners);
-    let own = numbered.filter(|(_, &owner)| owner == maker);
-    own.map(|(number, _)| number).collect()
-}
-
-pub fn sessions_of(config: &Config, maker: u8) -> Vec<u8> {
-    numbers_of(config.session_makers, maker)
-}
-
-pub fn items_of(config: &Config, maker: u8) -> Vec<u8> {
-    numbers_of(config.item_makers, maker)
-}
-
-fn session_maker(config: &Config, session: u8) -> u8 {
-    config.session_makers[usize::from(session) - 1]
-}
-
-/// Any of these, of which there are some.
-fn any_of(random: &mut Random, numbers: &[u8]) -> u8 {
-    *random.pick(numbers).expect("some numbers")
-}
-
-/// The maker that has most sessions and items, and how many of both it has.
-pub fn largest_maker(config: &Config) -> (u8, usize) {
-    let of = |maker| {
-        sessions_of(config, maker)
-            .len()
-            .min(items_of(config, maker).len())
-    };
-    match of(1) >= of(2) {
-        true => (1, of(1)),
-        false => (2, of(2)),
-    }
-}
-
-/// Whether both makers have at least so many sessions and items.
-pub fn both_have(config: &Config, number: usize) -> bool {
-    let has = |maker| {
-        let own = [sessions_of(config, maker), items_of(config, maker)];
-        own.iter().all(|numbers| numbers.len() >= number)
-    };
-    has(1) && has(2)
-}
-
-/// How many messages each maker can have: none without a session and an item.
-pub fn room(config: &Config) -> [u64; MAKERS] {
-    let room = |maker: u8| {
-        let able = !sessions_of(config, maker).is_empty() && !items_of(config, maker).is_empty();
-        u64::from(able) * config.shares[usize::from(maker) - 1]
-    };
-    [room(1), room(2)]
-}
-
-/// Whose messages these are, so many if there is room for them.
-fn makers_of_mail(random: &mut Random, mut room: [u64; MAKERS], messages: u64) -> Vec<u8> {
-    let number = messages.min(room.iter().sum());
-    let maker = |_| {
-        let first = random.between(1, room[0] + room[1]) <= room[0];
-        let maker = if first { 1 } else { 2 };
-        room[maker - 1] -= 1;
-        maker as u8
-    };
-    (0..number).map(maker).collect()
-}
-
-/// Two makers, each with so many sessions and items or more, and any shares.
-pub fn two_makers(random: &mut Random, least: usize) -> Config<'static> {
-    loop {
-        let drawn = config(random);
-        let both = 2 * least as u64;
-        let (sessions, items) = (drawn.sessions.max(both), drawn.items.max(both));
-        let wider = Config::plain(sessions, items, drawn.capacity);
-        let config = with_owners(random, wider);
-        if both_have(&config, least) {
-            return config;
-        }
-    }
-}
-
-/// Mostly small numbers, so that messages and records often fit each other; of one maker
-/// or of two.
+/// A plain config: mostly small numbers, so that messages and records often fit
+/// each other.
 pub fn config(random: &mut Random) -> Config<'static> {
     let number = |random: &mut Random, max| match random.between(1, 20) {
         1 => random.between(9, max),
@@ -159,16 +26,12 @@ pub fn config(random: &mut Random) -> Config<'static> {
     let sessions = number(random, Config::LARGEST.sessions);
     let items = number(random, Config::LARGEST.items);
     let capacity = match random.between(1, 10) {
-        1 => 2,
-        2 => 3,
+        1 => 1,
+        2 => 2,
         3 => random.between(17, 100),
-        _ => random.between(4, 16),
+        _ => random.between(3, 16),
     };
-    let plain = Config::plain(sessions, items, capacity);
-    match random.between(1, 3) {
-        1 => with_owners(random, plain),
-        _ => plain,
-    }
+    Config::plain(sessions, items, capacity)
 }
 
 /// Ranks for so many sessions: plain, reversed or in any order, which for few is
@@ -215,15 +78,9 @@ impl Filling {
     }
 }
 
-/// Any well-formed buffers with the numbers, makers and shares of a config, any ranks
-/// and so many messages, if there is room for them.
+/// Any well-formed buffers with the numbers of a config, any ranks and so many
+/// messages.
 pub fn well_formed(random: &mut Random, config: &Config, messages: u64) -> Buffers {
-    let makers = makers_of_mail(random, room(config), messages);
-    with_messages_of(random, config, &makers)
-}
-
-/// The same with messages of these makers.
-pub fn with_messages_of(random: &mut Random, config: &Config, makers: &[u8]) -> Buffers {
     let mut buffers = Buffers::filled(config, 0);
     buffers.set_config(config);
     for session in 1..=config.sessions as usize {
@@ -232,9 +89,9 @@ pub fn with_messages_of(random: &mut Random, config: &Config, makers: &[u8]) -> 
     for item in 1..=config.items as usize {
         item_record(random, config, buffers.item_mut(item));
     }
-    buffers.set_count(makers.len());
-    for (place, &maker) in makers.iter().enumerate() {
-        let (route, body) = message(random, config, maker);
+    buffers.set_count(messages as usize);
+    for place in 0..messages as usize {
+        let (route, body) = message(random, config);
         buffers.set_message(place, route, body);
     }
     buffers.set_ranks(&ranks(random, config.sessions));
@@ -245,22 +102,16 @@ pub fn with_messages_of(random: &mut Random, config: &Config, makers: &[u8]) -> 
 const AWAITING: [u8; 3] = [WAITING, CLEANING, WITHDRAWING];
 const AT_REST: [u8; 3] = [GROWING, SHRINKING, ROLLED_BACK];
 
-/// What the record of a fresh session becomes; its maker stands there.
 fn session_record(random: &mut Random, config: &Config, record: &mut [u8]) {
-    let items = items_of(config, record[SESSION_MAKER]);
-    let sessions = sessions_of(config, record[SESSION_MAKER]);
     // Growing and waiting more often than the rest.
     let stage = match random.between(1, 9) as u8 {
         7 | 8 => WAITING,
         9 => GROWING,
         stage => stage,
     };
-    record[STAGE] = GROWING;
-    if !AWAITING.contains(&stage) {
-        record[STAGE] = stage;
-    } else if let Some(&item) = random.pick(&items) {
-        record[STAGE] = stage;
-        record[AWAITED] = item;
+    record[STAGE] = stage;
+    if AWAITING.contains(&stage) {
+        record[AWAITED] = config.any_item(random) as u8;
     }
     let held = match Filling::draw(random) {
         Filling::None => 0,
@@ -268,11 +119,10 @@ fn session_record(random: &mut Random, config: &Config, record: &mut [u8]) {
         Filling::Any => random.bits(),
         Filling::All => !0,
     };
-    let own = items.iter().fold(0, |own, item| own | 1 << (item - 1));
-    record[HELD].copy_from_slice(&(held & own).to_le_bytes());
+    let known = !0 >> (MAX_ITEMS as u64 - config.items);
+    record[HELD].copy_from_slice(&(held & known).to_le_bytes());
     let filling = Filling::draw(random);
-    for &initiator in &sessions {
-        let junior = &mut record[JUNIORS][usize::from(initiator) - 1];
+    for junior in &mut record[JUNIORS][..config.sessions as usize] {
         let stored = match filling {
             Filling::None => false,
             Filling::Few => random.one_in(8),
@@ -280,24 +130,22 @@ fn session_record(random: &mut Random, config: &Config, record: &mut [u8]) {
             Filling::All => true,
         };
         if stored {
-            *junior = any_of(random, &sessions);
+            *junior = config.any_session(random) as u8;
         }
     }
 }
 
 fn item_record(random: &mut Random, config: &Config, record: &mut [u8]) {
-    let sessions = sessions_of(config, record[ITEM_MAKER]);
     let holder = match random.between(1, 5) {
         1 => 0,
-        _ => random.pick(&sessions).copied().unwrap_or(0),
+        _ => config.any_session(random),
     };
-    let others = sessions.len() as u64 - u64::from(holder != 0);
+    let others = config.sessions - u64::from(holder != 0);
     let length = Filling::draw(random).of(random, others) as usize;
-    set_item(random, config, record, holder, length);
+    set_item(random, config, record, holder as u8, length);
 }
 
-/// An item with this holder, or 0, for which so many others of its maker wait, or all of
-/// them, in any order. Its maker stands there.
+/// An item with this holder, or 0, for which so many others wait, in any order.
 pub fn set_item(
     random: &mut Random,
     config: &Config,
@@ -305,11 +153,10 @@ pub fn set_item(
     holder: u8,
     length: usize,
 ) {
-    let mut others = sessions_of(config, record[ITEM_MAKER]);
-    others.retain(|&session| session != holder);
-    let length = length.min(others.len());
+    let others = (1..=config.sessions as u8).filter(|&session| session != holder);
+    record.fill(0);
     record[HOLDER] = holder;
-    set_queue(record, &random.some_of(others, length));
+    set_queue(record, &random.some_of(others.collect(), length));
 }
 
 fn set_queue(record: &mut [u8], queue: &[u8]) {
@@ -318,13 +165,13 @@ fn set_queue(record: &mut [u8], queue: &[u8]) {
     record[QUEUE][..queue.len()].copy_from_slice(queue);
 }
 
-/// Well-formed buffers in which so many sessions of a maker wait in a cycle; one of
-/// them. They may stand in other queues too: in those of items that nobody holds, and
+/// Well-formed buffers in which so many sessions wait in a cycle; one of them.
+/// They may stand in other queues too: in those of items that nobody holds, and
 /// of higher-numbered ones than the one at which they wait.
-pub fn cycle(random: &mut Random, config: &Config, maker: u8, members: usize) -> (Buffers, u8) {
+pub fn cycle(random: &mut Random, config: &Config, members: usize) -> (Buffers, u8) {
     let mut buffers = well_formed(random, config, 0);
-    let sessions = random.some_of(sessions_of(config, maker), members);
-    let items = random.some_of(items_of(config, maker), members);
+    let sessions = random.some_of((1..=config.sessions as u8).collect(), members);
+    let items = random.some_of((1..=config.items as u8).collect(), members);
     let holders = sessions.iter().cycle().skip(1);
     for (&item, &holder) in items.iter().zip(holders) {
         let others = Filling::draw(random).of(random, config.sessions - 1) as usize;
@@ -337,7 +184,7 @@ pub fn cycle(random: &mut Random, config: &Config, maker: u8, members: usize) ->
         );
     }
     for (&session, &last) in sessions.iter().zip(&items) {
-        for item in items_of(config, maker) {
+        for item in 1..=last {
             let record = buffers.item_mut(item.into());
             let mut queue = queue(record).to_vec();
             if item == last && !queue.contains(&session) {
@@ -374,17 +221,14 @@ fn has_sessions(kind: u8) -> bool {
     matches!(kind, kind::PROBE | kind::CLEAN | kind::ABORT)
 }
 
-type Message = ([u8; ROUTE_SIZE], [u8; BODY_SIZE]);
-
-/// Any message of a maker, which has a session and an item.
-fn message(random: &mut Random, config: &Config, maker: u8) -> Message {
+fn message(random: &mut Random, config: &Config) -> ([u8; ROUTE_SIZE], [u8; BODY_SIZE]) {
     let direction = if random.one_in(2) {
         TO_ITEM
     } else {
         TO_SESSION
     };
-    let session = any_of(random, &sessions_of(config, maker));
-    let item = any_of(random, &items_of(config, maker));
+    let session = config.any_session(random) as u8;
+    let item = config.any_item(random) as u8;
     let route = [direction, session, item];
     (route, body(random, config, route))
 }
@@ -399,9 +243,8 @@ fn body(random: &mut Random, config: &Config, route: [u8; ROUTE_SIZE]) -> [u8; B
     let kind = kinds[random.between(0, kinds.len() as u64 - 1) as usize];
     let mut body = [kind, 0, 0];
     if has_sessions(kind) {
-        let sessions = sessions_of(config, session_maker(config, route[ROUTE_SESSION]));
-        body[BODY_A] = any_of(random, &sessions);
-        body[BODY_B] = any_of(random, &sessions);
+        body[BODY_A] = config.any_session(random) as u8;
+        body[BODY_B] = config.any_session(random) as u8;
     }
     if kind == kind::ABORT || kind == kind::CLEAN && random.one_in(3) {
         body[BODY_A] = route[ROUTE_SESSION];
@@ -417,45 +260,33 @@ pub enum Routes {
     OneSessionAndItem,
 }
 
-/// Any well-formed buffers with a full mail, half of which goes in one direction: full of
-/// all messages for which there is room, or of those of one item's maker.
+/// Any well-formed buffers with a full mail, half of which goes in one direction.
 pub fn full_mail(random: &mut Random, config: &Config, routes: Routes) -> Buffers {
-    let mut room = room(config);
-    let maker = if random.between(1, room[0] + room[1]) <= room[0] {
-        1
-    } else {
-        2
-    };
-    if routes != Routes::Any {
-        room[2 - usize::from(maker)] = 0;
-    }
-    let makers = makers_of_mail(random, room, config.capacity);
-    let mut buffers = with_messages_of(random, config, &makers);
-    let one_session = any_of(random, &sessions_of(config, maker));
-    let one_item = any_of(random, &items_of(config, maker));
-    let mut to_items = makers.len() as u64 / 2;
-    for (place, &maker) in makers.iter().enumerate() {
-        let direction = if random.between(1, (makers.len() - place) as u64) <= to_items {
+    let mut buffers = well_formed(random, config, 0);
+    buffers.set_count(config.capacity as usize);
+    let one_session = config.any_session(random) as u8;
+    let one_item = config.any_item(random) as u8;
+    let mut to_items = config.capacity / 2;
+    for place in 0..buffers.count() {
+        let direction = if random.between(1, config.capacity - place as u64) <= to_items {
             to_items -= 1;
             TO_ITEM
         } else {
             TO_SESSION
         };
-        let (mut route, _) = message(random, config, maker);
-        route[DIRECTION] = direction;
-        if routes != Routes::Any {
-            route[ROUTE_ITEM] = one_item;
-        }
-        if routes == Routes::OneSessionAndItem {
-            route[ROUTE_SESSION] = one_session;
-        }
+        let session = config.any_session(random) as u8;
+        let route = match routes {
+            Routes::Any => [direction, session, config.any_item(random) as u8],
+            Routes::OneItem => [direction, session, one_item],
+            Routes::OneSessionAndItem => [direction, one_session, one_item],
+        };
         buffers.set_message(place, route, body(random, config, route));
     }
     buffers
 }
 
-/// Moves the messages on a route, but for the one kept, to another session of its maker
-/// or, where there is none, to another item or the other direction, with new bodies.
+/// Moves the messages on a route, but for the one kept, to another session or,
+/// where there is none, to another item or the other direction, with new bodies.
 pub fn clear_route(
     random: &mut Random,
     config: &Config,
@@ -464,17 +295,20 @@ pub fn clear_route(
     kept: Option<usize>,
 ) {
     let [direction, session, item] = route;
-    let sessions = others(config, session);
-    let mut items = items_of(config, session_maker(config, session));
-    items.retain(|&other| other != item);
+    let other = |random: &mut Random, number: u8, max: u64| {
+        let steps = random.between(1, max - 1);
+        ((u64::from(number) - 1 + steps) % max + 1) as u8
+    };
     for moved in 0..buffers.count() {
         if Some(moved) == kept || buffers.route(moved) != route {
             continue;
         }
-        let route = match (random.pick(&sessions), random.pick(&items)) {
-            (Some(&other), _) => [direction, other, item],
-            (None, Some(&other)) => [direction, session, other],
-            (None, None) => [TO_ITEM + TO_SESSION - direction, session, item],
+        let route = if config.sessions > 1 {
+            [direction, other(random, session, config.sessions), item]
+        } else if config.items > 1 {
+            [direction, session, other(random, item, config.items)]
+        } else {
+            [TO_ITEM + TO_SESSION - direction, session, item]
         };
         buffers.set_message(moved, route, body(random, config, route));
     }
@@ -543,7 +377,7 @@ pub const NAMED: [(&str, Named); 27] = [
 /// Well-formed buffers that do not name this session, which is shrinking and holds
 /// nothing or is rolled back: it may be reopened. It can have stored probes and,
 /// if it is rolled back, items in its mask. Every message names a session, so
-/// there is none of its maker where it is the only one.
+/// there is none where it is the only one.
 pub fn reopenable(
     random: &mut Random,
     config: &Config,
@@ -551,12 +385,8 @@ pub fn reopenable(
     session: u8,
     stage: u8,
 ) -> Buffers {
-    let (maker, mut room) = (session_maker(config, session), room(config));
-    if others(config, session).is_empty() {
-        room[usize::from(maker) - 1] = 0;
-    }
-    let makers = makers_of_mail(random, room, messages);
-    let mut buffers = with_messages_of(random, config, &makers);
+    let messages = if config.sessions > 1 { messages } else { 0 };
+    let mut buffers = well_formed(random, config, messages);
     for owner in 1..=config.sessions as usize {
         let juniors = &mut buffers.session_mut(owner)[JUNIORS];
         juniors[usize::from(session) - 1] = 0;
@@ -575,7 +405,7 @@ pub fn reopenable(
     }
     for place in 0..buffers.count() {
         while !by_message(mailbox::message(&buffers.mail, place), session).is_empty() {
-            let (route, body) = message(random, config, maker);
+            let (route, body) = message(random, config);
             buffers.set_message(place, route, body);
         }
     }
@@ -588,31 +418,19 @@ pub fn reopenable(
     buffers
 }
 
-/// The other sessions of a session's maker.
-pub fn others(config: &Config, session: u8) -> Vec<u8> {
-    let mut others = sessions_of(config, session_maker(config, session));
-    others.retain(|&other| other != session);
-    others
+/// Any session but this one. There must be another.
+fn other(random: &mut Random, config: &Config, session: u8) -> u8 {
+    let steps = random.between(1, config.sessions - 1);
+    ((u64::from(session) - 1 + steps) % config.sessions + 1) as u8
 }
 
-/// A session with others of its maker and an item, if there is one.
-pub fn with_others(random: &mut Random, config: &Config) -> Option<u8> {
-    let able = |&session: &u8| {
-        let maker = session_maker(config, session);
-        !others(config, session).is_empty() && !items_of(config, maker).is_empty()
-    };
-    let sessions: Vec<u8> = (1..=config.sessions as u8).filter(able).collect();
-    random.pick(&sessions).copied()
-}
-
-/// A session stores a probe of others that does not name it.
+/// A session stores a probe that does not name it.
 pub fn store_other(random: &mut Random, config: &Config, buffers: &mut Buffers, session: u8) {
-    let others = others(config, session);
-    let [initiator, junior] = [0; 2].map(|_| any_of(random, &others));
+    let [initiator, junior] = [0; 2].map(|_| other(random, config, session));
     buffers.session_mut(session.into())[JUNIORS][usize::from(initiator) - 1] = junior;
 }
 
-/// Names a session at one place more: one with others of its maker and an item.
+/// Names a session at one place more. There must be another session.
 pub fn name(
     random: &mut Random,
     config: &Config,
@@ -620,17 +438,15 @@ pub fn name(
     session: u8,
     named: Named,
 ) {
-    let others = others(config, session);
-    let [one, another] = [0; 2].map(|_| any_of(random, &others));
-    let maker = session_maker(config, session);
-    let item = any_of(random, &items_of(config, maker));
+    let [one, another] = [0; 2].map(|_| other(random, config, session));
+    let item = config.any_item(random);
     match named {
         Named::Message {
             part,
             direction,
             kind,
         } => {
-            let mut route = [direction as u8, one, item];
+            let mut route = [direction as u8, one, item as u8];
             let mut body = [kind, 0, 0];
             if has_sessions(kind) {
                 body = [kind, another, one];
@@ -643,31 +459,23 @@ pub fn name(
             if kind == kind::ABORT {
                 body[BODY_A] = route[ROUTE_SESSION];
             }
-            // In place of one of the maker's, or as its only one.
-            let own = |&place: &usize| {
-                session_maker(config, buffers.route(place)[ROUTE_SESSION]) == maker
-            };
-            let mut places: Vec<usize> = (0..buffers.count()).filter(own).collect();
-            if places.is_empty() {
-                places.push(buffers.count());
-                buffers.set_count(places[0] + 1);
-            }
-            let last = places.len() - 1;
+            let last = buffers.count().max(1) - 1;
+            buffers.set_count(last + 1);
             let place = match random.between(1, 4) {
                 1 => 0,
                 2 => last,
                 _ => random.between(0, last as u64) as usize,
             };
-            buffers.set_message(places[place], route, body);
+            buffers.set_message(place, route, body);
         }
         Named::Queue => {
-            let record = buffers.item_mut(item.into());
+            let record = buffers.item_mut(item as usize);
             let mut queue = queue(record).to_vec();
             let place = random.between(0, queue.len() as u64) as usize;
             queue.insert(place, session);
             set_queue(record, &queue);
         }
-        Named::Holder => buffers.item_mut(item.into())[HOLDER] = session,
+        Named::Holder => buffers.item_mut(item as usize)[HOLDER] = session,
         Named::Probe { own, initiator } => {
             let owner = if own { session } else { one };
             let (initiator, junior) = if initiator {
@@ -692,49 +500,37 @@ pub enum Beside {
     Anything,
 }
 
-/// Well-formed buffers with cleans of a maker that circle for ever: some of its sessions
-/// wait, each for an item that the next one holds. The other's messages are any.
-pub fn circling(
-    random: &mut Random,
-    config: &Config,
-    maker: u8,
-    messages: u64,
-    beside: Beside,
-) -> Buffers {
+/// Well-formed buffers with cleans that circle for ever: sessions 1 to n wait,
+/// each for an item that the next one holds.
+pub fn circling(random: &mut Random, config: &Config, messages: u64, beside: Beside) -> Buffers {
     let mut buffers = well_formed(random, config, messages);
-    let (sessions, items) = (sessions_of(config, maker), items_of(config, maker));
-    let n = random.between(1, sessions.len().min(items.len()) as u64) as usize;
-    let holder = |k: usize| sessions[(k + 1) % n];
-    for k in 0..n {
-        let record = buffers.session_mut(sessions[k].into());
+    let n = random.between(1, config.sessions.min(config.items)) as u8;
+    let holder = |item| item % n + 1;
+    for k in 1..=n {
+        let record = buffers.session_mut(k.into());
         record[STAGE] = WAITING;
-        record[AWAITED] = items[k];
-        let mut queue = 0;
+        record[AWAITED] = k;
         if beside == Beside::Anything {
-            queue = Filling::draw(random).of(random, config.sessions - 1) as usize;
+            let queue = Filling::draw(random).of(random, config.sessions - 1) as usize;
+            set_item(random, config, buffers.item_mut(k.into()), holder(k), queue);
         } else {
             record[HELD].fill(0);
+            set_item(random, config, buffers.item_mut(k.into()), holder(k), 0);
         }
-        let item = buffers.item_mut(items[k].into());
-        set_item(random, config, item, holder(k), queue);
     }
-    for place in 0..buffers.count() {
-        if session_maker(config, buffers.route(place)[ROUTE_SESSION]) != maker {
-            continue;
-        }
-        let k = random.between(0, n as u64 - 1) as usize;
+    for place in 0..messages as usize {
+        let k = random.between(1, n.into()) as u8;
         let route = if random.one_in(2) {
-            [TO_ITEM, sessions[k], items[k]]
+            [TO_ITEM, k, k]
         } else {
-            [TO_SESSION, holder(k), items[k]]
+            [TO_SESSION, holder(k), k]
         };
-        let [victim, initiator] = [0, 1].map(|_| any_of(random, &sessions));
+        let [victim, initiator] = [0, 1].map(|_| config.any_session(random) as u8);
         if beside == Beside::Nothing || !random.one_in(4) {
             buffers.set_message(place, route, [kind::CLEAN, victim, initiator]);
         } else if beside == Beside::Dropped {
             // A session that waits drops it.
-            let route = [TO_SESSION, sessions[k], items[k]];
-            buffers.set_message(place, route, [kind::WITHDRAWN, 0, 0]);
+            buffers.set_message(place, [TO_SESSION, k, k], [kind::WITHDRAWN, 0, 0]);
         }
     }
     buffers
@@ -775,9 +571,6 @@ const fn mail(name: &'static str, apply: fn(&mut Target) -> bool) -> Break {
         apply,
     }
 }
-
-/// The numbers of a maker's sessions or items.
-type Owned = fn(&Config, u8) -> Vec<u8>;
 
 /// A byte of a message, by its place in the route or in the body.
 #[derive(Clone, Copy)]
@@ -831,74 +624,6 @@ impl Target<'_> {
             2 => 0x80,
             _ => self.random.between(1, u8::MAX.into()) as u8,
         }
-    }
-
-    /// A session or an item of a maker, and one of the other maker, if they have such.
-    fn across(&mut self, own: Owned, other: Owned) -> Option<(u8, u8)> {
-        let maker = self.random.between(1, MAKERS as u64) as u8;
-        let own = *self.random.pick(&own(self.config, maker))?;
-        let other = *self.random.pick(&other(self.config, 3 - maker))?;
-        Some((own, other))
-    }
-
-    /// A session that has an item of the other maker in its record.
-    fn item_across(&mut self, set: fn(&mut [u8], u8)) -> bool {
-        let across = self.across(sessions_of, items_of);
-        across.is_some_and(|(session, item)| {
-            set(self.buffers.session_mut(session.into()), item);
-            true
-        })
-    }
-
-    /// An item that has a session of the other maker in its record.
-    fn session_across(&mut self, set: fn(&mut [u8], u8)) -> bool {
-        let across = self.across(items_of, sessions_of);
-        across.is_some_and(|(item, session)| {
-            set(self.buffers.item_mut(item.into()), session);
-            true
-        })
-    }
-
-    /// A session stores a probe whose initiator, or else whose junior, is of the other
-    /// maker.
-    fn probe_across(&mut self, initiator: bool) -> bool {
-        let across = self.across(sessions_of, sessions_of);
-        across.is_some_and(|(own, other)| {
-            let (initiator, junior) = if initiator {
-                (other, own)
-            } else {
-                (own, other)
-            };
-            let juniors = &mut self.buffers.session_mut(own.into())[JUNIORS];
-            juniors[usize::from(initiator) - 1] = junior;
-            true
-        })
-    }
-
-    /// A byte of a message names a session or an item of the other maker.
-    fn message_across(&mut self, byte: Byte, kinds: &[u8]) -> bool {
-        let owned: Owned = match byte {
-            Byte::Route(ROUTE_ITEM) => items_of,
-            _ => sessions_of,
-        };
-        let maker = self.random.between(1, MAKERS as u64) as u8;
-        let config = self.config;
-        let Some(&other) = self.random.pick(&owned(config, 3 - maker)) else {
-            return false;
-        };
-        self.set_message(byte, other, |route, body| {
-            session_maker(config, route[ROUTE_SESSION]) == maker && kinds.contains(&body[KIND])
-        })
-    }
-
-    /// Sets the shares, each of which is enough for its maker's messages or not.
-    fn set_shares(&mut self, shares: [u64; MAKERS], enough: bool) -> bool {
-        let counts = [1, 2].map(|maker| self.buffers.own_count(maker) as u64);
-        let fits = counts[0] <= shares[0] && counts[1] <= shares[1];
-        for (maker, share) in (1..).zip(shares) {
-            self.buffers.set_share(maker, share as u16);
-        }
-        fits == enough && !shares.contains(&0)
     }
 
     /// Two drawn numbers, for places in a list.
@@ -1020,102 +745,8 @@ fn repeat(list: &mut [u8], [first, apart]: [usize; 2]) -> bool {
 
 /// All ways.
 pub fn breaks() -> impl Iterator<Item = &'static Break> {
-    BREAKS.iter().chain(RANK_BREAKS).chain(MAKER_BREAKS)
+    BREAKS.iter().chain(RANK_BREAKS)
 }
-
-/// Those that break the makers or the shares, or go across makers. Some ask for two makers
-/// with sessions, items and messages.
-pub const MAKER_BREAKS: &[Break] = &[
-    table("a session's maker 0", |t| t.set_session(SESSION_MAKER, 0)),
-    table("a session's maker 3", |t| t.set_session(SESSION_MAKER, 3)),
-    table("a session's maker above 3", |t| {
-        let maker = t.above(3);
-        t.set_session(SESSION_MAKER, maker)
-    }),
-    table("an item's maker 0", |t| t.set_item(ITEM_MAKER, 0)),
-    table("an item's maker 3", |t| t.set_item(ITEM_MAKER, 3)),
-    table("an item's maker above 3", |t| {
-        let maker = t.above(3);
-        t.set_item(ITEM_MAKER, maker)
-    }),
-    table("share 1 of 0", |t| {
-        t.buffers.set_share(1, 0);
-        true
-    }),
-    table("share 2 of 0", |t| {
-        t.buffers.set_share(2, 0);
-        true
-    }),
-    table("awaited item of the other maker", |t| {
-        t.item_across(|record, item| (record[STAGE], record[AWAITED]) = (WAITING, item))
-    }),
-    table("held item of the other maker", |t| {
-        t.item_across(|record, item| {
-            record[HELD][usize::from(item - 1) / 8] |= 1 << ((item - 1) % 8);
-        })
-    }),
-    table("initiator of the other maker", |t| t.probe_across(true)),
-    table("junior of the other maker", |t| t.probe_across(false)),
-    table("holder of the other maker", |t| {
-        t.session_across(|record, session| record[HOLDER] = session)
-    }),
-    table("session of the other maker in a queue", |t| {
-        t.session_across(|record, session| {
-            let mut queue = queue(record).to_vec();
-            queue.push(session);
-            set_queue(record, &queue);
-        })
-    }),
-    mail("message of an item of the other maker", |t| {
-        let kinds = [KINDS_TO_ITEM, KINDS_TO_SESSION].concat();
-        t.message_across(Byte::Route(ROUTE_ITEM), &kinds)
-    }),
-    mail("a of the other maker", |t| {
-        t.message_across(Byte::Body(BODY_A), &[kind::PROBE, kind::CLEAN])
-    }),
-    mail("b of the other maker in a probe", |t| {
-        t.message_across(Byte::Body(BODY_B), &[kind::PROBE])
-    }),
-    mail("b of the other maker in a clean", |t| {
-        t.message_across(Byte::Body(BODY_B), &[kind::CLEAN])
-    }),
-    mail("b of the other maker in an abort", |t| {
-        t.message_across(Byte::Body(BODY_B), &[kind::ABORT])
-    }),
-    mail("maker 1 above its share", |t| {
-        let share = (t.buffers.own_count(1) as u64).saturating_sub(1);
-        t.set_shares([share, t.config.capacity - share], false)
-    }),
-    mail("maker 2 above its share", |t| {
-        let share = (t.buffers.own_count(2) as u64).saturating_sub(1);
-        t.set_shares([t.config.capacity - share, share], false)
-    }),
-    mail("shares that sum to less than C", |t| {
-        let [one, two] = t.config.shares;
-        let shares = if t.random.one_in(2) {
-            [one - 1, two]
-        } else {
-            [one, two - 1]
-        };
-        t.set_shares(shares, true)
-    }),
-    mail("shares that sum to more than C", |t| {
-        let [one, two] = t.config.shares;
-        let more = t.random.between(1, 2);
-        let shares = match t.random.between(1, 3) {
-            1 => [one + more, two],
-            2 => [one, two + more],
-            // C, if the upper bits of the sum were lost.
-            _ => [u16::MAX.into(), t.config.capacity + 1],
-        };
-        t.set_shares(shares, true)
-    }),
-    mail("C = 1", |t| {
-        t.buffers.mail = vec![0; mail_length(1)];
-        write_u16(&mut t.buffers.mail[MAIL_CAPACITY], 1);
-        true
-    }),
-];
 
 /// Those that break the ranks, of two sessions or more.
 pub const RANK_BREAKS: &[Break] = &[

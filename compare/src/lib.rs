@@ -9,6 +9,5 @@ pub mod fast;
 pub mod forge;
 pub mod library;
 pub mod numbers;
-pub mod one_maker;
 pub mod program;
 pub mod stream;

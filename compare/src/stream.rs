@@ -6,12 +6,11 @@
 //! numbers of the answer; and the bytes after the call of those buffers that it may
 //! write:
 //!
-//! - 1 start: S, M, C, share 1, share 2; ranks, makers of sessions, makers of items,
-//!   table, mail; refusal; table, mail
+//! - 1 start: S, M, C; ranks, table, mail; refusal; table, mail
 //! - 2 step: verb, session, item; table, mail; refusal, sent, closed, victim,
 //!   initiator; table, mail
 //! - 3 report: session; table; refusal, length; none
-//! - 4 drain: maker, limit; table, mail; refusal, made, ending; table, mail
+//! - 4 drain: limit; table, mail; refusal, made, ending; table, mail
 //! - 5 cycle text: session; table, text; refusal, length; text
 //! - 6 reopen: session; table, mail; refusal; table
 //!

@@ -6,14 +6,12 @@ use compare::comparison::{Buffers, Comparison};
 use compare::fast::Fast;
 use compare::numbers::{delivered_direction, DELIVER_TO_ITEM, TO_ITEM, TO_SESSION};
 use misread::Misreading;
-use model::demand3::contents;
 use model::item::Item;
 use model::layout::{
-    body_at, item_at, ranks_at, read_u16, route_at, session_at, write_u16, AWAITED, BODY_SIZE,
-    DIRECTION, ITEM_MAKER, KIND, MAIL_CAPACITY, MAIL_COUNT, MAX_SESSIONS, ROUTE_ITEM,
-    ROUTE_SESSION, ROUTE_SIZE, SESSION_MAKER,
+    body_at, ranks_at, read_u16, route_at, session_at, AWAITED, BODY_SIZE, DIRECTION, KIND,
+    MAIL_CAPACITY, MAX_SESSIONS, ROUTE_ITEM, ROUTE_SESSION, ROUTE_SIZE,
 };
-use model::mailbox::{count, kind, Body, Message};
+use model::mailbox::{count, kind, Body, Mailbox};
 use model::session::Session;
 use model::table::Table;
 use model::waits::{cycle_waits, text_of};
@@ -43,9 +41,6 @@ fn every_misreading_and_replaced_rule_is_found() {
         &Misreading::OF_F7,
         &Misreading::IN_BYTES,
         &Misreading::OF_F7_IN_BYTES,
-        &Misreading::OF_F9,
-        &Misreading::OF_F9_IN_PAIRS,
-        &Misreading::OF_F9_IN_BYTES,
         &Misreading::OUTSIDE_STEPS,
     ]
     .into_iter()
@@ -162,47 +157,12 @@ enum Wrong {
     ClearsStored,
     /// A reopening does not judge the length of the mail.
     MailLengthUnseen,
-    /// Only the lowest byte of a drain's maker counts.
-    NarrowMaker,
-    /// Only the lower two bytes of each share count at a start.
-    NarrowShares,
-    /// Only the lowest byte of the length of the makers counts.
-    NarrowMakers,
-    /// A start refused with 16 leaves a trace in the table.
-    TraceOfBadMakers,
-    /// A start gives the last item to maker 1.
-    LastItemOf1,
-    /// A step refused with 17 takes the message.
-    TakenAcross,
-    /// A drain moves the other maker's messages to the front.
-    OthersInFront,
-    /// A drain drops the other's last message if both shares are full.
-    OthersLastLost,
-    /// A report takes a table that goes across makers for one that does not.
-    AcrossUnseenByReport,
-}
-
-/// The part of a list that a length of one byte leaves.
-fn narrow(list: &[u8]) -> &[u8] {
-    &list[..list.len() & 255]
 }
 
 /// Writes plain ranks into a table whose length is right.
 fn make_plain(table: &mut [u8]) {
     if let Some((sessions, items)) = Table::size(table) {
         table[ranks_at(sessions, items)].copy_from_slice(Ranks::plain_list(sessions));
-    }
-}
-
-/// Gives all of a table whose length is right to maker 1.
-fn one_owner(table: &mut [u8]) {
-    if let Some((sessions, items)) = Table::size(table) {
-        for session in 1..=sessions {
-            table[session_at(session)][SESSION_MAKER] = 1;
-        }
-        for item in 1..=items {
-            table[item_at(sessions, item)][ITEM_MAKER] = 1;
-        }
     }
 }
 
@@ -225,23 +185,12 @@ fn unseen<A>(wrong: bool, table: &mut [u8], call: impl FnOnce(&mut [u8]) -> A) -
 impl Calls for Wrong {
     fn start(&self, config: &Config, table: &mut [u8], mail: &mut [u8]) -> u8 {
         let last = mail.last().copied();
-        let mut config = *config;
-        match self {
-            Wrong::NarrowRanks => config.ranks = narrow(config.ranks),
-            Wrong::NarrowMakers => {
-                config.session_makers = narrow(config.session_makers);
-                config.item_makers = narrow(config.item_makers);
-            }
-            Wrong::NarrowShares => config.shares = config.shares.map(|share| share & 0xFFFF),
-            _ => {}
-        }
-        let refusal = model::start(&config, table, mail);
+        let ranks = match self {
+            Wrong::NarrowRanks => &config.ranks[..config.ranks.len() & 255],
+            _ => config.ranks,
+        };
+        let refusal = model::start(&config.with_ranks(ranks), table, mail);
         match (self, last) {
-            (Wrong::TraceOfBadMakers, _) if refusal == Refusal::BadMakers as u8 => table[0] ^= 1,
-            (Wrong::LastItemOf1, _) if refusal == ACCEPTED => {
-                let (sessions, items) = (config.sessions as usize, config.items as usize);
-                table[item_at(sessions, items)][ITEM_MAKER] = 1;
-            }
             (Wrong::ShortStart, Some(last)) => *mail.last_mut().unwrap() = last,
             (Wrong::PlainStart, _) if refusal == ACCEPTED => make_plain(table),
             (Wrong::TraceOfBadRanks, _) if refusal == Refusal::BadRanks as u8 => table[0] ^= 1,
@@ -284,10 +233,6 @@ impl Calls for Wrong {
                 *mail.last_mut().unwrap() = 1;
             }
             Wrong::PlainStep if answer.victim != 0 => make_plain(table),
-            Wrong::TakenAcross if answer.refusal == Refusal::OtherMaker as u8 => {
-                let last = usize::from(read_u16(&mail[MAIL_COUNT])).saturating_sub(1);
-                write_u16(&mut mail[MAIL_COUNT], last);
-            }
             _ => {}
         }
         answer
@@ -296,28 +241,20 @@ impl Calls for Wrong {
     fn report(&self, session: u64, table: &[u8]) -> Cycle {
         let (wrong, mut table) = (*self == Wrong::RanksUnseenByReport, table.to_vec());
         let mut cycle = unseen(wrong, &mut table, |table| model::report(session, table));
-        if *self == Wrong::AcrossUnseenByReport && cycle.refusal == Refusal::BadTable as u8 {
-            one_owner(&mut table);
-            cycle = model::report(session, &table);
-        }
         if *self == Wrong::ShortWalk && usize::from(cycle.length) == MAX_SESSIONS {
             cycle.length = 0;
         }
         cycle
     }
 
-    fn drain(&self, maker: u64, limit: u64, table: &mut [u8], mail: &mut [u8]) -> Drained {
-        let maker = match self {
-            Wrong::NarrowMaker => maker & 255,
-            _ => maker,
-        };
+    fn drain(&self, limit: u64, table: &mut [u8], mail: &mut [u8]) -> Drained {
         let limit = if *self == Wrong::NarrowLimit {
             limit & 0xFFFF_FFFF
         } else {
             limit
         };
         let mut drained = unseen(*self == Wrong::RanksUnseenByDrain, table, |table| {
-            model::drain(maker, limit, table, mail)
+            model::drain(limit, table, mail)
         });
         if drained.refusal != ACCEPTED {
             if let (Wrong::TraceOfRefusedDrain, Some(last)) = (self, table.last_mut()) {
@@ -335,19 +272,6 @@ impl Calls for Wrong {
                 mail.copy_within(body_at(capacity, 0), body_at(capacity, 1).start);
             }
             Wrong::PlainDrain if drained.made > 0 => make_plain(table),
-            Wrong::OthersInFront | Wrong::OthersLastLost if drained.made > 0 => {
-                let (records, mut mailbox) = contents((table, mail)).expect("an accepted drain");
-                let own = |message: &Message| records.makers.of_message(message) == maker as u8;
-                match self {
-                    Wrong::OthersInFront => mailbox.messages.sort_by_key(own),
-                    _ if mailbox.messages.len() == mailbox.capacity => {
-                        let place = mailbox.messages.iter().rposition(|m| !own(m));
-                        place.map(|place| mailbox.messages.remove(place));
-                    }
-                    _ => {}
-                }
-                mailbox.encode(mail);
-            }
             _ => {}
         }
         drained
@@ -440,10 +364,11 @@ impl Calls for Wrong {
 impl Wrong {
     /// A reopening that looks at a part of the buffers alone, and leaves the rest.
     fn reopen_part(&self, session: u8, table: &mut [u8], mail: &[u8]) -> u8 {
-        let Ok((mut records, mut mailbox)) = contents((table, mail)) else {
+        let Some(mut records) = Table::decode(table) else {
             return Refusal::InUse as u8; // the ranks are bad and not seen
         };
         let (sessions, items) = (records.sessions.len(), records.items.len());
+        let mut mailbox = Mailbox::decode(mail, sessions, items).unwrap();
         let messages = &mut mailbox.messages;
         match self {
             Wrong::FirstMessageUnseen => drop(messages.drain(..messages.len().min(1))),
@@ -617,15 +542,6 @@ fn every_wrong_byte_is_found() {
         Wrong::LastSessionUnseen,
         Wrong::ClearsStored,
         Wrong::MailLengthUnseen,
-        Wrong::NarrowMaker,
-        Wrong::NarrowShares,
-        Wrong::NarrowMakers,
-        Wrong::TraceOfBadMakers,
-        Wrong::LastItemOf1,
-        Wrong::TakenAcross,
-        Wrong::OthersInFront,
-        Wrong::OthersLastLost,
-        Wrong::AcrossUnseenByReport,
     ] {
         let found = difference(wrong);
         println!("{wrong:?}: {found:?}");

@@ -4,7 +4,6 @@
 //! every other one is put around the right answer.
 
 mod drain;
-mod makers;
 mod reopen;
 mod start;
 mod statement;
@@ -97,46 +96,6 @@ pub enum Misreading {
     InUseFirst,
     /// F-7 with mail not in form taken for empty mail.
     MailFormUnseen,
-    /// F-9 with 9 judged by C.
-    RoomByCapacity,
-    /// F-9 with 9 judged by the other maker's share.
-    RoomOfOther,
-    /// F-9 with 9 where the entries of both makers pass the maker's share.
-    CountsBoth,
-    /// F-9 with a drain that delivers the oldest entry of all.
-    OldestOfAll,
-    /// F-9 with a drain that ends with 1 only if the whole mail is empty.
-    WholeMailEmpty,
-    /// F-9 with the owner cleared when a session is reopened.
-    ClearsMaker,
-    /// F-9 with 6 before 17.
-    AcrossAfterStage,
-    /// F-9 with 17 for a release too.
-    ReleaseAcross,
-    /// F-9 with 8 for a delivery across makers.
-    DeliversAcross,
-    /// F-9 with a drain for nobody that finds nothing.
-    DrainsForNobody,
-    /// F-9 with a stored probe whose junior is of another maker taken for well-formed.
-    JuniorAcross,
-    /// F-9 with a stored probe whose initiator is of another maker taken so.
-    InitiatorAcross,
-    /// F-9 with an entry whose a or b is of another maker taken so.
-    BodyAcross,
-    /// F-9 with mail taken so beyond a share, or beside shares of another sum.
-    SharesUnseen,
-    /// F-9 with 16 before 14.
-    MakersFirst,
-    /// F-9 with 2 for C = 1.
-    Capacity1Is2,
-    /// F-9 with shares accepted at start that sum to less than C.
-    AcceptsSharesBelow,
-    /// F-9 with shares accepted at start whose sum is C in 64 bits alone.
-    AcceptsSharesAbove,
-    /// F-9 with owner 0 accepted at start.
-    AcceptsOwner0,
-    /// F-9 with owner 3 accepted at start.
-    AcceptsOwner3,
 }
 
 impl Misreading {
@@ -199,45 +158,14 @@ impl Misreading {
         Misreading::MailFormUnseen,
     ];
 
-    /// Those of F-9 that spoil a list from a start. The check of demand 3 catches each.
-    pub const OF_F9: [Misreading; 5] = [
-        Misreading::RoomByCapacity,
-        Misreading::RoomOfOther,
-        Misreading::OldestOfAll,
-        Misreading::WholeMailEmpty,
-        Misreading::ClearsMaker,
-    ];
-
-    /// Those of F-9 by which one maker learns of the other. A pair of runs catches each.
-    pub const OF_F9_IN_PAIRS: [Misreading; 2] =
-        [Misreading::CountsBoth, Misreading::WholeMailEmpty];
-
-    /// Those of F-9 that only answers or bytes show, some on forged buffers alone.
-    pub const OF_F9_IN_BYTES: [Misreading; 8] = [
-        Misreading::AcrossAfterStage,
-        Misreading::ReleaseAcross,
-        Misreading::DeliversAcross,
-        Misreading::DrainsForNobody,
-        Misreading::JuniorAcross,
-        Misreading::InitiatorAcross,
-        Misreading::BodyAcross,
-        Misreading::SharesUnseen,
-    ];
-
-    /// Those of F-6 in a text and of F-6 and F-9 at a start, which no step shows.
-    pub const OUTSIDE_STEPS: [Misreading; 12] = [
+    /// Those of F-6 in a text and at a start, which no step shows.
+    pub const OUTSIDE_STEPS: [Misreading; 6] = [
         Misreading::TextByNumber,
         Misreading::RanksFirst,
         Misreading::WrongLengthIs14,
         Misreading::AcceptsRankTwice,
         Misreading::AcceptsRank0,
         Misreading::AcceptsRankAbove,
-        Misreading::MakersFirst,
-        Misreading::Capacity1Is2,
-        Misreading::AcceptsSharesBelow,
-        Misreading::AcceptsSharesAbove,
-        Misreading::AcceptsOwner0,
-        Misreading::AcceptsOwner3,
     ];
 }
 
@@ -250,8 +178,8 @@ impl Calls for Misreading {
         step::step(*self, [v, s, i], table, mail)
     }
 
-    fn drain(&self, maker: u64, limit: u64, table: &mut [u8], mail: &mut [u8]) -> Drained {
-        drain::drain(*self, maker, limit, table, mail)
+    fn drain(&self, limit: u64, table: &mut [u8], mail: &mut [u8]) -> Drained {
+        drain::drain(*self, limit, table, mail)
     }
 
     fn cycle_text(&self, session: u64, table: &[u8], text: &mut [u8]) -> Text {

@@ -1,8 +1,7 @@
-//! Misreadings of F-7, and of F-9 in a reopening.
+//! Misreadings of F-7.
 
 use crate::Misreading;
-use model::demand3::contents;
-use model::layout::{mail_length, session_at, SESSION_MAKER};
+use model::layout::{mail_length, session_at, MAX_CAPACITY};
 use model::mailbox::{Mailbox, Message};
 use model::names::{by_message, Named, Part};
 use model::session::{Session, Stage};
@@ -17,10 +16,7 @@ pub fn reopen(misreading: Misreading, session: u64, table: &mut [u8], mail: &[u8
     let before = table.to_vec();
     let right = right_reopen(session, table, mail);
     match (misreading, right) {
-        (Misreading::MailFormUnseen, BAD_MAIL) => {
-            let capacity = Mailbox::capacity(mail).expect("mail of a right length");
-            right_reopen(session, table, &empty_mail(capacity))
-        }
+        (Misreading::MailFormUnseen, BAD_MAIL) => right_reopen(session, table, &empty_mail()),
         (Misreading::InUseFirst, BAD_NUMBER) => IN_USE,
         (_, ACCEPTED) => accepted(misreading, session as u8, &before, table),
         (Misreading::ChecksItem, IN_USE) if session > u64::from(items(table)) => BAD_NUMBER,
@@ -29,9 +25,9 @@ pub fn reopen(misreading: Misreading, session: u64, table: &mut [u8], mail: &[u8
     }
 }
 
-fn empty_mail(capacity: usize) -> Vec<u8> {
-    let mut mail = vec![0; mail_length(capacity)];
-    Mailbox::empty(capacity).encode(&mut mail);
+fn empty_mail() -> Vec<u8> {
+    let mut mail = vec![0; mail_length(MAX_CAPACITY)];
+    Mailbox::empty(MAX_CAPACITY).encode(&mut mail);
     mail
 }
 
@@ -59,10 +55,8 @@ fn accepted(misreading: Misreading, session: u8, before: &[u8], table: &mut [u8]
         _ => {}
     }
     new.encode(table);
-    match misreading {
-        Misreading::ResetsRank => reset_rank(session, table),
-        Misreading::ClearsMaker => table[session_at(session.into())][SESSION_MAKER] = 0,
-        _ => {}
+    if misreading == Misreading::ResetsRank {
+        reset_rank(session, table);
     }
     ACCEPTED
 }
@@ -76,8 +70,9 @@ fn reset_rank(session: u8, table: &mut [u8]) {
 
 /// A reopening that the rules refuse, by what a misreading sees of the buffers.
 fn in_use(misreading: Misreading, session: u8, table: &mut [u8], mail: &[u8]) -> u8 {
-    let judged = contents((table, mail));
-    let (mut records, mut mailbox) = judged.expect("buffers that were judged");
+    let mut records = Table::decode(table).expect("a table that was judged");
+    let (sessions, items) = (records.sessions.len(), records.items.len());
+    let mut mailbox = Mailbox::decode(mail, sessions, items).expect("mail that was judged");
     overlook(misreading, session, &mut records, &mut mailbox);
     let (mut seen_table, mut seen_mail) = (table.to_vec(), mail.to_vec());
     records.encode(&mut seen_table);

@@ -1,13 +1,12 @@
 //! Misreadings of a step.
 
-use crate::{makers, Misreading};
+use crate::Misreading;
 use model::answers::Verb;
 use model::branch::SessionBranch;
 use model::calls::step_by;
-use model::demand3::contents;
 use model::item::{self, Item};
 use model::layout::ranks_at;
-use model::mailbox::Body;
+use model::mailbox::{Body, Mailbox};
 use model::session::{self, Session, Stage};
 use model::table::Table;
 use model::{Answer, Policy, Ranks, RULES};
@@ -42,7 +41,7 @@ pub fn step(
             probes_by_rank(answer.sent.into(), table, mail);
             answer
         }
-        _ => makers::step(misreading, [verb, session, item], right, table, mail),
+        _ => right(table, mail),
     }
 }
 
@@ -68,7 +67,9 @@ fn probes_by_rank(sent: usize, table: &[u8], mail: &mut [u8]) {
     if sent == 0 {
         return;
     }
-    let (records, mut mailbox) = contents((table, mail)).expect("an accepted step");
+    let records = Table::decode(table).expect("an accepted step");
+    let mailbox = Mailbox::decode(mail, records.sessions.len(), records.items.len());
+    let mut mailbox = mailbox.expect("an accepted step");
     let first = mailbox.messages.len() - sent;
     mailbox.messages[first..].sort_by_key(|message| match message.body {
         Body::Probe { initiator, .. } => records.ranks.of(initiator),

@@ -1,11 +1,10 @@
 //! Each of 01's plausible misreadings, each of F-2's, those of F-6 that name other
-//! sessions in a declaration and those of F-7 and F-9 that spoil a list are caught by the
+//! sessions in a declaration and those of F-7 that spoil a list are caught by the
 //! check. The rules themselves pass it on the same seeds, and so do those that
 //! change answers and bytes alone.
 
 use misread::Misreading;
-use model::pairs;
-use model::scenario::{self, Answering, BY_RULES, DELIVERIES_BOUND};
+use model::scenario::{run, run_reopening, Answering, Counts, BY_RULES, DELIVERIES_BOUND};
 
 /// A misreading, a seed whose run catches it, and what the check then says.
 const CAUGHT: [(Misreading, u64, &str); 28] = [
@@ -64,42 +63,11 @@ const CAUGHT_REOPENING: [(Misreading, u64, &str); 5] = [
     (Misreading::ResetsRank, 1, "table is not well-formed"),
 ];
 
-/// The same for those of F-9, in runs of two makers.
-const CAUGHT_MAKERS: [(Misreading, u64, &str); 7] = [
-    (Misreading::RoomByCapacity, 4, "mail is not well-formed"),
-    (Misreading::RoomOfOther, 4, "mail is not well-formed"),
-    (Misreading::RoomOfOther, 6, "a wide mail filled up"),
-    (Misreading::OldestOfAll, 1, "more deliveries than it can"),
-    (Misreading::WholeMailEmpty, 1, "ending 3, not Empty"),
-    (Misreading::ClearsMaker, 0, "table is not well-formed"),
-    (Misreading::ClearsMaker, 1, "table is not well-formed"),
-];
-
-/// The same in pairs of runs.
-const CAUGHT_PAIRS: [(Misreading, u64, &str); 4] = [
-    (Misreading::CountsBoth, 3, "answers Step"),
-    (Misreading::CountsBoth, 4, "answers Step"),
-    (Misreading::WholeMailEmpty, 1, "answers Drain"),
-    (Misreading::WholeMailEmpty, 12, "answers Drain"),
-];
-
 /// The steps of such a run.
 const STEPS: u64 = 2_000;
 
-fn run(seed: u64, by: Answering) -> Result<(), String> {
-    scenario::run(seed, by).map(|_| ())
-}
-
-fn reopening(seed: u64, by: Answering) -> Result<(), String> {
-    scenario::run_reopening(seed, by, STEPS).map(|_| ())
-}
-
-fn makers(seed: u64, by: Answering) -> Result<(), String> {
-    scenario::run_makers(seed, by, STEPS).map(|_| ())
-}
-
-fn pair(seed: u64, by: Answering) -> Result<(), String> {
-    pairs::pair(seed, by).map(|_| ())
+fn reopening(seed: u64, by: Answering) -> Result<Counts, String> {
+    run_reopening(seed, by, STEPS)
 }
 
 fn misread(misreading: &Misreading) -> Answering<'_> {
@@ -115,7 +83,7 @@ fn misreadings() -> impl Iterator<Item = Misreading> {
     of_01.into_iter().chain(of_f2).chain(Misreading::OF_F6)
 }
 
-type Run = fn(u64, Answering) -> Result<(), String>;
+type Run = fn(u64, Answering) -> Result<Counts, String>;
 
 /// The run of each seed catches its misreading and passes the rules.
 fn catches(run: Run, caught: &[(Misreading, u64, &str)]) {
@@ -131,54 +99,49 @@ fn catches(run: Run, caught: &[(Misreading, u64, &str)]) {
 fn each_is_caught() {
     catches(run, &CAUGHT);
     catches(reopening, &CAUGHT_REOPENING);
-    catches(makers, &CAUGHT_MAKERS);
-    catches(pair, &CAUGHT_PAIRS);
-    let of_f9 = [&Misreading::OF_F9[..], &Misreading::OF_F9_IN_PAIRS].concat();
-    for misreading in misreadings().chain(Misreading::OF_F7).chain(of_f9) {
-        let one_maker = CAUGHT.iter().chain(&CAUGHT_REOPENING);
-        let mut all = one_maker.chain(&CAUGHT_MAKERS).chain(&CAUGHT_PAIRS);
+    for misreading in misreadings().chain(Misreading::OF_F7) {
+        let mut all = CAUGHT.iter().chain(&CAUGHT_REOPENING);
         assert!(all.any(|&(caught, _, _)| caught == misreading));
     }
 }
 
-/// Runs, and how many seeds of each.
-const ONE_MAKER: (Run, u64) = (run, 2_000);
-const REOPENING: (Run, u64) = (reopening, 10);
-const TWO_MAKERS: (Run, u64) = (makers, 20);
-const PAIRS: (Run, u64) = (pair, 1_000);
+const SEEDS: u64 = 2_000;
+const REOPENING_SEEDS: u64 = 10;
 
 /// How many of the runs fail the check.
-fn failures((run, seeds): (Run, u64), by: Answering) -> usize {
-    (0..seeds).filter(|&s| run(s, by).is_err()).count()
+fn failures(by: Answering) -> usize {
+    (0..SEEDS).filter(|&s| run(s, by).is_err()).count()
 }
 
-/// The rules pass, and each of these is caught by some seed.
-fn only_the_rules_pass(runs: (Run, u64), caught: impl IntoIterator<Item = Misreading>) {
-    assert_eq!(failures(runs, BY_RULES), 0);
-    for misreading in caught {
-        let failures = failures(runs, misread(&misreading));
-        println!("{misreading:?}: caught by {failures} of {} runs", runs.1);
-        assert!(failures > 0);
-    }
+fn reopening_failures(by: Answering) -> usize {
+    (0..REOPENING_SEEDS)
+        .filter(|&s| reopening(s, by).is_err())
+        .count()
 }
 
 #[test]
 fn on_the_same_seeds_only_the_rules_pass() {
-    only_the_rules_pass(ONE_MAKER, misreadings());
-    only_the_rules_pass(REOPENING, Misreading::OF_F7);
-    only_the_rules_pass(TWO_MAKERS, Misreading::OF_F9);
-    only_the_rules_pass(PAIRS, Misreading::OF_F9_IN_PAIRS);
+    assert_eq!(failures(BY_RULES), 0);
+    for misreading in misreadings() {
+        let failures = failures(misread(&misreading));
+        println!("{misreading:?}: caught by {failures} of {SEEDS} runs");
+        assert!(failures > 0);
+    }
+    assert_eq!(reopening_failures(BY_RULES), 0);
+    for misreading in Misreading::OF_F7 {
+        let failures = reopening_failures(misread(&misreading));
+        println!("{misreading:?}: caught by {failures} of {REOPENING_SEEDS} runs");
+        assert!(failures > 0);
+    }
 }
 
 /// So the comparison of bytes has to find it: compare/tests/comparison.rs.
 #[test]
 fn those_in_bytes_alone_pass_too() {
-    let pass = |runs, misreadings: &[Misreading]| {
-        for passes in misreadings {
-            assert_eq!(failures(runs, misread(passes)), 0, "{passes:?}");
-        }
-    };
-    pass(ONE_MAKER, &Misreading::IN_BYTES);
-    pass(REOPENING, &Misreading::OF_F7_IN_BYTES);
-    pass(TWO_MAKERS, &Misreading::OF_F9_IN_BYTES);
+    for passes in Misreading::IN_BYTES {
+        assert_eq!(failures(misread(&passes)), 0, "{passes:?}");
+    }
+    for passes in Misreading::OF_F7_IN_BYTES {
+        assert_eq!(reopening_failures(misread(&passes)), 0, "{passes:?}");
+    }
 }

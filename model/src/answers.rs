@@ -33,7 +33,7 @@ pub struct Drained {
 #[derive(Clone, Copy, PartialEq, Eq, Debug)]
 #[repr(u8)]
 pub enum Ending {
-    /// F-2: "the mail is empty", F-9: "Draining is then per maker"
+    /// F-2: "the mail is empty"
     Empty = 1,
     /// F-2: "the next delivery would be refused with 9"
     Full = 2,
@@ -73,7 +73,7 @@ pub enum Refusal {
     WrongItem = 7,
     /// "delivery with no entry on that route"
     NoMessage = 8,
-    /// "count after the step would pass C", F-9: "now judged by that maker's share"
+    /// "count after the step would pass C"
     MailFull = 9,
     /// F-4: "a session on no ring"
     NoCycle = 10,
@@ -83,14 +83,10 @@ pub enum Refusal {
     BadRanks = 14,
     /// F-7: "Where it is not allowed the answer is 15, after 2 to 5"
     InUse = 15,
-    /// F-9: "Start refuses bad owners or shares with 16, after 14"
-    BadMakers = 16,
-    /// F-9: "a request or delivery across makers gets 17, between 5 and 6"
-    OtherMaker = 17,
 }
 
 impl Refusal {
-    pub const ALL: [Refusal; 15] = [
+    pub const ALL: [Refusal; 13] = [
         Refusal::BadVerb,
         Refusal::BadSize,
         Refusal::BadTable,
@@ -104,24 +100,21 @@ impl Refusal {
         Refusal::ShortBuffer,
         Refusal::BadRanks,
         Refusal::InUse,
-        Refusal::BadMakers,
-        Refusal::OtherMaker,
     ];
 
     /// The greatest number.
     pub const LAST: Refusal = Refusal::ALL[Refusal::ALL.len() - 1];
 
-    /// F-6: "A bad list gives 14 at start, after 2", F-9: "16, after 14".
-    pub const START_ORDER: [Refusal; 3] = [Refusal::BadSize, Refusal::BadRanks, Refusal::BadMakers];
+    /// F-6: "A bad list gives 14 at start, after 2".
+    pub const START_ORDER: [Refusal; 2] = [Refusal::BadSize, Refusal::BadRanks];
 
-    /// As the table of causes in 01 has them, F-9: and 17 "between 5 and 6".
-    pub const STEP_ORDER: [Refusal; 10] = [
+    /// As the table of causes in 01 has them.
+    pub const STEP_ORDER: [Refusal; 9] = [
         Refusal::BadVerb,
         Refusal::BadSize,
         Refusal::BadTable,
         Refusal::BadMail,
         Refusal::BadNumber,
-        Refusal::OtherMaker,
         Refusal::WrongStage,
         Refusal::WrongItem,
         Refusal::NoMessage,
@@ -132,14 +125,8 @@ impl Refusal {
     pub const REPORT_ORDER: [Refusal; 3] =
         [Refusal::BadSize, Refusal::BadTable, Refusal::BadNumber];
 
-    /// F-2: "only 2, 3 and 4 of 01 apply to it, before any delivery", F-9: a maker
-    /// "named in the call (5 if not 1 or 2)".
-    pub const DRAIN_ORDER: [Refusal; 4] = [
-        Refusal::BadSize,
-        Refusal::BadTable,
-        Refusal::BadMail,
-        Refusal::BadNumber,
-    ];
+    /// F-2: "only 2, 3 and 4 of 01 apply to it, before any delivery".
+    pub const DRAIN_ORDER: [Refusal; 3] = [Refusal::BadSize, Refusal::BadTable, Refusal::BadMail];
 
     /// F-4: "Refusals 2, 3 and 5 come first, then 10 [..] and 11".
     pub const TEXT_ORDER: [Refusal; 5] = [

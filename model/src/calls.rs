@@ -5,7 +5,6 @@ use crate::config::Config;
 use crate::item::ToSessions;
 use crate::layout::{within, MAX_CAPACITY, MAX_ITEMS, MAX_SESSIONS};
 use crate::mailbox::{count, message, Direction, Mailbox, Message, Route};
-use crate::makers::MAKERS;
 use crate::names::names;
 use crate::policy::{Policy, RULES};
 use crate::ranks::Ranks;
@@ -28,8 +27,8 @@ pub trait Calls {
         report(session, table)
     }
 
-    fn drain(&self, maker: u64, limit: u64, table: &mut [u8], mail: &mut [u8]) -> Drained {
-        drain_by(self, maker, limit, table, mail)
+    fn drain(&self, limit: u64, table: &mut [u8], mail: &mut [u8]) -> Drained {
+        drain_by(self, limit, table, mail)
     }
 
     fn cycle_text(&self, session: u64, table: &[u8], text: &mut [u8]) -> Text {
@@ -60,10 +59,10 @@ fn number(given: u64, max: usize) -> Result<u8, Refusal> {
 
 /// The causes that lie in the two buffers, 2, 3 and 4, in their order.
 fn judge(table: &[u8], mail: &[u8]) -> Result<(Table, Mailbox), Refusal> {
-    Table::size(table).ok_or(Refusal::BadSize)?;
+    let (sessions, items) = Table::size(table).ok_or(Refusal::BadSize)?;
     Mailbox::capacity(mail).ok_or(Refusal::BadSize)?;
     let records = Table::decode(table).ok_or(Refusal::BadTable)?;
-    let mailbox = Mailbox::decode(mail, &records.makers).ok_or(Refusal::BadMail)?;
+    let mailbox = Mailbox::decode(mail, sessions, items).ok_or(Refusal::BadMail)?;
     Ok((records, mailbox))
 }
 
@@ -75,8 +74,7 @@ fn judge_reading(session: u64, table: &[u8]) -> Result<(Table, u8), Refusal> {
     Ok((records, session))
 }
 
-/// F-6: "Start now takes S ranks, one for each session." F-9: "Start names a maker, 1 or
-/// 2, for each session and each item, and how many mail entries each maker may fill".
+/// F-6: "Start now takes S ranks, one for each session."
 pub fn start(config: &Config, table: &mut [u8], mail: &mut [u8]) -> u8 {
     answered(|| {
         let sessions = within(config.sessions, MAX_SESSIONS).ok_or(Refusal::BadSize)?;
@@ -86,14 +84,12 @@ pub fn start(config: &Config, table: &mut [u8], mail: &mut [u8]) -> u8 {
         if table.len() != config.table_length() || mail.len() != config.mail_length() {
             return Err(Refusal::BadSize);
         }
-        // F-6: "A start list of the wrong length is 2, here and later"
-        let lists = [config.ranks, config.session_makers, config.item_makers];
-        if lists.map(<[u8]>::len) != [sessions, sessions, items] {
+        // F-6: "A start list of the wrong length is 2"
+        if config.ranks.len() != sessions {
             return Err(Refusal::BadSize);
         }
         let ranks = Ranks::decode(config.ranks).ok_or(Refusal::BadRanks)?;
-        let makers = config.makers().ok_or(Refusal::BadMakers)?;
-        Table::fresh(ranks, makers).encode(table);
+        Table::fresh(ranks, items).encode(table);
         Mailbox::empty(capacity).encode(mail);
         Ok(ACCEPTED)
     })
@@ -117,10 +113,6 @@ pub fn step_by(
         let (mut records, mut mailbox) = judge(table, mail)?;
         let session = number(session, records.sessions.len())?;
         let item = number(item, records.items.len())?;
-        // F-9: "a request or delivery across makers"
-        if verb != Verb::Release && !records.makers.agree(session, item) {
-            return Err(Refusal::OtherMaker);
-        }
 
         let mut answer = Answer::default();
         let sends = match verb {
@@ -188,10 +180,7 @@ pub fn step_by(
 
         answer.sent = sends.len() as u8;
         mailbox.messages.extend(sends);
-        // F-9: "9 is now judged by that maker's share"
-        let makers = &records.makers;
-        let maker = makers.of_session(session);
-        if makers.count(maker, &mailbox.messages) > makers.share(maker) {
+        if mailbox.messages.len() > mailbox.capacity {
             return Err(Refusal::MailFull);
         }
         records.encode(table);
@@ -201,12 +190,28 @@ pub fn step_by(
 }
 
 fn from_session(session: u8, sends: ToItems) -> Vec<Message> {
-    let message = |(item, body)| Message::new(Direction::ToItem, session, item, body);
+    let direction = Direction::ToItem;
+    let message = |(item, body)| Message {
+        route: Route {
+            direction,
+            session,
+            item,
+        },
+        body,
+    };
     sends.into_iter().map(message).collect()
 }
 
 fn from_item(item: u8, sends: ToSessions) -> Vec<Message> {
-    let message = |(session, body)| Message::new(Direction::ToSession, session, item, body);
+    let direction = Direction::ToSession;
+    let message = |(session, body)| Message {
+        route: Route {
+            direction,
+            session,
+            item,
+        },
+        body,
+    };
     sends.into_iter().map(message).collect()
 }
 
@@ -244,30 +249,26 @@ pub fn cycle_text(session: u64, table: &[u8], text: &mut [u8]) -> Text {
 
 /// F-2: "one call that delivers the oldest entry, again and again, until the
 /// mail is empty, the next delivery would be refused with 9, or as many are made
-/// as the caller allows". F-9: "Draining is then per maker, named in the call".
-pub fn drain(maker: u64, limit: u64, table: &mut [u8], mail: &mut [u8]) -> Drained {
-    drain_by(&RULES, maker, limit, table, mail)
+/// as the caller allows".
+pub fn drain(limit: u64, table: &mut [u8], mail: &mut [u8]) -> Drained {
+    drain_by(&RULES, limit, table, mail)
 }
 
 /// A drain by somebody's single steps. F-2: "only 2, 3 and 4 of 01 apply to it, before
-/// any delivery", F-9: and "5 if not 1 or 2". Each step is made on copies of the
-/// buffers, which take their place unless one of the three ends the drain, "the first
-/// that applies".
+/// any delivery". Each step is made on copies of the buffers, which take their place
+/// unless one of the three ends the drain, "the first that applies".
 pub fn drain_by(
     calls: &(impl Calls + ?Sized),
-    maker: u64,
     limit: u64,
     table: &mut [u8],
     mail: &mut [u8],
 ) -> Drained {
     answered(|| {
-        let Table { makers, .. } = judge(table, mail)?.0;
-        let maker = number(maker, MAKERS)?;
+        judge(table, mail)?;
         let mut made = 0;
         let ending = loop {
             let (mut next_table, mut next_mail) = (table.to_vec(), mail.to_vec());
-            let oldest = makers.oldest(maker, mail);
-            match oldest.and_then(|place| deliver(calls, place, &mut next_table, &mut next_mail)) {
+            match deliver(calls, 0, &mut next_table, &mut next_mail) {
                 None => break Ending::Empty,
                 // Of the refusals only 9 can come.
                 Some(answer) if answer.refusal != ACCEPTED => break Ending::Full,

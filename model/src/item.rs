@@ -55,7 +55,7 @@ impl Item {
     }
 
     pub fn encode(&self, bytes: &mut [u8]) {
-        bytes[QUEUE].fill(0);
+        bytes.fill(0);
         bytes[HOLDER] = self.holder;
         bytes[QUEUE_LENGTH] = self.queue.len() as u8;
         bytes[QUEUE][..self.queue.len()].copy_from_slice(&self.queue);

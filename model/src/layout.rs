@@ -15,32 +15,25 @@ pub const MAX_CAPACITY: usize = 4096;
 pub const MAX_TEXT: usize = 3045;
 
 /// The table: "S, M, then the session records, then the item records". F-6:
-/// "The ranks stand in the table behind the item records, S more bytes". F-9: "the
-/// shares are two 2-byte values at the end of the table".
+/// "The ranks stand in the table behind the item records, S more bytes".
 pub const TABLE_SESSIONS: usize = 0;
 pub const TABLE_ITEMS: usize = 1;
 pub const TABLE_HEADER: usize = 2;
 
 /// A session: "stage (1), awaited item or 0 (1), held items as a mask (8), and
-/// for each initiator 1 to 64 the junior of the stored probe, or 0 (64)". F-9: "The
-/// owners are one byte at the end of each session and item record".
+/// for each initiator 1 to 64 the junior of the stored probe, or 0 (64)".
 pub const STAGE: usize = 0;
 pub const AWAITED: usize = 1;
 pub const HELD: Range<usize> = 2..10;
 pub const JUNIORS: Range<usize> = HELD.end..HELD.end + MAX_SESSIONS;
-pub const SESSION_MAKER: usize = JUNIORS.end;
-pub const SESSION_SIZE: usize = SESSION_MAKER + 1;
+pub const SESSION_SIZE: usize = JUNIORS.end;
 
 /// An item: "holder or 0 (1), length of its line (1), waiting sessions in
 /// order, then zeros (64)".
 pub const HOLDER: usize = 0;
 pub const QUEUE_LENGTH: usize = 1;
 pub const QUEUE: Range<usize> = 2..2 + MAX_SESSIONS;
-pub const ITEM_MAKER: usize = QUEUE.end;
-pub const ITEM_SIZE: usize = ITEM_MAKER + 1;
-
-/// The bytes of each share.
-pub const SHARE_SIZE: usize = 2;
+pub const ITEM_SIZE: usize = QUEUE.end;
 
 /// The mail: "C (2), count (2), then two parallel arrays of C entries: route
 /// (direction, session, item) and body (kind, a, b), one byte each".
@@ -83,12 +76,6 @@ pub fn ranks_at(sessions: usize, items: usize) -> Range<usize> {
     begin..begin + sessions
 }
 
-/// The bytes of the two shares.
-pub fn shares_at(sessions: usize, items: usize) -> Range<usize> {
-    let begin = ranks_at(sessions, items).end;
-    begin..begin + 2 * SHARE_SIZE
-}
-
 /// The bytes of the route of a message, 0 being the oldest.
 pub fn route_at(place: usize) -> Range<usize> {
     record(MAIL_HEADER, ROUTE_SIZE, place)
@@ -108,10 +95,9 @@ fn record(begin: usize, size: usize, place: usize) -> Range<usize> {
     begin + size * place..begin + size * (place + 1)
 }
 
-/// "The table has 2 + 74 × S + 66 × M bytes", F-6: "S more". F-9 adds the owners and
-/// the shares.
+/// "The table has 2 + 74 × S + 66 × M bytes", F-6: "S more".
 pub fn table_length(sessions: usize, items: usize) -> usize {
-    shares_at(sessions, items).end
+    ranks_at(sessions, items).end
 }
 
 /// "The mail has 4 + 6 × C bytes".

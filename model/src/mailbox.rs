@@ -6,7 +6,6 @@ use crate::layout::{
     BODY_SIZE, DIRECTION, KIND, MAIL_CAPACITY, MAIL_COUNT, MAIL_HEADER, MAX_CAPACITY, MAX_ITEMS,
     MAX_SESSIONS, ROUTE_ITEM, ROUTE_SESSION, ROUTE_SIZE,
 };
-use crate::makers::Makers;
 
 /// "Direction 1 runs session to item, 2 item to session."
 #[derive(Clone, Copy, PartialEq, Eq, Debug)]
@@ -162,15 +161,6 @@ pub struct Message {
 }
 
 impl Message {
-    pub fn new(direction: Direction, session: u8, item: u8, body: Body) -> Message {
-        let route = Route {
-            direction,
-            session,
-            item,
-        };
-        Message { route, body }
-    }
-
     /// The message at a place, if it is well-formed.
     fn decode(
         mail: &[u8],
@@ -222,11 +212,10 @@ impl Mailbox {
         (mail.len() == mail_length(capacity)).then_some(capacity)
     }
 
-    /// The messages, if the mail is well-formed (01: in form) beside a table with these
-    /// makers. The length has been judged before.
-    pub fn decode(mail: &[u8], makers: &Makers) -> Option<Mailbox> {
+    /// The messages, if the mail is well-formed (01: in form). The length has
+    /// been judged before.
+    pub fn decode(mail: &[u8], sessions: usize, items: usize) -> Option<Mailbox> {
         let capacity = Mailbox::capacity(mail)?;
-        let (sessions, items) = (makers.sessions.len(), makers.items.len());
         let count = count(mail);
         if count > capacity {
             return None;
@@ -234,16 +223,14 @@ impl Mailbox {
         // "unused ones are zero"
         let unused_routes = &mail[route_at(count).start..routes_end(capacity)];
         let unused_bodies = &mail[body_at(capacity, count).start..mail_length(capacity)];
-        let zeros = |bytes: &[u8]| bytes.iter().all(|&byte| byte == 0);
-        if !zeros(unused_routes) || !zeros(unused_bodies) {
+        if unused_routes.iter().chain(unused_bodies).any(|&b| b != 0) {
             return None;
         }
         let message = |place| Message::decode(mail, capacity, place, sessions, items);
-        let messages: Vec<_> = (0..count).map(message).collect::<Option<_>>()?;
-        // F-9: "the mail's form includes both shares and their sum"
-        let within = messages.iter().all(|message| makers.keep_message(message));
-        let fits = within && makers.have_room(&messages) && makers.fill(capacity);
-        fits.then_some(Mailbox { capacity, messages })
+        Some(Mailbox {
+            capacity,
+            messages: (0..count).map(message).collect::<Option<_>>()?,
+        })
     }
 
     /// Writes "C (2), count (2), then two parallel arrays of C entries".

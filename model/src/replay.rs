@@ -53,8 +53,7 @@ fn run(input: &[u8]) -> Option<String> {
     }
     let (verbs, pairs) = rest.split_at(steps);
 
-    // F-6: "rank k for session k", "and replay uses those ranks". F-9: "Replay gives
-    // all owners 1 and [..] keeps 4,095 entries for maker 1."
+    // F-6: "rank k for session k", "and replay uses those ranks"
     let config = Config::plain(sessions as u64, items as u64, CAPACITY as u64);
     let mut table = vec![0; config.table_length()];
     let mut mail = vec![0; config.mail_length()];
@@ -71,8 +70,7 @@ fn run(input: &[u8]) -> Option<String> {
             &mut table,
             &mut mail,
         );
-        let rolled_back = rolled_back(&before, &Table::decode(&table)?);
-        tally.add(answer, rolled_back.len() as u64);
+        tally.add(answer, rolled_back(&before, &Table::decode(&table)?));
         // "index from 1, verb, session, item, refusal, sent, closed, victim,
         // initiator"
         let Answer {

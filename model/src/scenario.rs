@@ -1,13 +1,12 @@
 //! Random runs of the lock manager from its start, each settled by a seed,
 //! with demand 3 checked after every step and for every step of a drain. In some
-//! of them sessions are reopened, again and again, and in some there are two makers.
+//! of them sessions are reopened, again and again.
 
 use crate::answers::{Answer, Ending, Refusal, Verb, ACCEPTED};
 use crate::calls::{start, Calls};
 use crate::config::Config;
-use crate::demand3::{contents, Demand3};
-use crate::mailbox::{count, Body, Message, Route};
-use crate::makers::{Makers, MAKERS};
+use crate::demand3::Demand3;
+use crate::mailbox::{count, Body, Mailbox, Message, Route};
 use crate::names::by_message;
 use crate::policy::RULES;
 use crate::ranks::Ranks;
@@ -39,7 +38,7 @@ impl Random {
         self.between(1, n) == 1
     }
 
-    pub fn pick<'a, T>(&mut self, list: &'a [T]) -> Option<&'a T> {
+    fn pick<'a, T>(&mut self, list: &'a [T]) -> Option<&'a T> {
         let last = list.len().checked_sub(1)?;
         list.get(self.between(0, last as u64) as usize)
     }
@@ -57,26 +56,6 @@ impl Random {
     /// The numbers 1 to n, in any order.
     pub fn order(&mut self, n: u64) -> Vec<u8> {
         self.some_of((1..=n as u8).collect(), n as usize)
-    }
-}
-
-impl Makers {
-    /// Any owners of so many sessions and items, sometimes all of one maker.
-    pub fn any(random: &mut Random, sessions: u64, items: u64, shares: [u64; MAKERS]) -> Makers {
-        let owners = |random: &mut Random, number| {
-            let only = random.between(1, 16);
-            let one_in = random.between(2, 3);
-            let owner = |_| match only {
-                1 | 2 => only as u8,
-                _ => 1 + u8::from(random.one_in(one_in)),
-            };
-            (0..number).map(owner).collect()
-        };
-        Makers {
-            sessions: owners(random, sessions),
-            items: owners(random, items),
-            shares: shares.map(|share| share as u16),
-        }
     }
 }
 
@@ -156,8 +135,6 @@ pub struct Counts {
     pub by_rank: u64,
     /// Accepted steps after a session was reopened.
     pub after_reopening: u64,
-    /// Steps refused with 17.
-    pub across: u64,
     /// Reopenings refused with 15.
     pub in_use: u64,
     /// Reopenings of a session while there was mail.
@@ -181,15 +158,11 @@ impl Counts {
         self.full += other.full;
         self.by_rank += other.by_rank;
         self.after_reopening += other.after_reopening;
-        self.across += other.across;
         self.in_use += other.in_use;
         self.reopened_beside_mail += other.reopened_beside_mail;
         self.most_reopened = self.most_reopened.max(other.most_reopened);
-        for (sum, counted) in self.demand3.makers.iter_mut().zip(other.demand3.makers) {
-            sum.closed += counted.closed;
-            sum.rolled_back += counted.rolled_back;
-            sum.empty += counted.empty;
-        }
+        self.demand3.closed += other.demand3.closed;
+        self.demand3.rolled_back += other.demand3.rolled_back;
         self.demand3.declared += other.demand3.declared;
         self.demand3.declared_by_rank += other.demand3.declared_by_rank;
         self.demand3.empty += other.demand3.empty;
@@ -206,7 +179,8 @@ impl Counts {
 const SMALLEST: u64 = 2;
 const LARGEST: u64 = 8;
 
-/// A share that no run of these sizes has filled, and the largest of the small ones.
+/// A capacity that no run of these sizes has filled, and the largest of the
+/// small ones.
 const WIDE: u64 = 512;
 const NARROW: u64 = 16;
 
@@ -233,14 +207,9 @@ pub const BY_RULES: Answering = Answering {
 /// One lock manager with its two buffers and the check of its list of calls.
 struct Desk<'a> {
     by: Answering<'a>,
-    /// Plain; the ranks and makers that were drawn stand in the table.
+    /// Plain; the ranks that were drawn stand in the table.
     config: Config<'static>,
-    makers: Makers,
-    /// Which makers have a share that is never filled.
-    wide: [bool; MAKERS],
-    /// The maker that requests, releases and reopens with its own mail empty alone, if
-    /// one does.
-    patient: Option<u8>,
+    wide: bool,
     plain: bool,
     /// How often each session was reopened, where the run reopens sessions.
     reopened: Option<Vec<u64>>,
@@ -250,8 +219,8 @@ struct Desk<'a> {
     counts: Counts,
 }
 
-/// One random run of one maker in which no session is reopened. It fails with the first
-/// thing that breaks demand 3, or with mail that deliveries alone do not empty.
+/// One random run in which no session is reopened. It fails with the first thing
+/// that breaks demand 3, or with mail that deliveries alone do not empty.
 pub fn run(seed: u64, by: Answering) -> Result<Counts, String> {
     let mut desk = Desk::draw(seed, by)?;
     desk.play()?;
@@ -259,35 +228,18 @@ pub fn run(seed: u64, by: Answering) -> Result<Counts, String> {
     Ok(desk.counted())
 }
 
-/// One random run of one maker in which sessions are reopened, of so many steps or more
-/// unless its small mail can take no delivery any more.
+/// One random run in which sessions are reopened, of so many steps or more unless
+/// its small mail can take no delivery any more.
 pub fn run_reopening(seed: u64, by: Answering, steps: u64) -> Result<Counts, String> {
-    Desk::draw(seed, by)?.reopening(steps)
-}
-
-/// The same with two makers.
-pub fn run_makers(seed: u64, by: Answering, steps: u64) -> Result<Counts, String> {
     let mut desk = Desk::draw(seed, by)?;
-    let wide = [0; MAKERS].map(|_| !desk.random.one_in(4));
-    desk.share(wide, WIDE)?;
-    desk.reopening(steps)
-}
-
-/// The same where one maker has room for 6 S + M + 1 messages and requests, releases and
-/// reopens with its own mail empty alone, whatever the other does: its mail never fills
-/// up.
-pub fn run_patient(seed: u64, by: Answering, steps: u64) -> Result<Counts, String> {
-    let mut desk = Desk::draw(seed, by)?;
-    let Config {
-        sessions, items, ..
-    } = desk.config;
-    let patient = desk.random.between(1, MAKERS as u64) as u8;
-    desk.patient = Some(patient);
-    desk.share(
-        [1, 2].map(|maker| maker == patient),
-        6 * sessions + items + 1,
-    )?;
-    desk.reopening(steps)
+    desk.reopened = Some(vec![0; desk.config.sessions as usize]);
+    while desk.counts.steps < steps && desk.counts.stuck == 0 {
+        desk.play()?;
+    }
+    if desk.counts.stuck == 0 {
+        desk.deliver_all()?;
+    }
+    Ok(desk.counted())
 }
 
 impl<'a> Desk<'a> {
@@ -297,96 +249,36 @@ impl<'a> Desk<'a> {
         let sessions = random.between(SMALLEST, LARGEST);
         let items = random.between(SMALLEST, LARGEST);
         let wide = !random.one_in(8);
-        let room = if wide {
+        let capacity = if wide {
             WIDE
         } else {
             random.between(1, NARROW)
         };
-        let config = Config::with_room(sessions, items, room);
+        let config = Config::plain(sessions, items, capacity);
         let ranks = if random.one_in(8) {
             config.ranks.to_vec()
         } else {
             random.order(sessions)
         };
-        let makers = config.makers().ok_or("bad makers")?;
-        let mut desk = Desk {
+        let mut table = vec![0; config.table_length()];
+        let mut mail = vec![0; config.mail_length()];
+        if start(&config.with_ranks(&ranks), &mut table, &mut mail) != ACCEPTED {
+            return Err("start is refused".to_string());
+        }
+        Ok(Desk {
             by,
             config,
-            makers,
-            wide: [wide, false],
-            patient: None,
+            wide,
             plain: Ranks::is_plain(&ranks),
             reopened: None,
-            table: Vec::new(),
-            mail: Vec::new(),
+            table,
+            mail,
             random,
             counts: Counts {
                 runs: 1,
                 ..Counts::default()
             },
-        };
-        desk.start(&ranks)?;
-        Ok(desk)
-    }
-
-    /// The buffers after a start with these ranks.
-    fn start(&mut self, ranks: &[u8]) -> Result<(), String> {
-        let config = self.config.with_makers(&self.makers).with_ranks(ranks);
-        self.table = vec![0; config.table_length()];
-        self.mail = vec![0; config.mail_length()];
-        match start(&config, &mut self.table, &mut self.mail) {
-            ACCEPTED => Ok(()),
-            refusal => Err(format!("start is refused with {refusal}")),
-        }
-    }
-
-    /// Two makers share the lock manager, from its start: with so much room if it is
-    /// wide, else with less.
-    fn share(&mut self, wide: [bool; MAKERS], room: u64) -> Result<(), String> {
-        let Config {
-            sessions, items, ..
-        } = self.config;
-        self.wide = wide;
-        let shares = wide.map(|wide| match wide {
-            true => room,
-            false => self.random.between(1, NARROW),
-        });
-        self.makers = Makers::any(&mut self.random, sessions, items, shares);
-        let ranks = self.records()?.ranks;
-        self.start(ranks.bytes())
-    }
-
-    /// So many steps or more with sessions reopened, unless a small mail can take no
-    /// delivery any more.
-    fn reopening(mut self, steps: u64) -> Result<Counts, String> {
-        self.reopened = Some(vec![0; self.config.sessions as usize]);
-        while self.counts.steps < steps && self.counts.stuck == 0 {
-            self.play()?;
-        }
-        if self.counts.stuck == 0 {
-            self.deliver_all()?;
-        }
-        Ok(self.counted())
-    }
-
-    /// Whether a number is that of a session whose maker waits for empty mail.
-    fn is_patient(&self, session: u64) -> bool {
-        let mut sessions = (1..).zip(&self.makers.sessions);
-        sessions.any(|(k, maker)| k == session && self.patient == Some(*maker))
-    }
-
-    /// Whether its mail is not empty then.
-    fn waits(&self, session: u64) -> Result<bool, String> {
-        if !self.is_patient(session) {
-            return Ok(false);
-        }
-        let (_, mailbox) = contents((&self.table, &self.mail))?;
-        let mut owners = mailbox.messages.iter().map(|m| self.makers.of_message(m));
-        Ok(owners.any(|maker| self.patient == Some(maker)))
-    }
-
-    fn is_wide(&self, maker: u8) -> bool {
-        self.wide[usize::from(maker) - 1]
+        })
     }
 
     /// What the run came to.
@@ -442,12 +334,7 @@ impl<'a> Desk<'a> {
         self.counts.refused += u64::from(answer.refusal != ACCEPTED);
         self.count_reused(u64::from(answer.refusal == ACCEPTED));
         self.counts.full += u64::from(answer.refusal == Refusal::MailFull as u8);
-        self.counts.across += u64::from(answer.refusal == Refusal::OtherMaker as u8);
-        if answer.refusal == Refusal::MailFull as u8 && self.is_patient(session) {
-            return Err("the mail of a patient maker filled up".to_string());
-        }
         self.counts.demand3.after_step(
-            session,
             answer,
             (&before.0, &before.1),
             (&self.table, &self.mail),
@@ -469,7 +356,12 @@ impl<'a> Desk<'a> {
 
     /// The earliest message of each route, in order of sending.
     fn heads(&self) -> Result<Vec<Message>, String> {
-        let (_, mailbox) = contents((&self.table, &self.mail))?;
+        let mailbox = Mailbox::decode(
+            &self.mail,
+            self.config.sessions as usize,
+            self.config.items as usize,
+        )
+        .ok_or("the mail is not well-formed")?;
         let mut heads: Vec<Message> = Vec::new();
         for message in mailbox.messages {
             if heads.iter().all(|head| head.route != message.route) {
@@ -484,9 +376,6 @@ impl<'a> Desk<'a> {
         let verb = self.random.between(0, 5);
         let session = self.random.between(0, self.config.sessions + 1);
         let item = self.random.between(0, self.config.items + 1);
-        if verb <= Verb::Release as u64 && self.waits(session)? {
-            return Ok(());
-        }
         self.step(verb, session, item).map(|_| ())
     }
 
@@ -505,13 +394,8 @@ impl<'a> Desk<'a> {
         let mut choices = Vec::new();
         for session in 1..=self.config.sessions {
             let record = records.session(session as u8);
-            if self.waits(session)? {
-                continue;
-            }
             for item in 1..=self.config.items {
-                let own = self.makers.agree(session as u8, item as u8);
-                let fits = stages.contains(&record.stage) && record.holds(item as u8) == held;
-                if own && fits {
+                if stages.contains(&record.stage) && record.holds(item as u8) == held {
                     choices.push((session, item));
                 }
             }
@@ -536,11 +420,8 @@ impl<'a> Desk<'a> {
         Ok(())
     }
 
-    /// A drain for a maker with any limit, then the check.
+    /// A drain with any limit, then the check.
     fn drain(&mut self) -> Result<(), String> {
-        // Of one maker it is always maker 1.
-        let two = self.makers.sessions.contains(&2);
-        let maker = if two && self.random.one_in(2) { 2 } else { 1 };
         let limit = match self.random.between(1, 6) {
             1 => 0,
             2 => 1,
@@ -549,10 +430,9 @@ impl<'a> Desk<'a> {
         };
         let before = (self.table.clone(), self.mail.clone());
         let (table, mail) = (&mut self.table, &mut self.mail);
-        let drained = self.by.calls.drain(maker, limit, table, mail);
+        let drained = self.by.calls.drain(limit, table, mail);
         self.counts.demand3.after_drain(
             self.by.calls,
-            maker,
             limit,
             drained,
             (&before.0, &before.1),
@@ -566,7 +446,7 @@ impl<'a> Desk<'a> {
                 "mail not empty after {DELIVERIES_BOUND} deliveries, a drain"
             ));
         }
-        if self.is_wide(maker as u8) && drained.ending == Ending::Full as u8 {
+        if self.wide && drained.ending == Ending::Full as u8 {
             return Err("a wide mail filled up".to_string());
         }
         Ok(())
@@ -584,9 +464,6 @@ impl<'a> Desk<'a> {
             Some(&session) => session,
             None => return Ok(()),
         };
-        if self.waits(session)? {
-            return Ok(());
-        }
         let before = self.table.clone();
         let refusal = self.by.calls.reopen(session, &mut self.table, &self.mail);
         self.counts.demand3.after_reopen(
@@ -608,7 +485,11 @@ impl<'a> Desk<'a> {
 
     /// A message names the session.
     fn check_named(&self, session: u8) -> Result<(), String> {
-        let (_, mailbox) = contents((&self.table, &self.mail))?;
+        let Config {
+            sessions, items, ..
+        } = self.config;
+        let mailbox = Mailbox::decode(&self.mail, sessions as usize, items as usize)
+            .ok_or("the mail is not well-formed")?;
         if !mailbox
             .messages
             .iter()
@@ -635,8 +516,7 @@ impl<'a> Desk<'a> {
             let chosen = schedule.choose(&mut self.random, &heads);
             let route = chosen.ok_or("mail without a route")?;
             if self.deliver(route)?.refusal != ACCEPTED && !self.deliver_some(&heads)? {
-                let mut makers = heads.iter().map(|head| self.makers.of_message(head));
-                if makers.any(|maker| self.is_wide(maker)) {
+                if self.wide {
                     return Err("a wide mail filled up".to_string());
                 }
                 self.counts.stuck += 1;

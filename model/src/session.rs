@@ -1,7 +1,7 @@
 //! The session record, its stages, and what a session does.
 
 use crate::branch::SessionBranch;
-use crate::layout::{within, AWAITED, HELD, JUNIORS, MAX_SESSIONS, STAGE};
+use crate::layout::{within, AWAITED, HELD, JUNIORS, MAX_ITEMS, MAX_SESSIONS, STAGE};
 use crate::mailbox::Body;
 use crate::ranks::Ranks;
 
@@ -114,8 +114,7 @@ impl Session {
 
     /// The held items, rising.
     pub fn held_items(&self) -> impl Iterator<Item = u8> + '_ {
-        let last = u64::BITS - self.held.leading_zeros();
-        (1..=last as u8).filter(|&item| self.holds(item))
+        (1..=MAX_ITEMS as u8).filter(|&item| self.holds(item))
     }
 
     /// The stored probes "by rising initiator": initiator and junior.

@@ -5,7 +5,7 @@ use model::item::Item;
 use model::layout::{session_at, table_length, MAX_SESSIONS, MAX_TEXT, STAGE};
 use model::scenario::Random;
 use model::table::Table;
-use model::{cycle_text, report, start, step, Config, Makers, Ranks, Refusal, Text, ACCEPTED};
+use model::{cycle_text, report, start, step, Config, Ranks, Refusal, Text, ACCEPTED};
 
 fn encoded(records: &Table) -> Vec<u8> {
     let mut bytes = vec![0; table_length(records.sessions.len(), records.items.len())];
@@ -13,14 +13,9 @@ fn encoded(records: &Table) -> Vec<u8> {
     bytes
 }
 
-/// A fresh table of one maker.
-fn plain(sessions: usize, items: usize) -> Table {
-    Table::fresh(Ranks::plain(sessions), Makers::plain(sessions, items, 2))
-}
-
 /// A table with items of these holders and queues.
 fn table(sessions: usize, items: &[(u8, &[u8])]) -> Vec<u8> {
-    let mut records = plain(sessions, items.len());
+    let mut records = Table::fresh(Ranks::plain(sessions), items.len());
     for (item, &(holder, queue)) in records.items.iter_mut().zip(items) {
         *item = Item {
             holder,
@@ -32,7 +27,7 @@ fn table(sessions: usize, items: &[(u8, &[u8])]) -> Vec<u8> {
 
 /// Session k waits at item k for the next session, the last for session 1.
 fn cycle_of(sessions: usize) -> Vec<u8> {
-    let mut records = plain(sessions, sessions);
+    let mut records = Table::fresh(Ranks::plain(sessions), sessions);
     for (session, item) in (1..).zip(&mut records.items) {
         item.holder = session % sessions as u8 + 1;
         item.queue = vec![session];
@@ -337,8 +332,8 @@ fn drawn(random: &mut Random) -> Table {
     let most = if random.one_in(4) { 64 } else { 8 };
     let members = random.between(1, most);
     let (sessions, items) = (random.between(members, most), random.between(members, most));
-    let mut records = plain(sessions as usize, items as usize);
-    records.ranks = Ranks::decode(&random.order(sessions)).unwrap();
+    let ranks = Ranks::decode(&random.order(sessions)).unwrap();
+    let mut records = Table::fresh(ranks, items as usize);
     let waiting_one_in = match random.between(1, 3) {
         1 => random.between(2, 10),
         2 => random.between(11, 1000),

@@ -8,7 +8,7 @@ use model::layout::{mail_length, table_length};
 use model::mailbox::Mailbox;
 use model::scenario::{run, Counts, BY_RULES, DELIVERIES_BOUND};
 use model::table::Table;
-use model::{Makers, Ranks, Refusal};
+use model::{Ranks, Refusal};
 
 /// Accepted steps with ranks that are not plain, in all runs.
 const STEPS: u64 = 2_000_000;
@@ -27,8 +27,8 @@ fn holds_after_every_step() {
     }
     println!("{total:#?}");
     assert!(total.runs > 10_000);
-    assert!(total.demand3.closed() > 20_000);
-    assert!(total.demand3.rolled_back() > 20_000);
+    assert!(total.demand3.closed > 20_000);
+    assert!(total.demand3.rolled_back > 20_000);
     assert!(total.demand3.declared > 20_000);
     assert!(total.demand3.declared_by_rank > 10_000);
     assert!(total.demand3.empty > 100_000);
@@ -41,15 +41,10 @@ fn holds_after_every_step() {
     }
 }
 
-/// Three sessions and two items.
-fn fresh() -> Table {
-    Table::fresh(Ranks::plain(3), Makers::plain(3, 2, 2))
-}
-
 /// Two sessions, each in the queue of the item that the other holds; session 3
 /// waits for session 1.
 fn with_cycle() -> Table {
-    let mut table = fresh();
+    let mut table = Table::fresh(Ranks::plain(3), 2);
     table.items[0] = Item {
         holder: 1,
         queue: vec![2, 3],
@@ -68,10 +63,10 @@ fn check(answer: Answer, before: &Table, after: &Table) -> Result<(), String> {
         table.encode(&mut bytes);
         bytes
     };
-    let mut empty = vec![0; mail_length(2)];
-    Mailbox::empty(2).encode(&mut empty);
+    let mut empty = vec![0; mail_length(1)];
+    Mailbox::empty(1).encode(&mut empty);
     let (before, after) = (bytes(before), bytes(after));
-    Demand3::default().after_step(1, answer, (&before, &empty), (&after, &empty))
+    Demand3::default().after_step(answer, (&before, &empty), (&after, &empty))
 }
 
 fn declaration(victim: u8, initiator: u8) -> Answer {
@@ -85,7 +80,7 @@ fn declaration(victim: u8, initiator: u8) -> Answer {
 
 #[test]
 fn the_check_can_fail() {
-    let fresh = fresh();
+    let fresh = Table::fresh(Ranks::plain(3), 2);
     let cycle = with_cycle();
     let reason = |answer, before, after| check(answer, before, after).unwrap_err();
 

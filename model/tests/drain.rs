@@ -21,8 +21,8 @@ fn drained(made: u64, ending: Ending) -> Drained {
 }
 
 fn mailbox(desk: &Desk) -> Mailbox {
-    let Table { makers, .. } = Table::decode(&desk.table).unwrap();
-    Mailbox::decode(&desk.mail, &makers).unwrap()
+    let (sessions, items) = Table::size(&desk.table).unwrap();
+    Mailbox::decode(&desk.mail, sessions, items).unwrap()
 }
 
 /// The step on the oldest message; what it answers.
@@ -138,7 +138,7 @@ fn ends_with_empty_mail_or_at_the_limit() {
     }
 }
 
-/// With a share from 1 to 6.
+/// With C from 1 to 6.
 #[test]
 fn ends_before_a_delivery_that_does_not_fit() {
     for dropped in 0..=5 {
@@ -204,8 +204,13 @@ fn demand_3_counts_its_steps() {
             check(&mut demand3, limit, drained, &before, &desk).unwrap();
         }
         assert_eq!(count(&desk.mail), 0);
-        let counted = (demand3.closed(), demand3.rolled_back(), demand3.declared);
-        assert_eq!(counted, (1, 1, 1));
+        let Demand3 {
+            closed,
+            rolled_back,
+            declared,
+            ..
+        } = demand3;
+        assert_eq!((closed, rolled_back, declared), (1, 1, 1));
     }
 }
 
@@ -218,7 +223,6 @@ fn check(
 ) -> Result<(), String> {
     demand3.after_drain(
         &RULES,
-        1,
         limit,
         drained,
         (&before.table, &before.mail),
@@ -303,7 +307,7 @@ fn ends_within_the_bound() {
     let mut random = Random::new(1);
     let mut most = 0;
     for n in [1, 2, 3, 8, 20, 64] {
-        let mut desk = Desk::new(n, n, MAX_CAPACITY as u64 - 1);
+        let mut desk = Desk::new(n, n, MAX_CAPACITY as u64);
         let mut demand3 = Demand3::default();
         for round in 0..5 {
             for session in 1..=n {

@@ -5,10 +5,10 @@ mod desk;
 use desk::{Desk, RELEASE, REQUEST, TO_ITEM, TO_SESSION};
 use model::item::Item;
 use model::layout::{
-    body_at, item_at, mail_length, ranks_at, route_at, session_at, shares_at, table_length,
-    write_u16, AWAITED, BODY_SIZE, HELD, HOLDER, ITEM_MAKER, ITEM_SIZE, JUNIORS, MAIL_CAPACITY,
-    MAIL_COUNT, MAIL_HEADER, MAX_CAPACITY, MAX_ITEMS, MAX_SESSIONS, QUEUE, QUEUE_LENGTH,
-    ROUTE_SIZE, SESSION_MAKER, SESSION_SIZE, STAGE, TABLE_HEADER, TABLE_ITEMS, TABLE_SESSIONS,
+    body_at, item_at, mail_length, ranks_at, route_at, session_at, table_length, write_u16,
+    AWAITED, BODY_SIZE, HELD, HOLDER, ITEM_SIZE, JUNIORS, MAIL_CAPACITY, MAIL_COUNT, MAIL_HEADER,
+    MAX_CAPACITY, MAX_ITEMS, MAX_SESSIONS, QUEUE, QUEUE_LENGTH, ROUTE_SIZE, SESSION_SIZE, STAGE,
+    TABLE_HEADER, TABLE_ITEMS, TABLE_SESSIONS,
 };
 use model::mailbox::{kind, Body, Direction, Mailbox, Message, Route};
 use model::replay::MAX_STEPS;
@@ -100,26 +100,20 @@ fn replay_of_bad_input() {
 
 #[test]
 fn start_writes_all_bytes() {
-    let desk = Desk::new(3, 2, 4);
+    let desk = Desk::new(3, 2, 5);
     let mut table = vec![0; table_length(3, 2)];
     table[TABLE_SESSIONS] = 3;
     table[TABLE_ITEMS] = 2;
     for session in 1..=3 {
         table[session_at(session)][STAGE] = Stage::Growing as u8;
-        table[session_at(session)][SESSION_MAKER] = 1;
-    }
-    for item in 1..=2 {
-        table[item_at(3, item)][ITEM_MAKER] = 1;
     }
     table[ranks_at(3, 2)].copy_from_slice(&[1, 2, 3]);
-    table[shares_at(3, 2)].copy_from_slice(&[4, 0, 1, 0]);
     assert_eq!(desk.table, table);
     let mut mail = vec![0; mail_length(5)];
     mail[MAIL_CAPACITY][0] = 5;
     assert_eq!(desk.mail, mail);
-    let largest = Desk::new(1, 1, MAX_CAPACITY as u64 - 1);
+    let largest = Desk::new(1, 1, MAX_CAPACITY as u64);
     assert_eq!(largest.mail[..MAIL_HEADER], [0, 16, 0, 0]);
-    assert_eq!(largest.table[shares_at(1, 1)], [255, 15, 1, 0]);
 }
 
 /// The figures of 01 and 02, to which the names of the layout must come.
@@ -127,11 +121,10 @@ fn start_writes_all_bytes() {
 fn layout_in_figures() {
     assert_eq!([MAX_SESSIONS, MAX_ITEMS, MAX_CAPACITY], [64, 64, 4096]);
     assert_eq!([TABLE_SESSIONS, TABLE_ITEMS, TABLE_HEADER], [0, 1, 2]);
-    let (session, item, rank) = (75, 67, 1);
-    assert_eq!([STAGE, AWAITED, SESSION_MAKER], [0, 1, 74]);
+    let (session, item, rank) = (74, 66, 1);
+    assert_eq!([STAGE, AWAITED, SESSION_SIZE], [0, 1, session]);
     assert_eq!([HELD, JUNIORS], [2..10, 10..74]);
-    assert_eq!([HOLDER, QUEUE_LENGTH, ITEM_MAKER], [0, 1, 66]);
-    assert_eq!([SESSION_SIZE, ITEM_SIZE], [session, item]);
+    assert_eq!([HOLDER, QUEUE_LENGTH, ITEM_SIZE], [0, 1, item]);
     assert_eq!(QUEUE, 2..66);
     assert_eq!([MAIL_CAPACITY, MAIL_COUNT], [0..2, 2..4]);
     assert_eq!([MAIL_HEADER, ROUTE_SIZE, BODY_SIZE], [4, 3, 3]);
@@ -139,8 +132,7 @@ fn layout_in_figures() {
     assert_eq!(session_at(3), sessions_end - session..sessions_end);
     assert_eq!(item_at(3, 5), items_end - item..items_end);
     assert_eq!(ranks_at(3, 5), items_end..items_end + rank * 3);
-    assert_eq!(shares_at(3, 5), items_end + rank * 3..table_length(3, 5));
-    assert_eq!(table_length(3, 5), 6 + 76 * 3 + 67 * 5);
+    assert_eq!(table_length(3, 5), items_end + rank * 3);
     assert_eq!(mail_length(7), 4 + 6 * 7);
     assert_eq!(route_at(2), 4 + 3 * 2..4 + 3 * 3);
     assert_eq!(body_at(7, 6), 4 + 3 * 13..mail_length(7));
@@ -228,7 +220,7 @@ fn full_mail_takes_a_delivery_that_sends_at_most_one() {
 
 #[test]
 fn largest_numbers() {
-    let mut desk = Desk::new(64, 64, 4095);
+    let mut desk = Desk::new(64, 64, 4096);
     desk.sends(REQUEST, 64, 64, 1);
     desk.sends(TO_ITEM, 64, 64, 1);
     desk.sends(TO_SESSION, 64, 64, 0);
@@ -258,7 +250,7 @@ fn refusal_1_verb() {
 
 #[test]
 fn refusal_2_sizes() {
-    let good = Desk::new(2, 2, 2);
+    let good = Desk::new(2, 2, 3);
     let with = |change: &dyn Fn(&mut Desk)| {
         let mut desk = good.clone();
         change(&mut desk);
@@ -346,7 +338,7 @@ fn refusal_3_table() {
 
 #[test]
 fn refusal_4_mail() {
-    let good = Desk::new(3, 2, 2);
+    let good = Desk::new(3, 2, 3);
     let message = |route: [u8; ROUTE_SIZE], body: [u8; BODY_SIZE]| {
         let mut desk = good.clone();
         desk.mail[MAIL_COUNT][0] = 1;
@@ -480,7 +472,7 @@ fn refusal_8_no_message() {
 
 #[test]
 fn delivery_takes_the_earliest_of_a_route() {
-    let mut desk = Desk::new(2, 2, 7);
+    let mut desk = Desk::new(2, 2, 8);
     let route = |session, item| Route {
         direction: Direction::ToItem,
         session,
@@ -496,8 +488,7 @@ fn delivery_takes_the_earliest_of_a_route() {
     ];
     mailbox.encode(&mut desk.mail);
     desk.sends(TO_ITEM, 1, 1, 1);
-    let Table { makers, .. } = Table::decode(&desk.table).unwrap();
-    let after = Mailbox::decode(&desk.mail, &makers).unwrap();
+    let after = Mailbox::decode(&desk.mail, 2, 2).unwrap();
     let granted = Route {
         direction: Direction::ToSession,
         session: 1,

@@ -10,18 +10,13 @@ use model::scenario::Random;
 use model::session::{Session, Stage};
 use model::table::Table;
 use model::waits::{cycle_members, standing_cycles, waits_for};
-use model::{reopen, report, start, step, Config, Makers, Ranks, Refusal, Verb};
+use model::{reopen, report, start, step, Config, Ranks, Refusal, Verb};
 
 fn item(holder: u8, queue: &[u8]) -> Item {
     Item {
         holder,
         queue: queue.to_vec(),
     }
-}
-
-/// A fresh table of one maker, with room for three messages.
-fn plain(sessions: usize, items: usize) -> Table {
-    Table::fresh(Ranks::plain(sessions), Makers::plain(sessions, items, 4))
 }
 
 fn probe(initiator: u8, junior: u8) -> Body {
@@ -353,7 +348,7 @@ fn session_may_be_reopened() {
 
 #[test]
 fn waits_are_read_from_queues_and_holders() {
-    let mut table = plain(5, 4);
+    let mut table = Table::fresh(Ranks::plain(5), 4);
     table.items[0] = item(0, &[1, 5]); // no holder: no wait
     table.items[1] = item(2, &[1]);
     table.items[2] = item(1, &[2, 3]);
@@ -379,7 +374,7 @@ fn waits_are_read_from_queues_and_holders() {
 #[test]
 fn closed_comes_from_joining_a_queue() {
     let build = |queue: &[u8], body: Body| {
-        let mut records = plain(2, 2);
+        let mut records = Table::fresh(Ranks::plain(2), 2);
         records.items[0] = item(1, queue);
         records.items[1] = item(2, &[1]);
         let mut table = vec![0; table_length(2, 2)];
@@ -416,19 +411,12 @@ fn decoding_keeps_every_byte() {
     for _ in 0..200_000 {
         let sessions = random.between(1, 4) as usize;
         let items = random.between(1, 4) as usize;
-        let capacity = random.between(2, 4) as usize;
+        let capacity = random.between(1, 4) as usize;
         let mut table = vec![0; table_length(sessions, items)];
         let mut mail = vec![0; mail_length(capacity)];
         let ranks = random.order(sessions as u64);
-        let share = random.between(1, capacity as u64 - 1);
         let config = Config::plain(sessions as u64, items as u64, capacity as u64);
-        let mut makers = config.makers().unwrap();
-        if random.one_in(2) {
-            let shares = [share, capacity as u64 - share];
-            makers = Makers::any(&mut random, sessions as u64, items as u64, shares);
-        }
-        let config = config.with_makers(&makers).with_ranks(&ranks);
-        start(&config, &mut table, &mut mail);
+        start(&config.with_ranks(&ranks), &mut table, &mut mail);
         // A few bytes behind the sizes and the capacity.
         for _ in 0..random.between(0, 4) {
             let place = random.between(TABLE_HEADER as u64, table.len() as u64 - 1) as usize;
@@ -450,8 +438,7 @@ fn decoding_keeps_every_byte() {
             mail[body_at(capacity, place)].copy_from_slice(&body.map(|byte| byte as u8));
         }
         let records = Table::decode(&table);
-        let makers = records.as_ref().map(|records| &records.makers);
-        let mailbox = makers.and_then(|makers| Mailbox::decode(&mail, makers));
+        let mailbox = Mailbox::decode(&mail, sessions, items);
         // Session 0 is refused with 5 if nothing comes before it.
         let refusal = step(Verb::Request as u64, 0, 1, &mut table, &mut mail).refusal;
         assert_eq!(reopen(0, &mut table, &mail), refusal);

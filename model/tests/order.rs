@@ -1,7 +1,7 @@
 //! The order in which each call judges its causes: where two hold, the first of
 //! its list is answered.
 
-use model::layout::{item_at, session_at, HELD, ITEM_MAKER, MAIL_COUNT, MAX_TEXT, STAGE};
+use model::layout::{item_at, session_at, HELD, MAIL_COUNT, MAX_TEXT, STAGE};
 use model::session::Stage;
 use model::{cycle_text, drain, reopen, report, start, step, Config, Refusal, Verb, ACCEPTED};
 
@@ -11,14 +11,13 @@ struct Given {
     verb: u64,
     session: u64,
     item: u64,
-    maker: u64,
     room: usize,
     table: Vec<u8>,
     mail: Vec<u8>,
 }
 
 /// Two sessions and two items, with room for one message.
-const TWO: Config = Config::with_room(2, 2, 1);
+const TWO: Config = Config::plain(2, 2, 1);
 
 /// After a start: session 1 asks for item 1.
 fn fresh() -> Given {
@@ -27,7 +26,6 @@ fn fresh() -> Given {
         verb: Verb::Request as u64,
         session: 1,
         item: 1,
-        maker: 1,
         room: MAX_TEXT,
         table: vec![0; TWO.table_length()],
         mail: vec![0; TWO.mail_length()],
@@ -59,13 +57,8 @@ fn spoil(given: &mut Given, cause: Refusal) {
         Refusal::BadVerb => given.verb = 0,
         Refusal::BadSize => table.push(0),
         Refusal::BadTable => table[session_at(2)][STAGE] = 0,
-        Refusal::BadMail => mail[MAIL_COUNT][0] = 3,
-        Refusal::BadNumber => (given.session, given.maker) = (0, 0),
-        Refusal::OtherMaker => {
-            // Not the item of the message that fills the mail.
-            table[item_at(2, 1)][ITEM_MAKER] = 2;
-            table[session_at(1)][HELD][0] = 0;
-        }
+        Refusal::BadMail => mail[MAIL_COUNT][0] = 2,
+        Refusal::BadNumber => given.session = 0,
         Refusal::WrongStage => {
             table[session_at(1)][STAGE] = Stage::Shrinking as u8;
             given.verb = Verb::Request as u64;
@@ -78,10 +71,9 @@ fn spoil(given: &mut Given, cause: Refusal) {
         Refusal::MailFull => {
             step(Verb::Request as u64, 2, 2, table, mail);
         }
-        Refusal::NoCycle => table[item_at(2, 1)][..3].fill(0),
+        Refusal::NoCycle => table[item_at(2, 1)].fill(0),
         Refusal::ShortBuffer => given.room = 0,
-        Refusal::BadRanks => given.config.ranks = &[2, 2],
-        Refusal::BadMakers => given.config.shares = [2, 1],
+        Refusal::BadRanks => given.config = TWO.with_ranks(&[2, 2]),
         Refusal::InUse => table[session_at(1)][STAGE] = Stage::Growing as u8,
     }
 }
@@ -100,7 +92,7 @@ const CALLS: [Call; 6] = [
         report(g.session, &g.table).refusal
     }),
     (&Refusal::DRAIN_ORDER, fresh, |g| {
-        drain(g.maker, 1, &mut g.table, &mut g.mail).refusal
+        drain(1, &mut g.table, &mut g.mail).refusal
     }),
     (&Refusal::TEXT_ORDER, in_a_cycle, |g| {
         cycle_text(g.session, &g.table, &mut vec![0; g.room]).refusal

@@ -8,7 +8,7 @@ use model::calls::deliver;
 use model::demand3::Demand3;
 use model::item::Item;
 use model::layout::{ranks_at, session_at, MAIL_COUNT, STAGE};
-use model::mailbox::{count, message, Body};
+use model::mailbox::{count, Body};
 use model::scenario::Random;
 use model::session::{Session, Stage};
 use model::table::Table;
@@ -56,15 +56,9 @@ fn settle(desk: &mut Desk, random: &mut Random) -> (Demand3, Vec<(u8, u8)>) {
         let before = desk.clone();
         let place = random.between(0, count(&desk.mail) as u64 - 1) as usize;
         let Desk { table, mail } = desk;
-        let session = message(mail, place).route.session.into();
         let answer = deliver(&RULES, place, table, mail).unwrap();
         demand3
-            .after_step(
-                session,
-                answer,
-                (&before.table, &before.mail),
-                (table, mail),
-            )
+            .after_step(answer, (&before.table, &before.mail), (table, mail))
             .unwrap();
         if answer.victim != 0 {
             declared.push((answer.victim, answer.initiator));
@@ -81,7 +75,7 @@ fn a_deadlock_in_every_order() {
         for _ in 0..100 {
             let mut desk = deadlock(list);
             let (demand3, declared) = settle(&mut desk, &mut random);
-            assert_eq!((demand3.closed(), demand3.rolled_back()), (1, 1));
+            assert_eq!((demand3.closed, demand3.rolled_back), (1, 1));
             assert!(!declared.is_empty());
             for names in declared {
                 assert_eq!(names, (victim, initiator));
@@ -265,7 +259,7 @@ fn start_judges_the_list_last() {
         }
     }
     let (_, desk) = started(&THREE.with_ranks(&[2, 3, 1]), 0, 0);
-    let mut plain = Desk::new(3, 2, 3);
+    let mut plain = Desk::new(3, 2, 4);
     plain.table[ranks_at(3, 2)].copy_from_slice(&[2, 3, 1]);
     assert_eq!(desk, plain);
 }

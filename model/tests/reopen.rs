@@ -7,7 +7,7 @@ use desk::{Desk, RELEASE, REQUEST, TO_ITEM, TO_SESSION};
 use model::demand3::Demand3;
 use model::item::Item;
 use model::layout::{ranks_at, session_at, MAIL_COUNT, MAX_SESSIONS, STAGE};
-use model::mailbox::{count, Body, Direction, Mailbox, Message};
+use model::mailbox::{count, Body, Direction, Mailbox, Message, Route};
 use model::scenario::{run_reopening, Counts, BY_RULES};
 use model::session::{Session, Stage};
 use model::table::Table;
@@ -34,11 +34,20 @@ fn abort(victim: u8, initiator: u8) -> Body {
     Body::Abort { victim, initiator }
 }
 
+fn message(direction: Direction, session: u8, item: u8, body: Body) -> Message {
+    let route = Route {
+        direction,
+        session,
+        item,
+    };
+    Message { route, body }
+}
+
 /// Session 2 holds nothing and is at this stage, and nothing names it: there are
 /// other holders, waiting sessions and stored probes, and messages of others, some
 /// of them about item 2.
 fn done(stage: Stage) -> Desk {
-    let config = Config::with_room(RANKS.len() as u64, ITEMS.into(), 16).with_ranks(&RANKS);
+    let config = Config::plain(RANKS.len() as u64, ITEMS.into(), 16).with_ranks(&RANKS);
     let desk = Desk::started(&config).forged(|table| {
         table.session_mut(ONE).held = 0b0101;
         table.session_mut(ONE).juniors[3] = 5;
@@ -57,11 +66,11 @@ fn done(stage: Stage) -> Desk {
         table.item_mut(OWN).queue = vec![5];
     });
     [
-        Message::new(Direction::ToItem, ONE, OWN, Body::Request),
-        Message::new(Direction::ToItem, OTHER, 1, probe(1, 4)),
-        Message::new(Direction::ToSession, OTHER, OWN, abort(4, 1)),
-        Message::new(Direction::ToSession, 3, 1, clean(5, 3)),
-        Message::new(Direction::ToSession, 5, OWN, Body::Withdrawn),
+        message(Direction::ToItem, ONE, OWN, Body::Request),
+        message(Direction::ToItem, OTHER, 1, probe(1, 4)),
+        message(Direction::ToSession, OTHER, OWN, abort(4, 1)),
+        message(Direction::ToSession, 3, 1, clean(5, 3)),
+        message(Direction::ToSession, 5, OWN, Body::Withdrawn),
     ]
     .into_iter()
     .fold(desk, |desk, message| with_message(&desk, 0, message))
@@ -72,8 +81,7 @@ const DONE: [Stage; 2] = [Stage::Shrinking, Stage::RolledBack];
 /// The same buffers with one more message, at this place.
 fn with_message(desk: &Desk, place: usize, message: Message) -> Desk {
     let mut desk = desk.clone();
-    let Table { makers, .. } = Table::decode(&desk.table).unwrap();
-    let mut mailbox = Mailbox::decode(&desk.mail, &makers).unwrap();
+    let mut mailbox = Mailbox::decode(&desk.mail, RANKS.len(), ITEMS.into()).unwrap();
     mailbox.messages.insert(place, message);
     mailbox.encode(&mut desk.mail);
     desk
@@ -145,7 +153,7 @@ fn named_in_a_route() {
                 Body::Rebroadcast,
                 Body::Withdraw,
             ] {
-                let named = Message::new(Direction::ToItem, OWN, 3, body);
+                let named = message(Direction::ToItem, OWN, 3, body);
                 in_use(&with_message(&desk, place, named));
             }
             for body in [
@@ -156,7 +164,7 @@ fn named_in_a_route() {
                 abort(OWN, 1),
                 Body::Withdrawn,
             ] {
-                let named = Message::new(Direction::ToSession, OWN, 3, body);
+                let named = message(Direction::ToSession, OWN, 3, body);
                 in_use(&with_message(&desk, place, named));
             }
         }
@@ -182,11 +190,11 @@ fn named_as_a_or_b() {
                     in_use(&with_message(
                         &desk,
                         place,
-                        Message::new(direction, OTHER, 1, body),
+                        message(direction, OTHER, 1, body),
                     ));
                 }
             }
-            let named = Message::new(Direction::ToSession, OTHER, 1, abort(OTHER, OWN));
+            let named = message(Direction::ToSession, OTHER, 1, abort(OTHER, OWN));
             in_use(&with_message(&desk, place, named));
         }
     }
@@ -235,7 +243,7 @@ fn sizes() {
     for stage in DONE {
         let mut desk = done(stage);
         while count(&desk.mail) < 16 {
-            let resend = Message::new(Direction::ToSession, ONE, OWN, Body::Resend);
+            let resend = message(Direction::ToSession, ONE, OWN, Body::Resend);
             desk = with_message(&desk, 0, resend);
         }
         reopens(&desk);
@@ -243,7 +251,7 @@ fn sizes() {
         assert_eq!(smallest.reopen(1), ACCEPTED);
         assert_eq!(smallest, Desk::new(1, 1, 1));
         // With 64 sessions, each of which is done.
-        let fresh = Desk::new(64, 64, 4095);
+        let fresh = Desk::new(64, 64, 4096);
         let mut desk = fresh.forged(|table| {
             table.sessions.iter_mut().for_each(|s| s.stage = stage);
         });
@@ -284,7 +292,7 @@ fn refusals_in_order() {
             refuses(desk, session, refusal);
         }
     };
-    desk.mail[MAIL_COUNT][0] = 18;
+    desk.mail[MAIL_COUNT][0] = 17;
     judged(&desk, Refusal::BadMail);
     desk.table[session_at(5)][STAGE] = 7;
     judged(&desk, Refusal::BadTable);
@@ -333,13 +341,13 @@ fn settles(desk: &mut Desk, demand3: &mut Demand3, steps: &[(u64, u64, u64)]) {
         let answer = desk.step(verb, session, item);
         assert_eq!(answer.refusal, ACCEPTED);
         demand3
-            .after_step(session, answer, bytes(&before), bytes(desk))
+            .after_step(answer, bytes(&before), bytes(desk))
             .unwrap();
     }
     let before = desk.clone();
     let drained = desk.drain(u64::MAX);
     demand3
-        .after_drain(&RULES, 1, u64::MAX, drained, bytes(&before), bytes(desk))
+        .after_drain(&RULES, u64::MAX, drained, bytes(&before), bytes(desk))
         .unwrap();
 }
 
@@ -367,8 +375,13 @@ fn rolled_back_again() {
                     .unwrap();
             }
             assert_eq!(desk, fresh);
-            let counted = (demand3.closed(), demand3.rolled_back(), demand3.reopened);
-            assert_eq!(counted, (round, round, 2 * round));
+            let Demand3 {
+                closed,
+                rolled_back,
+                reopened,
+                ..
+            } = demand3;
+            assert_eq!((closed, rolled_back, reopened), (round, round, 2 * round));
         }
     }
 }
@@ -430,8 +443,8 @@ fn demand_3_holds_after_every_step() {
     assert!(total.reopened_beside_mail > 50_000);
     assert!(total.in_use > 50_000);
     assert!(total.most_reopened > 2_000);
-    assert!(total.demand3.closed() > 20_000);
-    assert!(total.demand3.rolled_back() > 20_000);
+    assert!(total.demand3.closed > 20_000);
+    assert!(total.demand3.rolled_back > 20_000);
     assert!(total.demand3.declared_by_rank > 10_000);
     assert!(total.demand3.empty > 100_000);
 }

@@ -94,8 +94,7 @@ impl Recorder {
 
     /// The verb, session and item that deliver a message of the mail.
     fn delivery(&self, random: &mut Random) -> Option<[u8; 3]> {
-        let Table { makers, .. } = Table::decode(&self.table)?;
-        let mailbox = Mailbox::decode(&self.mail, &makers)?;
+        let mailbox = Mailbox::decode(&self.mail, self.sessions, self.items)?;
         let last = mailbox.messages.len().checked_sub(1)?;
         let route = mailbox.messages[random.between(0, last as u64) as usize].route;
         let verb = match route.direction {

@@ -1,10 +1,9 @@
 //! Lists of calls from a start.
 
-use super::group::{Group, Place, Places};
+use super::group::Group;
 use super::{Coverage, AT_LEAST};
 use crate::numbers::{ROLLED_BACK, SHRINKING};
 use model::layout::MAX_SESSIONS;
-use model::pairs::Counts;
 use model::{Ranks, ACCEPTED};
 
 /// One session must be reopened this often in a list from a start, and whatever is
@@ -49,29 +48,7 @@ const REUSED: &[&str] = &[
 const REUSED_STEPS: &str = "accepted steps after a reopening";
 const MOST_REUSED: &str = "most reopenings of one session in a list";
 
-/// Pairs of runs of the subject from one start, one maker's calls the same.
-const PAIRS: &[Place<Counts>] = &[
-    ("all", |_| true),
-    ("with a share of 1", |c| c.share_of_1 > 0),
-    ("with C = 2", |c| c.capacity_2 > 0),
-    ("with a maker without a session or an item", |c| {
-        c.without > 0
-    }),
-    ("in which the other's part ends otherwise", |c| c.apart > 0),
-    ("with a call of the same ones refused with 9", |c| {
-        c.full > 0
-    }),
-    ("with a call of the same ones refused with 17", |c| {
-        c.across > 0
-    }),
-    ("with a session of the same maker reopened", |c| {
-        c.reopened > 0
-    }),
-    ("with a cycle of the same maker", |c| c.closed > 0),
-];
-
 pub struct Lists {
-    pairs: Places<Counts>,
     started: Group,
     checked: Group,
     reused: Group,
@@ -81,7 +58,6 @@ impl Lists {
     pub fn new() -> Lists {
         let started = [STARTED.as_flattened(), &STARTED_THREE.map(|(_, name)| name)].concat();
         Lists {
-            pairs: Places::new("Pairs of runs", AT_LEAST, PAIRS),
             started: Group::new("Lists of calls from a start", 1, &started),
             checked: Group::new(
                 "Demand 3 checked, ranks not plain",
@@ -96,9 +72,8 @@ impl Lists {
         }
     }
 
-    pub fn groups(&self) -> [&Group; 4] {
-        let pairs = &self.pairs.group;
-        [&self.started, &self.checked, &self.reused, pairs]
+    pub fn groups(&self) -> [&Group; 3] {
+        [&self.started, &self.checked, &self.reused]
     }
 }
 
@@ -120,11 +95,6 @@ impl Coverage {
         if let Some((_, name)) = STARTED_THREE.iter().find(|(three, _)| three == list) {
             started.hit(name);
         }
-    }
-
-    /// A pair of runs agrees for the maker that makes the same calls.
-    pub fn pair(&mut self, counts: &Counts) {
-        self.lists.pairs.meet(counts);
     }
 
     /// Demand 3 was checked after so many accepted steps, with so many declarations

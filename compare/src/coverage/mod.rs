@@ -12,13 +12,13 @@ mod step;
 mod text;
 
 use crate::comparison::Buffers;
-use crate::forge::{breaks, MAKER_BREAKS};
+use crate::forge::breaks;
 use group::{Group, Places, SELDOM};
 use model::{Config, Cycle, Refusal, ACCEPTED};
 use std::fmt::{self, Display, Formatter};
 
-/// Refusals of each call, endings of drains, bad ranks, makers and shares, what goes
-/// across makers and reasons not to reopen a session must be met this often.
+/// Refusals of each call, endings of drains, bad ranks and reasons not to reopen a
+/// session must be met this often.
 pub const AT_LEAST: u64 = 1_000;
 
 /// Each rule that is settled by seniority must be met this often against the
@@ -69,7 +69,6 @@ pub struct Coverage {
     seldom: bool,
     any_call: Group,
     breaks: Group,
-    maker_breaks: Group,
     starts: start::Starts,
     steps: step::Steps,
     reports: Places<Cycle>,
@@ -82,17 +81,11 @@ pub struct Coverage {
 impl Coverage {
     pub fn new() -> Coverage {
         let breaks: Vec<_> = breaks().map(|way| way.name).collect();
-        let maker_breaks: Vec<_> = MAKER_BREAKS.iter().map(|way| way.name).collect();
         Coverage {
             refusals: Default::default(),
             seldom: false,
             any_call: Group::new("Any call", 1, ANY_CALL),
             breaks: Group::new("Ways to break the form", 1, &breaks),
-            maker_breaks: Group::new(
-                "Of these, with two makers, for each call",
-                AT_LEAST,
-                &maker_breaks,
-            ),
             starts: start::Starts::new(),
             steps: step::Steps::new(),
             reports: report::reports(),
@@ -110,11 +103,6 @@ impl Coverage {
     /// A form broken in one way was refused as it must be.
     pub fn broken(&mut self, name: &'static str) {
         self.breaks.hit(name);
-    }
-
-    /// The same of two makers.
-    pub fn broken_makers(&mut self, name: &'static str) {
-        self.maker_breaks.hit(name);
     }
 
     fn count(&mut self, call: usize, refusal: u8, numbers: &[u64], buffers: &Buffers) {
@@ -141,7 +129,7 @@ impl Coverage {
         groups.extend(self.drains.groups());
         groups.extend(self.texts.groups());
         groups.extend(self.reopenings.groups());
-        groups.extend([&self.breaks, &self.maker_breaks]);
+        groups.push(&self.breaks);
         groups.extend(self.lists.groups());
         groups
     }

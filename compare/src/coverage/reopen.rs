@@ -4,11 +4,11 @@ use super::group::{Group, Place, Places};
 use super::{is_largest, Coverage, AT_LEAST, REOPEN};
 use crate::comparison::Buffers;
 use crate::forge::NAMED;
-use model::demand3::contents;
 use model::layout::{ROUTE_ITEM, TABLE_ITEMS, TABLE_SESSIONS};
-use model::mailbox::{kind, message, Direction};
+use model::mailbox::{kind, message, Direction, Mailbox};
 use model::names::{by_message, names, Named, Part};
 use model::session::{Session, Stage};
+use model::table::Table;
 use model::{Refusal, ACCEPTED};
 
 /// A session that was reopened, as it was before.
@@ -26,19 +26,16 @@ pub struct Reopened {
 #[derive(Clone, Copy)]
 pub struct Filled {
     count: usize,
-    /// The maker of the session has as many messages as its share.
     full: bool,
     /// S, M and C are as large as can be.
     largest: bool,
 }
 
 impl Filled {
-    fn of(buffers: &Buffers, session: u8) -> Filled {
-        let maker = buffers.session_maker(session);
-        let share = buffers.shares()[usize::from(maker) - 1];
+    fn of(buffers: &Buffers) -> Filled {
         Filled {
             count: buffers.count(),
-            full: buffers.own_count(maker) as u64 == share,
+            full: buffers.count() == buffers.capacity(),
             largest: is_largest(buffers),
         }
     }
@@ -67,10 +64,10 @@ const REOPENED: &[Place<Reopened>] = &[
     ("full mail", |r| r.mail.full),
 ];
 
-const REOPENED_LARGEST: &[Place<Reopened>] = &[(
-    "reopened: 64 sessions, 64 items, capacity 4096, full",
-    |r| r.mail.full && r.mail.largest,
-)];
+const REOPENED_LARGEST: &[Place<Reopened>] =
+    &[("reopened: 64 sessions, 64 items, 4096 messages", |r| {
+        r.mail.full && r.mail.largest
+    })];
 
 /// A session that was not reopened because one of several messages names it, and
 /// nothing else does.
@@ -90,11 +87,11 @@ const BY_MESSAGE: &[Place<NamedByMessage>] = &[
 
 const BY_MESSAGE_LARGEST: &[Place<NamedByMessage>] = &[
     (
-        "by the first message alone, 64 sessions, 64 items, 4096 full",
+        "by the first of 4096 messages alone, 64 sessions, 64 items",
         |n| n.first && n.mail.full && n.mail.largest,
     ),
     (
-        "by the last message alone, 64 sessions, 64 items, 4096 full",
+        "by the last of 4096 messages alone, 64 sessions, 64 items",
         |n| n.last && n.mail.full && n.mail.largest,
     ),
 ];
@@ -184,7 +181,7 @@ impl Reopenings {
             rank: before.ranks()[usize::from(number) - 1],
             items: before.table[TABLE_ITEMS],
             item_named: (0..before.count()).any(|k| before.route(k)[ROUTE_ITEM] == number),
-            mail: Filled::of(before, number),
+            mail: Filled::of(before),
         };
         self.reopened.meet(&reopened);
         self.reopened_largest.meet(&reopened);
@@ -202,7 +199,7 @@ impl Reopenings {
         let (row, _) = all.find(|&&(_, other)| other == named).expect("a place");
         let column = DONE.iter().position(|&(stage, _)| stage == record.stage);
         self.named.hit_at(row, column.expect("a stage"));
-        let mail = Filled::of(before, own);
+        let mail = Filled::of(before);
         if !matches!(named, Named::Message { .. }) || mail.count < 2 {
             return;
         }
@@ -236,9 +233,9 @@ impl Coverage {
 
 /// Where well-formed buffers name a session.
 fn names_of(buffers: &Buffers, session: u8) -> Vec<Named> {
-    let judged = contents((&buffers.table, &buffers.mail));
-    let (records, mailbox) = judged.expect("buffers that were judged");
-    let mut names = names(&records, &mailbox, session);
+    let records = Table::decode(&buffers.table).expect("a table that was judged");
+    let mailbox = Mailbox::decode(&buffers.mail, records.sessions.len(), records.items.len());
+    let mut names = names(&records, &mailbox.expect("mail that was judged"), session);
     names.retain(|&named| named != ABORTED);
     names
 }

@@ -2,11 +2,9 @@
 //! a party takes the model says.
 
 use super::group::{met, Group, Place, Places};
-use super::{is_largest, Coverage, AT_LEAST, BY_RANK_AT_LEAST, STEP};
+use super::{is_largest, Coverage, BY_RANK_AT_LEAST, STEP};
 use crate::comparison::Buffers;
-use crate::numbers::{
-    delivered_direction, DELIVER_TO_ITEM, DELIVER_TO_SESSION, RELEASE, REQUEST, TO_ITEM,
-};
+use crate::numbers::{delivered_direction, DELIVER_TO_ITEM, RELEASE, REQUEST, TO_ITEM};
 use model::branch::{ItemBranch, SessionBranch};
 use model::item::{self, Item};
 use model::layout::{DIRECTION, MAX_SESSIONS, ROUTE_ITEM, ROUTE_SESSION, ROUTE_SIZE, TABLE_HEADER};
@@ -18,8 +16,8 @@ use model::{Answer, Ranks, Refusal, ACCEPTED};
 pub struct Step {
     largest: bool,
     one_by_one: bool,
-    share: usize,
-    /// The maker's messages before and after it.
+    capacity: usize,
+    /// Messages before and after it.
     count: usize,
     left: usize,
     sent: u8,
@@ -28,90 +26,17 @@ pub struct Step {
 const SIZES: &[Place<Step>] = &[
     ("64 sessions, 64 items, capacity 4096", |s| s.largest),
     ("64 sessions, 64 items, capacity 4096, mail full", |s| {
-        s.largest && s.count == s.share
+        s.largest && s.count == s.capacity
     }),
     ("one session and one item", |s| s.one_by_one),
-    ("share of 1", |s| s.share == 1),
-    ("share of 2", |s| s.share == 2),
-    ("full share", |s| s.count == s.share),
-    ("fills the share", |s| {
-        s.count < s.share && s.left == s.share
+    ("capacity 1", |s| s.capacity == 1),
+    ("capacity 2", |s| s.capacity == 2),
+    ("full mail", |s| s.count == s.capacity),
+    ("fills the mail", |s| {
+        s.count < s.capacity && s.left == s.capacity
     }),
     ("sends 65 messages", |s| s.sent == 65),
     ("sends 100 messages or more", |s| s.sent >= 100),
-];
-
-/// A step of well-formed buffers with right numbers.
-pub struct Makers {
-    verb: u64,
-    refusal: u8,
-    /// Session and item are of two makers.
-    across: bool,
-    /// There are sessions and items of two makers.
-    two: bool,
-    /// The other maker's share is full.
-    other_full: bool,
-}
-
-/// The refusals that come behind the numbers.
-const BEHIND_NUMBERS: [Refusal; 5] = [
-    Refusal::OtherMaker,
-    Refusal::WrongStage,
-    Refusal::WrongItem,
-    Refusal::NoMessage,
-    Refusal::MailFull,
-];
-
-impl Makers {
-    fn of(verb: u64, session: u8, item: u8, before: &Buffers, refusal: u8) -> Makers {
-        let maker = before.session_maker(session);
-        let own = usize::from(maker) - 1;
-        let [counts, shares] = [
-            [1, 2].map(|maker| before.own_count(maker) as u64),
-            before.shares(),
-        ];
-        let owners = before.makers();
-        Makers {
-            verb,
-            refusal,
-            across: maker != before.item_maker(item),
-            two: owners.contains(&1) && owners.contains(&2),
-            other_full: counts[1 - own] == shares[1 - own],
-        }
-    }
-
-    fn across(&self, verb: u64, refusal: Refusal) -> bool {
-        self.across && self.verb == verb && self.refusal == refusal as u8
-    }
-
-    fn accepted(&self) -> bool {
-        self.two && self.refusal == ACCEPTED
-    }
-}
-
-const MAKERS: &[Place<Makers>] = &[
-    ("request across makers: 17", |m| {
-        m.across(REQUEST, Refusal::OtherMaker)
-    }),
-    ("delivery to an item across makers: 17", |m| {
-        m.across(DELIVER_TO_ITEM, Refusal::OtherMaker)
-    }),
-    ("delivery to a session across makers: 17", |m| {
-        m.across(DELIVER_TO_SESSION, Refusal::OtherMaker)
-    }),
-    ("release across makers: 6", |m| {
-        m.across(RELEASE, Refusal::WrongStage)
-    }),
-    ("release across makers: 7", |m| {
-        m.across(RELEASE, Refusal::WrongItem)
-    }),
-    ("9 by the share, with room in the mail", |m| {
-        !m.other_full && m.refusal == Refusal::MailFull as u8
-    }),
-    ("accepted, two makers", Makers::accepted),
-    ("accepted, the other's share full", |m| {
-        m.accepted() && m.other_full
-    }),
 ];
 
 /// A route that was searched for in a full mail of more than 16 messages, half of which
@@ -395,7 +320,6 @@ const BY_RANK: &[&str] = &[
 ];
 
 pub struct Steps {
-    makers: Places<Makers>,
     sizes: Places<Step>,
     no_mail: Group,
     searches: Places<Search>,
@@ -413,7 +337,6 @@ impl Steps {
         let at_item: Vec<_> = AT_ITEM.iter().map(|&(name, _)| name).collect();
         let at_session: Vec<_> = AT_SESSION.iter().map(|&(name, _)| name).collect();
         Steps {
-            makers: Places::new("Steps, by makers", AT_LEAST, MAKERS),
             sizes: Places::new("Accepted steps", 1, SIZES),
             no_mail: Group::new("Refused steps", 1, &[NO_MAIL]),
             searches: Places::new(
@@ -446,9 +369,8 @@ impl Steps {
         }
     }
 
-    pub fn groups(&self) -> [&Group; 9] {
+    pub fn groups(&self) -> [&Group; 8] {
         [
-            &self.makers.group,
             &self.sizes.group,
             &self.no_mail,
             &self.searches.group,
@@ -465,9 +387,7 @@ impl Steps {
         let count = before.count();
         let routes = || (0..count).map(|place| before.route(place));
         let to_items = routes().filter(|other| other[DIRECTION] == TO_ITEM);
-        let maker = before.session_maker(route[ROUTE_SESSION]);
-        let full = before.own_count(maker) as u64 == before.shares()[usize::from(maker) - 1];
-        if count <= 16 || !full || to_items.count() != count / 2 {
+        if count <= 16 || count != before.capacity() || to_items.count() != count / 2 {
             return;
         }
         let all_of_one = |byte| routes().all(|other| other[byte] == before.route(0)[byte]);
@@ -519,24 +439,16 @@ impl Coverage {
         if let (true, Some(route)) = (searched, route) {
             steps.search(route, before);
         }
-        let judged = BEHIND_NUMBERS.iter().any(|&r| r as u8 == answer.refusal);
-        if judged || answer.refusal == ACCEPTED {
-            steps
-                .makers
-                .meet(&Makers::of(verb, session, item, before, answer.refusal));
-        }
         if answer.refusal != ACCEPTED {
             return;
         }
         let taken = usize::from(verb >= DELIVER_TO_ITEM);
-        let maker = before.session_maker(session);
-        let count = before.own_count(maker);
         steps.sizes.meet(&Step {
             largest: is_largest(before),
             one_by_one: before.table[..TABLE_HEADER] == [1, 1],
-            share: before.shares()[usize::from(maker) - 1] as usize,
-            count,
-            left: count - taken + usize::from(answer.sent),
+            capacity: before.capacity(),
+            count: before.count(),
+            left: before.count() - taken + usize::from(answer.sent),
             sent: answer.sent,
         });
         match route {

@@ -15,7 +15,7 @@ use Rattle.message.specs.declared.Message.{Message}
 use Rattle.message.specs.Outbox.{message}
 use Rattle.session.specs.Stage
 use Rattle.session.specs.declared.Session.{Session}
-use Rattle.session.specs.Record.{stored, well_formed}
+use Rattle.session.specs.Record.{well_formed}
 use Rattle.session.specs.Rules as SessionRules
 use Rattle.session.specs.Rules.{received, requested, released}
 use Rattle.session.proofs.WellFormed.{session-facts}
@@ -68,8 +68,8 @@ module _ (senior : ℕ → ℕ → Bool) (next : List ℕ → ℕ) (S M : ℕ) (
         → read_session_step (SessionRules.kept_probe senior i j (at stage)) ≡ Machine.store_probe R (read_session (at stage)) i j n
     unfolding SessionRules.kept_probe Machine.store_probe Machine.is_news read_sends
     kept stage i j m n l h e f =
-        let at_i : stored (at stage) i ≡ read_stored js i = sym (stored-read js i l h) in
-        cond-agrees read_session_step (eqb (stored (at stage) i) 0 || senior (stored (at stage) i) j) _ (ap (λ (v : ℕ). eqb v 0 || senior v j) at_i) (λ _. step_eq refl (stored-set js i l h len j) (ap read_sends e ∙ f)) (λ _. refl)
+        let at_i : SessionRules.stored (at stage) i ≡ read_stored js i = sym (stored-read js i l h) in
+        cond-agrees read_session_step (eqb (SessionRules.stored (at stage) i) 0 || senior (SessionRules.stored (at stage) i) j) _ (ap (λ (v : ℕ). eqb v 0 || senior v j) at_i) (λ _. step_eq refl (stored-set js i l h len j) (ap read_sends e ∙ f)) (λ _. refl)
 
     on-probe : 1 ≤ a → a ≤ 64 → (stage : ℕ) → 1 ≤ stage → stage ≤ 6 → Agrees Kind.probe stage
     unfolding received session_receives read_message read_stage SessionRules.probed Machine.on_probe Machine.to_awaited read_sends SessionRules.junior Machine.junior

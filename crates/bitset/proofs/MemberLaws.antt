@@ -1,12 +1,11 @@
--- Laws of membership in a mask: after a number is put in or taken out, in the empty mask, above the mask's bound, of two masks joined, and as the list of members.
+-- Laws of membership in a mask: after a number is put in or taken out, in the empty mask, above the mask's bound, and as the list of members.
 use mathlib.Core.Path.{◌≡◌, refl, sym, ap, ◌∙◌}
-use mathlib.Core.Bool.{Bool, true, false, cond, ◌&&◌, ◌||◌, or-false, or-true}
+use mathlib.Core.Bool.{Bool, true, false, cond, ◌||◌, or-false, or-true}
 use mathlib.Core.List.{List, [], ◌∷◌}
-use Prim.Native.Nat.{ℕ, zero, suc, ◌+◌, ◌-◌, ◌*◌, ◌/◌, ◌%◌, ◌^◌, ◌≤◌, ◌<◌, min, max}
+use Prim.Native.Nat.{ℕ, zero, suc, ◌+◌, ◌-◌, ◌*◌, ◌/◌, ◌%◌, ◌^◌, ◌≤◌, ◌<◌}
 use native.Mathlib.Nat.{add-mul, mod-lt, div-eq_of_lt, pow-suc}
 use native.Mathlib.Numerals.{add-one}
 use native.Mathlib.Omega.{arith}
-use lib.Bits.{bit_and, bit_or, and_step, and_shr, or_step, or_shr}
 use lib.Dec.{eqb, ltb}
 use lib.Pow.{pow_pos, pow_mono, split, high, low, shr-shr, field, mod-mod-pow, ones_lt, ones_split}
 use borrow.Author.Tests.{ltb-true, ltb-false, eqb-true, eqb-false, eq-eqb, ne_eqb}
@@ -150,6 +149,14 @@ module _ (M x mask : ℕ) (h : mask < 2 ^ M) where
           let off : mask / 2 ^ (x - 1) % 2 ≡ 0 = omega (arith, eqb-false (mask / 2 ^ (x - 1) % 2) 1 e) in
           rw (w) at (room mask (x - 1) (M - x) (rw (w) h) off)
 
+  pub remove-below : remove x mask < 2 ^ M
+  unfolding remove
+  remove-below = go (has x mask)
+    where
+      go : (b : Bool) → cond b (mask - 2 ^ (x - 1)) mask < 2 ^ M
+      go true = omega arith
+      go false = h
+
 -- the mask of 1 to m has these
 pub has-full : (m k : ℕ) → 1 ≤ k → k ≤ m → has k (full m) ≡ true
 unfolding has
@@ -171,7 +178,7 @@ lowest-digit a b e = by_answer (eqb (a % 2) 1)
     digits : eqb (a / 1 % 2) 1 ≡ eqb (b / 1 % 2) 1 → eqb (a % 2) 1 ≡ eqb (b % 2) 1
     digits q = let x : a / 1 ≡ a = omega arith in let y : b / 1 ≡ b = omega arith in rw (x, y) at q
 
-pub has-half : (k a : ℕ) → 1 ≤ k → has k (a / 2) ≡ has (suc k) a
+has-half : (k a : ℕ) → 1 ≤ k → has k (a / 2) ≡ has (suc k) a
 unfolding has
 has-half k a l =
     let w : 1 + (k - 1) ≡ suc k - 1 = omega arith in
@@ -182,53 +189,6 @@ same-members zero a b h g f = omega arith
 same-members (suc d) a b h g f =
     let half = same-members d (a / 2) (b / 2) (omega (arith, pow-suc 2 d)) (omega (arith, pow-suc 2 d)) (λ k l m. has-half k a l ∙ f (suc k) (omega arith) (omega arith) ∙ sym (has-half k b l)) in
     omega (arith, half, lowest-digit a b (f 1 (omega arith) (omega arith)))
-
--- a mask with no number above the exponent is below the power
-lt_pow : (n : ℕ) → n < 2 ^ n
-lt_pow zero = omega arith
-lt_pow (suc n) = omega (arith, pow-suc 2 n, lt_pow n)
-
-pub none_above : (M mask : ℕ) → ((k : ℕ) → M < k → has k mask ≡ false) → mask < 2 ^ M
-unfolding has
-none_above M mask none =
-    let rest = mask % 2 ^ M in
-    let small : rest < 2 ^ M = mod-lt mask (pow_pos M) in
-    let same = same-members mask mask rest (lt_pow mask) (omega (arith, split mask M, lt_pow mask)) (λ k l _. by_answer (ltb M k)
-    (λ e. let h = ltb-true M k e in none k h ∙ sym (has_above M k rest small h))
-    (λ e. ap (λ (d : ℕ). eqb d 1) (digit-below mask M (k - 1) (omega (arith, ltb-false M k e))))) in
-    omega (arith, same, small)
-
--- a digit is 0 or 1
-pub by-digit : (P : ℕ → Type 0) (d : ℕ) → d < 2 → P 0 → P 1 → P d
-by-digit P zero h p q = p
-by-digit P (suc zero) h p q = q
-by-digit P (suc (suc d)) h p q = absurd (omega arith)
-
--- what two masks have in common, and what they have together
-module _ (k a b : ℕ) where
-  abbrev x : ℕ
-  x = a / 2 ^ (k - 1)
-
-  abbrev y : ℕ
-  y = b / 2 ^ (k - 1)
-
-  both-digits : (d e : ℕ) → d < 2 → e < 2 → eqb (min d e) 1 ≡ eqb d 1 && eqb e 1
-  both-digits d e h g = by-digit (λ d. eqb (min d e) 1 ≡ eqb d 1 && eqb e 1) d h (by-digit (λ e. eqb (min 0 e) 1 ≡ false) e g refl refl) (by-digit (λ e. eqb (min 1 e) 1 ≡ eqb e 1) e g refl refl)
-
-  some-digit : (d e : ℕ) → d < 2 → e < 2 → eqb (max d e) 1 ≡ eqb d 1 || eqb e 1
-  some-digit d e h g = by-digit (λ d. eqb (max d e) 1 ≡ eqb d 1 || eqb e 1) d h (by-digit (λ e. eqb (max 0 e) 1 ≡ eqb e 1) e g refl refl) (by-digit (λ e. eqb (max 1 e) 1 ≡ true) e g refl refl)
-
-  pub has-and : has k (bit_and a b) ≡ has k a && has k b
-  unfolding has
-  has-and =
-      let last : bit_and x y % 2 ≡ min (x % 2) (y % 2) = omega (arith, and_step x y) in
-      rw (and_shr a b (k - 1), last) (both-digits (x % 2) (y % 2) (mod-lt x (omega arith)) (mod-lt y (omega arith)))
-
-  pub has_or : has k (bit_or a b) ≡ has k a || has k b
-  unfolding has
-  has_or =
-      let last : bit_or x y % 2 ≡ max (x % 2) (y % 2) = omega (arith, or_step x y) in
-      rw (or_shr a b (k - 1), last) (some-digit (x % 2) (y % 2) (mod-lt x (omega arith)) (mod-lt y (omega arith)))
 
 -- k, k + 1 and so on, n numbers
 unfoldable pub rising : ℕ → ℕ → List ℕ

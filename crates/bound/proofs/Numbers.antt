@@ -8,26 +8,26 @@ pub mul_le : {a b c d : ℕ} → a ≤ b → c ≤ d → a * c ≤ b * d
 mul_le {a} {b} {c} {d} p q = omega (arith, mul-le-mul_right c p, mul-le-mul_left b q)
 
 module _ (S M : ℕ) (s : S ≤ 64) (m : M ≤ 64) where
-  queue-small : queue_cost S ≤ 8322
+  queue_small : queue_cost S ≤ 8322
   unfolding queue_cost resend_cost
-  queue-small = omega (arith, mul_le s s)
+  queue_small = omega (arith, mul_le s s)
 
-  items-small : items_cost S M ≤ 532608
+  items_small : items_cost S M ≤ 532608
   unfolding items_cost
-  items-small = omega (arith, mul_le m queue-small)
+  items_small = omega (arith, mul_le m queue_small)
 
-  store-small : store_cost S ≤ 8192
+  store_small : store_cost S ≤ 8192
   unfolding store_cost
-  store-small = omega (arith, mul_le s s)
+  store_small = omega (arith, mul_le s s)
 
-  hop-small : hop_cost S M ≤ 549126
+  hop_small : hop_cost S M ≤ 549126
   unfolding hop_cost clean_cost
-  hop-small = omega (arith, queue-small, items-small, store-small)
+  hop_small = omega (arith, queue_small, items_small, store_small)
 
-  pub session-small : wait_cost S M + store_cost S ≤ 35693056
+  pub session_small : wait_cost S M + store_cost S ≤ 35693056
   unfolding wait_cost
-  session-small = omega (arith, mul_le hop-small s, items-small, store-small)
+  session_small = omega (arith, mul_le hop_small s, items_small, store_small)
 
-  pub message-small : message_cost S M ≤ 35693190
+  pub message_small : message_cost S M ≤ 35693190
   unfolding message_cost
-  message-small = omega (arith, mul_le hop-small s, hop-small)
+  message_small = omega (arith, mul_le hop_small s, hop_small)

@@ -6,7 +6,7 @@ use native.Mathlib.Omega.{arith}
 use lib.Dec.{eqb}
 use borrow.Author.Tests.{ne_eqb}
 use Rattle.lists.specs.Lists.{count_up_to}
-use Rattle.lists.proofs.Searches.{sum-changed}
+use Rattle.lists.proofs.Searches.{sum_changed}
 use Rattle.deadlock.specs.Lists.{updated}
 use Rattle.deadlock.specs.Machine.{is_news, Laws, Rules}
 use Rattle.deadlock.proofs.Laws.Lists.{updated-other, updated-same}
@@ -33,7 +33,7 @@ module _ {R : Rules} (L : Laws R) where
       let some : eqb j 0 ≡ false = ne_eqb j 0 (λ z. absurd (omega (arith, rj.0))) in
       omega (
         arith,
-        sum-changed R.S i (λ a. n (f a)) (λ a. n (updated f i j a)) ri.0 ri.1 (λ a ne. ap n (updated-other f i j a ne)),
+        sum_changed R.S i (λ a. n (f a)) (λ a. n (updated f i j a)) ri.0 ri.1 (λ a ne. ap n (updated-other f i j a ne)),
         ap n (updated-same f i j),
         count_less R.S (news_after j) (news_after (f i)) j rj.0 rj.1 (rw some (L.irreflexive j)) news
             (λ k q. news_transitive (f i) j k news (rw some at q)),

@@ -6,7 +6,7 @@ use mathlib.Core.Option.{some}
 use Prim.Native.Nat.{◌+◌, ◌≤◌, ℕ}
 use native.Mathlib.Omega.{arith}
 use lib.ListN.{length}
-use Rattle.lists.proofs.Searches.{sum-changed}
+use Rattle.lists.proofs.Searches.{sum_changed}
 use Rattle.lists.proofs.Tests.{eqb_self}
 use Rattle.deadlock.specs.Lists.{bit, updated}
 use Rattle.deadlock.specs.Machine.{after_item, after_session, clean, deliver_to_item, deliver_to_session, Entry, item_receives, item_takes, Laws, Message, move, no_entry, of_machine, release_call, reopen, request_call, route, Rules, Session, session_receives, session_takes, State, take_first, Taken, taken, waits_for}
@@ -23,7 +23,7 @@ use Rattle.bound.specs.Statement.{delivers, Falls, is_taken, SmallBound, Stateme
 use Rattle.bound.proofs.Sums.{length_le}
 use Rattle.bound.proofs.Mail.{sum-item, sum-session}
 use Rattle.bound.proofs.Bounds.{bounded}
-use Rattle.bound.proofs.Numbers.{message-small, mul_le, session-small}
+use Rattle.bound.proofs.Numbers.{message_small, mul_le, session_small}
 use Rattle.bound.proofs.Distance.{clean-up-walk, cycle_of, CyclesStay, distance_some, distance-stays, mail-stays, one_less, stays-waits_for}
 use Rattle.bound.proofs.CyclesStay.{item-stays}
 use Rattle.bound.proofs.ItemCovers.{item_covers}
@@ -87,7 +87,7 @@ module _ (R : Rules) (L : Laws R) (s : State) (k : Invariant R s) (t x : ℕ) (l
         let o = session_receives R t x (s.session t) m in
         omega (
           arith,
-          sum-changed R.S t (λ a. f (s.session a)) (λ a. f (updated s.session t o.after a)) low high (λ a ne. ap f (updated-other s.session t o.after a ne)),
+          sum_changed R.S t (λ a. f (s.session a)) (λ a. f (updated s.session t o.after a)) low high (λ a ne. ap f (updated-other s.session t o.after a ne)),
           ap f (updated-same s.session t o.after),
           sum-session (λ (a : Entry). weight R (distance_in R s) a.to_item a.session a.message) t x s.mailbox m l o.sends e,
           session_covers R L s k t x low high l m e,
@@ -111,6 +111,6 @@ falls R L s k (deliver_to_session t x) e h =
 pub theorem : Statement
 theorem R L = record { falls = falls R L; bounded = bounded R }
 
-pub small-bound : SmallBound
+pub small_bound : SmallBound
 unfolding delivery_bound
-small-bound S M n s m k = omega (arith, mul_le s (session-small S M s m), mul_le k (message-small S M s m))
+small_bound S M n s m k = omega (arith, mul_le s (session_small S M s m), mul_le k (message_small S M s m))

@@ -99,7 +99,7 @@ module _ (conf : Config) where
   declarations [] table l g = λ _ _. tt
   declarations (step verb t x ∷ calls) table l g = true-steps (λ b. steps b calls) (declarations calls) (steps_of (buffers table (Mail.mail_bytes conf.capacity l)) (step verb t x)) table l g
   declarations (report t ∷ calls) table l g = declarations calls table l g
-  declarations (drain k limit ∷ calls) table l g = true-steps (λ b. steps b calls) (declarations calls) (steps_of (buffers table (Mail.mail_bytes conf.capacity l)) (drain k limit)) table l g
+  declarations (drain limit ∷ calls) table l g = true-steps (λ b. steps b calls) (declarations calls) (steps_of (buffers table (Mail.mail_bytes conf.capacity l)) (drain limit)) table l g
   declarations (reopen t ∷ calls) table l g = λ cs e.
       by-reopen g t (λ (r : Reopened). DeclarationsTrue (steps (buffers r.table (Mail.mail_bytes conf.capacity l)) calls))
       (λ _. declarations calls table l g cs e)

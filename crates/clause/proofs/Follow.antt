@@ -142,7 +142,7 @@ unfolding after steps leaves steps_of done
 follow conf [] table l g = none-followed conf table l g
 follow conf (step verb t x ∷ calls) table l g = follow-steps conf (λ b. after b calls) (λ b. steps b calls) (follow conf calls) (steps_of (buffers table (Mail.mail_bytes conf.capacity l)) (step verb t x)) table l g
 follow conf (report t ∷ calls) table l g = follow conf calls table l g
-follow conf (drain k limit ∷ calls) table l g = follow-steps conf (λ b. after b calls) (λ b. steps b calls) (follow conf calls) (steps_of (buffers table (Mail.mail_bytes conf.capacity l)) (drain k limit)) table l g
+follow conf (drain limit ∷ calls) table l g = follow-steps conf (λ b. after b calls) (λ b. steps b calls) (follow conf calls) (steps_of (buffers table (Mail.mail_bytes conf.capacity l)) (drain limit)) table l g
 follow conf (reopen t ∷ calls) table l g =
     let mail = Mail.mail_bytes conf.capacity l in
     by-reopen g t (λ (r : Reopened). let b = buffers r.table mail in Followed conf (state_of conf table l) (after b calls) (steps b calls) 0 0)

@@ -1,5 +1,5 @@
--- Where sessions call at an empty mail only, each delivery of a maker with a share that is large enough fits, and deliveries empty its mail: the lock manager's states are among those of which the machine's theorem on room speaks.
-use mathlib.Core.Path.{◌≡◌, refl, sym, ap, subst, ◌∙◌}
+-- Where sessions call at an empty mail only, each delivery fits, and deliveries empty the mail: the lock manager's states are among those of which the machine's theorem on room speaks.
+use mathlib.Core.Path.{◌≡◌, refl, sym, subst, ◌∙◌}
 use mathlib.Core.Bool.{Bool, true, false, false≢true, true≢false}
 use mathlib.Core.List.{List, [], ◌∷◌}
 use mathlib.Core.Logic.{◌≢◌, ◌⊎◌, inl, inr, ⊎_elim}
@@ -11,13 +11,10 @@ use borrow.Author.Tests.{eq-eqb, ne_eqb, eqb-true, eqb-false}
 use Rattle.lists.specs.Lists.{all_of}
 use Rattle.lists.proofs.Laws.{all_get_d, find_index_le}
 use Rattle.lists.proofs.Tests.{and_both, and_intro, by_answer, by-test, eqb_self}
-use Rattle.makers.specs.Makers.{Makers, is_maker}
 use Rattle.mailbox.specs.Entry.{Entry, on_route, to_item, unused, well_formed}
 use Rattle.mailbox.specs.Layout as Mail
-use Rattle.mailbox.specs.Shares.{has_entry}
 use Rattle.mailbox.proofs.Laws as MailLaws
 use Rattle.mailbox.proofs.EntryLaws.{EntryFacts, entry-facts}
-use Rattle.table.specs.Layout as Table
 use Rattle.step.specs.Step as Step
 use Rattle.step.specs.Step.{Stepped}
 use Rattle.step.specs.Parts.{Judged}
@@ -28,11 +25,9 @@ use Rattle.lockmgr.specs.Run as Run
 use Rattle.lockmgr.specs.Run.{Buffers, buffers, done_on, left_by, done, left}
 use Rattle.refusal.specs.Refusal
 use Rattle.drain.specs.Oldest.{verb_of}
-use Rattle.drain.proofs.Oldest.{oldest-place, oldest-own}
-use Rattle.lockmgr.specs.Drain.{delivery, mail_of, oldest, drain as drainCall, drain_refusal, drain_steps, ending, empty, full, limited}
+use Rattle.lockmgr.specs.Drain.{drain as drainCall, drain_refusal, drain_steps, ending, empty, full, limited}
 use Rattle.lockmgr.specs.History.{Call, step, report, drain, reopen, steps_of, leaves, after}
-use Rattle.lockmgr.proofs.Judging.{formed-zero, Startable, start-zero, start-bounded}
-use Rattle.lockmgr.proofs.Draining.{drain-number}
+use Rattle.lockmgr.proofs.Judging.{formed-zero, Startable, start-zero}
 use Rattle.bound.specs.Formula.{delivery_bound}
 use Rattle.deadlock.proofs.Laws.Lists.{zero-or-more}
 use Rattle.room.specs.Capacity.{capacity_bound}
@@ -43,13 +38,13 @@ use Rattle.agreement.proofs.MailboxAgrees.{length-read_entries}
 use Rattle.agreement.proofs.MoveAgrees.{place_of}
 use Rattle.clause.specs.Statement.{opened, EmptyMail}
 use Rattle.clause.specs.Drains.{is_accepted, is_delivered, AllDelivered, DrainEnds, drain_of}
-use Rattle.clause.specs.Progress.{delivery_at, IsOwn, KeepsRule, RuleKept, Progress, Progresses}
+use Rattle.clause.specs.Progress.{delivery_at, KeepsRule, RuleKept, Progress, Progresses}
 use Rattle.clause.proofs.State
-use Rattle.clause.proofs.State.{makers_in, machine_of, machine_laws, state_of, Good, sessions_are, items_are, makers_are}
+use Rattle.clause.proofs.State.{machine_of, machine_laws, state_of, Good, sessions_are, items_are}
 use Rattle.clause.proofs.Moves.{Moved}
 use Rattle.clause.proofs.Step.{by-step, call_in_range, delivery_call, delivery_verb, fits-accepted, found-delivers}
 use Rattle.clause.proofs.Reopening.{by-reopen}
-use Rattle.clause.proofs.Theorem.{start-accepted, start-leaves, begun, begun-good, begun-state, no-entries, none_read}
+use Rattle.clause.proofs.Theorem.{start-accepted, start-leaves, begun, begun-good, begun-state, no_entries, none_read}
 use Rattle.clause.proofs.Drains.{is-delivery, drain-delivers, steps-bounded, drain-ends}
 
 -- two buffers in a state that the machine reaches by calls at an empty mailbox and by deliveries
@@ -69,7 +64,7 @@ module _ (conf : Config) where
 
     -- no entry, no message
     has_no_message : EmptyMail (at table l) → (state_of conf table l).mailbox ≡ []
-    has_no_message e = none_read l (no-entries l (sym (MailLaws.count-mail conf.capacity l g.low g.high g.room) ∙ e))
+    has_no_message e = none_read l (no_entries l (sym (MailLaws.count-mail conf.capacity l g.low g.high g.room) ∙ e))
 
     -- a call at an empty mail
     called : (b : Buffers) → Moved conf table l b → EmptyMail (at table l) → Kept conf b
@@ -120,7 +115,7 @@ module _ (conf : Config) where
       by-kept b k (λ (a : Buffers). KeepsRule a (step verb t x) → Kept conf (leaves a (step verb t x)))
       (λ table l g r. step_keeps table l g r (record { verb = verb; session = t; item = x })) rule
   call_keeps (report t) b k rule = k
-  call_keeps (drain i limit) b k rule = deliveries-keep (drain_steps i limit b) b k (drain-delivers i limit b)
+  call_keeps (drain limit) b k rule = deliveries-keep (drain_steps limit b) b k (drain-delivers limit b)
   call_keeps (reopen t) b k rule =
       by-kept b k (λ (a : Buffers). KeepsRule a (reopen t) → Kept conf (leaves a (reopen t))) (λ table l g r. reopen_keeps table l g r t) rule
 
@@ -129,7 +124,7 @@ module _ (conf : Config) where
   calls-keep [] b k rule = k
   calls-keep (c ∷ l) b k rule = calls-keep l (leaves b c) (call_keeps c b k rule.0) rule.1
 
-module _ (conf : Config) (i : ℕ) (maker : is_maker i ≡ true) (enough : capacity_bound conf.kept.sessions conf.kept.items ≤ (makers_in conf).share i) where
+module _ (conf : Config) (enough : capacity_bound conf.kept.sessions conf.kept.items ≤ conf.capacity) where
   module _ (table : List ℕ) (l : List Entry) (g : Good conf table l) (r : Reached (machine_of conf) (state_of conf table l)) where
     abbrev mail : List ℕ
     mail = Mail.mail_bytes conf.capacity l
@@ -140,13 +135,13 @@ module _ (conf : Config) (i : ℕ) (maker : is_maker i ≡ true) (enough : capac
     few_messages : Mail.count_of mail ≤ capacity_bound conf.kept.sessions conf.kept.items
     few_messages = omega (arith, count-is, length-read_entries l, theorem (machine_of conf) (machine_laws g) (state_of conf table l) r)
 
-    -- each message of the maker that is there can be delivered
-    module _ (n : ℕ) (inside : n < length l) (own : has_entry (makers_in conf) i (get_or l n unused) ≡ true) where
+    -- each message that is there can be delivered
+    module _ (k : ℕ) (inside : k < length l) where
       abbrev entry : Entry
-      entry = get_or l n unused
+      entry = get_or l k unused
 
       facts : EntryFacts conf.kept.sessions conf.kept.items entry
-      facts = entry-facts conf.kept.sessions conf.kept.items entry (all_get_d (well_formed conf.kept.sessions conf.kept.items) l n unused g.entries inside)
+      facts = entry-facts conf.kept.sessions conf.kept.items entry (all_get_d (well_formed conf.kept.sessions conf.kept.items) l k unused g.entries inside)
 
       known : Judged entry.session entry.item table mail
       known = record {
@@ -161,52 +156,43 @@ module _ (conf : Config) (i : ℕ) (maker : is_maker i ≡ true) (enough : capac
       found d e =
           let on-route : on_route (direction_of d) entry.session entry.item entry ≡ true =
           rw (eq-eqb entry.direction (direction_of d) e, eqb_self entry.session, eqb_self entry.item) refl in
-          let first = find_index_le (on_route (direction_of d) entry.session entry.item) l unused n inside on-route in
-          ne_eqb (place_of entry.session entry.item l d) (length l) (λ q. absurd (omega (arith, q, first)))
+          let n = find_index_le (on_route (direction_of d) entry.session entry.item) l unused k inside on-route in
+          ne_eqb (place_of entry.session entry.item l d) (length l) (λ q. absurd (omega (arith, q, n)))
 
       goes : (d : Bool) → entry.direction ≡ direction_of d → (Calls.step (delivery_verb d) entry.session entry.item table mail).answer.refusal ≡ 0
       goes d e =
           let after = goes_on r (delivery_call entry.session entry.item d) (call_in_range g known d) (found-delivers g known d (found d e)) in
           fits-accepted g known d (found d e)
-          (rw (eqb-true ((makers_in conf).session entry.session) i own) (omega (arith, enough, theorem (machine_of conf) (machine_laws g) _ after)))
+          (omega (arith, enough, theorem (machine_of conf) (machine_laws g) _ after))
 
       entry-accepted : (Calls.step (verb_of entry) entry.session entry.item table mail).answer.refusal ≡ 0
       entry-accepted = ⊎_elim (λ e. rw (eq-eqb entry.direction to_item e) (goes true e)) (λ e. rw (ne_eqb entry.direction to_item (λ q. absurd (omega (arith, e, q)))) (goes false e)) facts.kinds.direction
 
-    message-accepted : (n : ℕ) → n < Mail.count_of mail → IsOwn i (buffers table mail) n → (done_on (buffers table mail) (delivery_at (buffers table mail) n)).result.answer.refusal ≡ 0
-    message-accepted n h own =
-        let inside : n < length l = omega (arith, h, count-is) in
-        let is = MailLaws.entry-mail conf.capacity l g.low g.high g.room n inside in
-        rw (is) (entry-accepted n inside (ap (λ (m : Makers). has_entry m i (get_or l n unused)) (sym (makers_are g)) ∙ (rw (is) at own)))
+    message-accepted : (k : ℕ) → k < Mail.count_of mail → (done_on (buffers table mail) (delivery_at (buffers table mail) k)).result.answer.refusal ≡ 0
+    message-accepted k h =
+        let inside : k < length l = omega (arith, h, count-is) in
+        rw (MailLaws.entry-mail conf.capacity l g.low g.high g.room k inside) (entry-accepted k inside)
 
-  kept_accepts : (b : Buffers) → Kept conf b → (n : ℕ) → n < Mail.count_of b.mail → IsOwn i b n → (done_on b (delivery_at b n)).result.answer.refusal ≡ 0
-  kept_accepts b k = by-kept conf b k (λ (a : Buffers). (n : ℕ) → n < Mail.count_of a.mail → IsOwn i a n → (done_on a (delivery_at a n)).result.answer.refusal ≡ 0) message-accepted
+  kept_accepts : (b : Buffers) → Kept conf b → (k : ℕ) → k < Mail.count_of b.mail → (done_on b (delivery_at b k)).result.answer.refusal ≡ 0
+  kept_accepts b k = by-kept conf b k (λ (a : Buffers). (k : ℕ) → k < Mail.count_of a.mail → (done_on a (delivery_at a k)).result.answer.refusal ≡ 0) message-accepted
 
-  -- the oldest of them too
-  oldest-accepted : (b : Buffers) → Kept conf b → 1 ≤ length (mail_of i b) → (Step.is_delivery (oldest i b).verb ≡ true) × ((done_on b (oldest i b)).result.answer.refusal ≡ 0)
-  oldest-accepted b k some =
-      let m = Table.makers b.table in
-      let p = oldest-place m i b.mail some in
-      let is = oldest-own m i b.mail p.0 p.1 p.2 p.3 in
-      (is-delivery (get_or (mail_of i b) 0 unused), ap (λ (e : Entry). (done_on b (delivery e)).result.answer.refusal) is ∙ kept_accepts b k p.0 p.1 p.2)
-
-  -- so deliveries end where the maker has none
-  ends-empty : (b : Buffers) → Kept conf b → ((next : Run.Step) → is_delivered (done_on b next) ≡ false) → length (mail_of i b) ≡ 0
-  ends-empty b k none = elim (zero-or-more (length (mail_of i b))) [
+  -- so deliveries end at an empty mail alone
+  ends-empty : (b : Buffers) → Kept conf b → ((next : Run.Step) → is_delivered (done_on b next) ≡ false) → EmptyMail b
+  ends-empty b k none = elim (zero-or-more (Mail.count_of b.mail)) [
     | inl z ↦ z
-    | inr some ↦ let o = oldest-accepted b k some in absurd (true≢false (sym (and_intro o.0 (eq-eqb _ 0 o.1)) ∙ none (oldest i b)))
+    | inr some ↦ absurd (true≢false (sym (and_intro (is-delivery (Mail.entry_at b.mail 0)) (eq-eqb _ 0 (kept_accepts b k 0 some))) ∙ none (delivery_at b 0)))
   ]
 
-  -- and a drain for it ends there or at its limit
+  -- and a drain ends at an empty mail or at its limit
   abbrev Ends : ℕ → Type 0
   Ends n = (n ≡ empty) ⊎ (n ≡ limited)
 
-  never_stuck : (b : Buffers) → Kept conf b → Ends (ending i b)
+  never_stuck : (b : Buffers) → Kept conf b → Ends (ending b)
   unfolding ending
   never_stuck b k =
-      by-test Ends (eqb (length (mail_of i b)) 0) (λ _. inl refl)
-      (λ e. by-test Ends (eqb (done_on b (oldest i b)).result.answer.refusal Refusal.mail_full)
-      (λ q. let z = (oldest-accepted b k (omega (arith, eqb-false (length (mail_of i b)) 0 e))).1 in absurd (omega (arith, z, eqb-true (done_on b (oldest i b)).result.answer.refusal Refusal.mail_full q)))
+      by-test Ends (eqb (Mail.count_of b.mail) 0) (λ _. inl refl)
+      (λ e. by-test Ends (eqb (done_on b (delivery_at b 0)).result.answer.refusal Refusal.mail_full)
+      (λ q. let z = kept_accepts b k 0 (omega (arith, eqb-false (Mail.count_of b.mail) 0 e)) in absurd (omega (arith, z, eqb-true (done_on b (delivery_at b 0)).result.answer.refusal Refusal.mail_full q)))
       (λ _. inr refl))
 
   module _ (b : Buffers) (k : Kept conf b) where
@@ -219,22 +205,22 @@ module _ (conf : Config) (i : ℕ) (maker : is_maker i ≡ true) (enough : capac
         (λ table entries g r. steps-bounded conf table entries g (orderly (machine_of conf) (machine_laws g) r).invariant l)
 
     module _ (limit : ℕ) where
-      drain-ends_well : Ends (drain_of i limit b).answer.ending
+      drain-ends_well : Ends (drain_of limit b).answer.ending
       unfolding drainCall
       drain-ends_well =
-          let judged : drain_refusal i b ≡ 0 = by-kept conf b k (λ (a : Buffers). drain_refusal i a ≡ 0) (λ table l g r. drain-number i table _ (formed-zero table _ (State.buffers-formed g)) ∙ rw (maker) refl) in
-          rw (judged) (never_stuck (left b (drain_steps i limit b)) (deliveries-keep conf (drain_steps i limit b) b k (drain-delivers i limit b)))
+          let judged : drain_refusal b ≡ 0 = by-kept conf b k (λ (a : Buffers). drain_refusal a ≡ 0) (λ table l g r. formed-zero table _ (State.buffers-formed g)) in
+          rw (judged) (never_stuck (left b (drain_steps limit b)) (deliveries-keep conf (drain_steps limit b) b k (drain-delivers limit b)))
 
-      drain_never_full : (drain_of i limit b).answer.ending ≢ full
+      drain_never_full : (drain_of limit b).answer.ending ≢ full
       drain_never_full e = ⊎_elim (λ q. absurd (omega (arith, e, q))) (λ q. absurd (omega (arith, e, q))) drain-ends_well
 
-      drain_empties : bound < limit → (drain_of i limit b).answer.ending ≡ empty
+      drain_empties : bound < limit → (drain_of limit b).answer.ending ≡ empty
       drain_empties h =
-          let ends : DrainEnds conf b i limit = by-kept conf b k (λ (a : Buffers). DrainEnds conf a i limit)
-          (λ table l g r. drain-ends conf table l g (orderly (machine_of conf) (machine_laws g) r).invariant i limit) in
+          let ends : DrainEnds conf b limit = by-kept conf b k (λ (a : Buffers). DrainEnds conf a limit)
+          (λ table l g r. drain-ends conf table l g (orderly (machine_of conf) (machine_laws g) r).invariant limit) in
           ⊎_elim (λ q. q) (λ q. absurd (ends.ends h q)) drain-ends_well
 
-  progress : (b : Buffers) → Kept conf b → Progress i conf b
+  progress : (b : Buffers) → Kept conf b → Progress conf b
   progress b k = record {
     few = by-kept conf b k (λ (a : Buffers). Mail.count_of a.mail ≤ capacity_bound conf.kept.sessions conf.kept.items) few_messages;
     accepted = λ l h. kept_accepts (left b l) (deliveries-keep conf l b k h);
@@ -245,10 +231,10 @@ module _ (conf : Config) (i : ℕ) (maker : is_maker i ≡ true) (enough : capac
   }
 
 pub progresses : Progresses
-progresses c table mail e i maker room l rule = progress c i maker room (after (opened c table mail) l) (calls-keep c l (opened c table mail) begins rule)
+progresses c table mail e room l rule = progress c room (after (opened c table mail) l) (calls-keep c l (opened c table mail) begins rule)
   where
     known : Startable c table mail
     known = start-zero c table mail (start-accepted c table mail e)
 
     begins : Kept c (opened c table mail)
-    begins = rw (start-leaves c table mail e) (here c (begun c) [] (begun-good c known) (rw (begun-state c (start-bounded c table mail known)) starts))
+    begins = rw (start-leaves c table mail e) (here c (begun c) [] (begun-good c known) (rw (begun-state c known.sizes.bounded) starts))

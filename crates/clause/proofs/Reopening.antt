@@ -20,7 +20,7 @@ use Rattle.waits.specs.OnTable.{locks}
 use Rattle.wellformed.proofs.Sessions.{SessionKept}
 use Rattle.step.proofs.Form.{session-planned}
 use Rattle.reopen.specs.Reopening.{is_over, lock_names, item_names, no_probe_names, no_item_names, no_entry_names, may_reopen, Reopened, reopened}
-use Rattle.reopen.proofs.Form.{anew, anew-kept, reopened-formed}
+use Rattle.reopen.proofs.Form.{anew, anew-kept}
 use Rattle.lockmgr.specs.Calls.{Config, reopen_refusal, reopen}
 use Rattle.lockmgr.specs.Run.{buffers}
 use Rattle.lockmgr.proofs.Judging.{reopen-zero}
@@ -81,8 +81,7 @@ module _ {conf : Config} {table : List ℕ} {l : List Entry} (g : Good conf tabl
     good : Good conf after sent
     good =
         let n = State.session-known g t r in
-        planned-good g (session-planned table g.sized g.formed l (rw (sessions_are g, items_are g) g.entries) t n.0 n.1 anew kept)
-        (reopened-formed t table mail (State.buffers-formed g) n.0 n.1).owned (rw (append-nil l) g.room) (rw (append-nil l) g.shares)
+        planned-good g (session-planned table g.sized g.formed l (rw (sessions_are g, items_are g) g.entries) t n.0 n.1 anew kept) (rw (append-nil l) g.room)
 
     moves : (f : ℕ → Session) → Put f → read_state conf.kept.sessions conf.kept.items f (locks table) sent ≡ Machine.move (machine_of conf) (state_of conf table l) (Machine.reopen t)
     moves = Agrees.reopen-move (given g) t r p.over entries items

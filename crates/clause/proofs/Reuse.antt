@@ -34,7 +34,7 @@ use Rattle.clause.proofs.State
 use Rattle.clause.proofs.State.{machine_of, machine_laws, state_of, Good, given, sessions_are, items_are}
 use Rattle.clause.proofs.Reopening.{reopenable}
 use Rattle.clause.proofs.Follow.{anything, Followed}
-use Rattle.clause.proofs.Theorem.{followed, no-entries}
+use Rattle.clause.proofs.Theorem.{followed, no_entries}
 
 over-read : (s : Session) → is_over s ≡ true → Over (read_session s)
 unfolding read_stage
@@ -72,7 +72,7 @@ module _ {conf : Config} {table : List ℕ} {l : List Entry} (g : Good conf tabl
     probes = every_intro (Table.sessions_of table) _ (λ u low high.
         let r : between 1 conf.kept.sessions u ≡ true = between_intro 1 conf.kept.sessions u low (rw (sessions_are g) at high) in
         let told : (i : ℕ) → read_stored (Table.session table u).juniors i ≢ 0 → (i ≢ t) × (read_stored (Table.session table u).juniors i ≢ t) =
-        rw (session-at conf.kept.sessions (Table.session table) u r) at (n.no-probe u) in
+        rw (session-at conf.kept.sessions (Table.session table) u r) at (n.no_probe u) in
         rw (probes-read (Table.session table u) ((given g).juniors u r) t known.0 (omega (arith, known.1, State.few-sessions g)) told) refl)
 
     items : no_item_names t table ≡ true
@@ -85,7 +85,7 @@ module _ {conf : Config} {table : List ℕ} {l : List Entry} (g : Good conf tabl
   -- no entry, none that names it
   none-unnamed : EmptyMail (buffers table mail) → unnamed ≡ true
   unfolding no_entry_names all_of
-  none-unnamed e = rw (entries, no-entries l (sym (MailLaws.count-mail conf.capacity l g.low g.high g.room) ∙ e)) refl
+  none-unnamed e = rw (entries, no_entries l (sym (MailLaws.count-mail conf.capacity l g.low g.high g.room) ∙ e)) refl
 
   module _ (nowhere : over ≡ true → no_entry_names t l ≡ true → NamedNowhere (machine_of conf) (state_of conf table l) t) where
     may : may_reopen t table mail ≡ over && unnamed

@@ -7,7 +7,6 @@ use native.Mathlib.Omega.{arith}
 use lib.ListN.{length}
 use Rattle.lists.specs.Lists.{between, all_of}
 use Rattle.lists.proofs.Tests.{within}
-use Rattle.makers.specs.Makers.{Makers, makers_of}
 use Rattle.session.specs.Seniority.{senior}
 use Rattle.session.proofs.Seniority.{senior-order, senior-weak}
 use Rattle.session.proofs.WellFormed.{held_fits}
@@ -21,7 +20,6 @@ use Rattle.item.proofs.NextHolder.{next-inside}
 use Rattle.mailbox.specs.Entry as Entry
 use Rattle.mailbox.specs.Entry.{Entry}
 use Rattle.mailbox.specs.Layout as Mail
-use Rattle.mailbox.specs.Shares as Shares
 use Rattle.mailbox.proofs.Laws as MailLaws
 use Rattle.table.specs.Layout as Table
 use Rattle.table.proofs.Laws as TableLaws
@@ -52,23 +50,17 @@ machine_of conf = rules conf.kept.sessions conf.kept.items (senior_of conf) (nex
 abbrev pub state_of : Config → List ℕ → List Entry → Machine.State
 state_of conf table l = read_state conf.kept.sessions conf.kept.items (Table.session table) (locks table) l
 
--- who owns what, as start was given it
-abbrev pub makers_in : Config → Makers
-makers_in conf = makers_of conf.kept.owners
-
--- a well-formed table, and well-formed entries that fit the mailbox, all within their makers and the shares
+-- a well-formed table, and well-formed entries that fit the mailbox
 pub record Good (conf : Config) (table : List ℕ) (l : List Entry) : Type 0 where
   pub sized : Table.sized table ≡ true
   pub config : Table.config_of table ≡ conf.kept
   pub formed : Table.well_formed table ≡ true
-  pub owned : Table.owned table ≡ true
   pub low : 1 ≤ conf.capacity
   pub high : conf.capacity ≤ Mail.max_capacity
   pub room : length l ≤ conf.capacity
   pub entries : all_of (Entry.well_formed conf.kept.sessions conf.kept.items) l ≡ true
-  pub shares : Shares.owned (makers_in conf) conf.capacity l ≡ true
 
--- so its sizes, ranks and makers are those that start was given
+-- so its sizes and ranks are those that start was given
 module _ {conf : Config} {table : List ℕ} {l : List Entry} (g : Good conf table l) where
   pub sessions_are : Table.sessions_of table ≡ conf.kept.sessions
   sessions_are = ap (λ (c : Table.Config). c.sessions) g.config
@@ -78,9 +70,6 @@ module _ {conf : Config} {table : List ℕ} {l : List Entry} (g : Good conf tabl
 
   pub ranks_of : Table.ranks table ≡ conf.kept.ranks
   ranks_of = ap (λ (c : Table.Config). c.ranks) g.config
-
-  pub makers_are : Table.makers table ≡ makers_in conf
-  makers_are = ap (λ (c : Table.Config). makers_of c.owners) g.config
 
 module _ {conf : Config} {table : List ℕ} {l : List Entry} (g : Good conf table l) where
   pub few-sessions : conf.kept.sessions ≤ 64
@@ -98,12 +87,8 @@ module _ {conf : Config} {table : List ℕ} {l : List Entry} (g : Good conf tabl
   pub buffers-formed : Formed table (Mail.mail_bytes conf.capacity l)
   buffers-formed = record {
     records = record { sized = g.sized; formed = g.formed };
-    owned = g.owned;
     mail-sized = MailLaws.sized-mail conf.capacity l g.low g.high g.room;
     mail-formed = rw (sessions_are g, items_are g) (MailLaws.well_formed-mail conf.capacity l g.low g.high g.room conf.kept.sessions conf.kept.items g.entries);
-    mail-owned =
-        rw (MailLaws.capacity-mail conf.capacity l g.low g.high g.room, MailLaws.entries-mail conf.capacity l g.low g.high g.room)
-        (ap (λ (m : Makers). Shares.owned m conf.capacity l) (makers_are g) ∙ g.shares);
   }
 
   pub session-known : (t : ℕ) → between 1 conf.kept.sessions t ≡ true → IsSession (Table.sessions_of table) t
@@ -127,19 +112,16 @@ module _ {conf : Config} {table : List ℕ} {l : List Entry} (g : Good conf tabl
     entries = g.entries;
   }
 
-  -- what is planned on it, where it fits and stays within makers and shares
-  pub planned-good : {p : Plan} → Planned table p → Table.owned p.table ≡ true → length p.entries ≤ conf.capacity
-      → Shares.owned (makers_in conf) conf.capacity p.entries ≡ true → Good conf p.table p.entries
-  planned-good h owned fits shares = record {
+  -- what is planned on it, where it fits
+  pub planned-good : {p : Plan} → Planned table p → length p.entries ≤ conf.capacity → Good conf p.table p.entries
+  planned-good h fits = record {
     sized = h.sized;
     config = h.config ∙ g.config;
     formed = h.formed;
-    owned = owned;
     low = g.low;
     high = g.high;
     room = fits;
     entries = rw (sessions_are g, items_are g) at h.entries;
-    shares = shares;
   }
 
   -- the record of session t replaced by a well-formed one

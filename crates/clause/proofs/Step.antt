@@ -4,23 +4,19 @@ use mathlib.Core.Bool.{Bool, true, false, cond, not, ◌&&◌, ◌||◌, false�
 use mathlib.Core.List.{List}
 use mathlib.Core.Logic.{◌≢◌}
 use mathlib.Core.Option.{none}
-use Prim.Native.Nat.{ℕ, ◌≤◌, ◌<◌}
+use Prim.Native.Nat.{ℕ, ◌≤◌}
 use native.Mathlib.Omega.{arith}
 use lib.Dec.{eqb}
 use lib.ListN.{length, get_or}
-use borrow.Author.Tests.{eqb-false, le-ltb, not-false}
-use Rattle.lists.proofs.Laws.{filter-length, find_index-length}
+use borrow.Author.Tests.{le-ltb, not-false}
 use Rattle.lists.proofs.Tests.{and_intro, between_intro, or_neither}
 use Rattle.bitset.specs.Bitset.{has}
-use Rattle.makers.specs.Makers.{Makers}
 use Rattle.session.specs.Stage
 use Rattle.session.specs.Seniority.{senior}
 use Rattle.session.specs.Rules as Session
 use Rattle.item.specs.NextHolder.{next_holder}
-use Rattle.mailbox.specs.Entry.{Entry, unused, on_route, earliest, to_item, to_session}
+use Rattle.mailbox.specs.Entry.{Entry, unused}
 use Rattle.mailbox.specs.Layout as Mail
-use Rattle.mailbox.specs.Shares as Shares
-use Rattle.mailbox.specs.Shares.{has_entry, of_maker, over_share}
 use Rattle.mailbox.proofs.Laws as MailLaws
 use Rattle.table.specs.Layout as Table
 use Rattle.waits.specs.OnTable.{locks}
@@ -33,9 +29,7 @@ use Rattle.lockmgr.specs.Calls.{Config, step}
 use Rattle.refusal.specs.Refusal.{first}
 use Rattle.lockmgr.proofs.Judging.{by_call, formed-zero, judged-none, step_acts}
 use Rattle.step.proofs.Acting.{acted-concluded, by-verb, request-plan, release-plan}
-use Rattle.step.proofs.Parties.{item_keeps, session_keeps, delivery-crosses}
-use Rattle.step.proofs.Sharing.{plan-shares}
-use Rattle.step.proofs.Form.{plan_keeps, plan-owned}
+use Rattle.step.proofs.Form.{item_keeps, session_keeps, plan_keeps}
 use Rattle.deadlock.specs.Lists.{updated}
 use Rattle.deadlock.specs.Machine
 use Rattle.deadlock.proofs.Laws.Lists.{updated-other, updated-same}
@@ -46,7 +40,7 @@ use Rattle.agreement.proofs.MoveAgrees as Agrees
 use Rattle.agreement.proofs.MoveAgrees.{Parties}
 use Rattle.agreement.proofs.EventAgrees as Events
 use Rattle.clause.proofs.State
-use Rattle.clause.proofs.State.{makers_in, senior_of, next_of, machine_of, Good, given, planned-good, sessions_are, items_are, ranks_of, makers_are}
+use Rattle.clause.proofs.State.{senior_of, next_of, machine_of, Good, given, planned-good, sessions_are, items_are, ranks_of}
 use Rattle.clause.proofs.Moves.{StepMoved, session-stepped, item-stepped}
 
 -- nothing happens, for no test and another is passed
@@ -168,9 +162,6 @@ module _ {conf : Config} {table : List ℕ} {l : List Entry} (g : Good conf tabl
         Step.deliver_to_session refl (λ _. taken false found))
 
     -- ---- a delivery that finds its entry: how many entries it leaves, and that only room can hinder it
-    is-there : (direction : ℕ) → eqb (earliest direction t x l) (length l) ≡ false → earliest direction t x (Mail.entries_of mail) < length (Mail.entries_of mail)
-    is-there direction e = rw (entries_are) (omega (arith, find_index-length (on_route direction t x) l, eqb-false (earliest direction t x l) (length l) e))
-
     -- as many as the machine
     same_count : (d : Bool) → eqb (Agrees.place_of t x l d) (length l) ≡ false
         → length (planned (delivery_verb d)).entries ≡ length (Machine.move (machine_of conf) (State.state_of conf table l) (delivery_call t x d)).mailbox
@@ -191,25 +182,21 @@ module _ {conf : Config} {table : List ℕ} {l : List Entry} (g : Good conf tabl
 
     only-room : (d : Bool) → eqb (Agrees.place_of t x l d) (length l) ≡ false → first (step_causes (delivery_verb d) t x table (Mail.entries_of mail)) ≡ 0
     unfolding first delivered
-    only-room true found = rw (delivery-crosses t x table mail j Step.deliver_to_item to_item (is-there to_item found), entries_are, found) refl
-    only-room false found = rw (delivery-crosses t x table mail j Step.deliver_to_session to_session (is-there to_session found), entries_are, found) refl
+    only-room true found = rw (entries_are, found) refl
+    only-room false found = rw (entries_are, found) refl
 
     is-verb : (d : Bool) → (1 ≤ delivery_verb d) × (delivery_verb d ≤ 4)
     is-verb true = (omega arith, omega arith)
     is-verb false = (omega arith, omega arith)
 
-    -- where what the machine leaves is no more than the share of the session's maker, the step is accepted
+    -- where what the machine leaves fits, the step is accepted
     pub fits-accepted : (d : Bool) → eqb (Agrees.place_of t x l d) (length l) ≡ false
-        → length (Machine.move (machine_of conf) (State.state_of conf table l) (delivery_call t x d)).mailbox ≤ (makers_in conf).share ((makers_in conf).session t)
-        → (step (delivery_verb d) t x table mail).answer.refusal ≡ 0
+        → length (Machine.move (machine_of conf) (State.state_of conf table l) (delivery_call t x d)).mailbox ≤ conf.capacity → (step (delivery_verb d) t x table mail).answer.refusal ≡ 0
     fits-accepted d found fits =
         let v = is-verb d in
         let known = judged-none (delivery_verb d) t x table mail v.0 v.1 (formed-zero table mail j.formed) j.session-low j.session-high j.item-low j.item-high in
-        let m = makers_in conf in
-        let after = (planned (delivery_verb d)).entries in
-        let few : over_share m (m.session t) after ≡ false = le-ltb (m.share (m.session t)) (length (of_maker m (m.session t) after)) (omega (arith, filter-length (has_entry m (m.session t)) after, same_count d found, fits)) in
-        let room : overfull t table (plan (Table.senior table) (delivery_verb d) t x table (Mail.entries_of mail)).entries ≡ false =
-        rw (entries_are) (ap (λ (m : Makers). over_share m (m.session t) after) (makers_are g) ∙ few) in
+        let room : overfull (Mail.capacity_of mail) (plan (Table.senior table) (delivery_verb d) t x table (Mail.entries_of mail)).entries ≡ false =
+        rw (capacity-is, entries_are) (le-ltb conf.capacity (length (planned (delivery_verb d)).entries) (omega (arith, same_count d found, fits))) in
         rw (step_acts (delivery_verb d) t x table mail known, acted-concluded (Table.senior table) (delivery_verb d) t x table mail (only-room d found), room) refl
 
     -- where an entry is found, the machine delivers it
@@ -227,9 +214,7 @@ module _ {conf : Config} {table : List ℕ} {l : List Entry} (g : Good conf tabl
   pub by-step : (verb t x : ℕ) (P : Stepped → Type 0) → ((n : ℕ) → n ≢ 0 → P (stepped (refused_answer n) table mail))
       → ((r : Stepped) → StepMoved conf table l verb t r → P r) → P (step verb t x table mail)
   by-step verb t x P refused moved =
-      by_call verb t x table mail P refused (λ low high j u room fits.
-      let shares = ap (λ (m : Makers). Shares.owned m (Mail.capacity_of mail) (plan (Table.senior table) verb t x table (Mail.entries_of mail)).entries) (sym (makers_are g)) ∙ plan-shares t x table mail j verb low high u room in
-      let good : Good conf (planned j verb).table (planned j verb).entries =
-      planned-good g (rw (entries_are) at (plan_keeps t x table mail j verb low high u)) (rw (entries_are) at (plan-owned t x table mail j verb low high u)) (rw (capacity-is, entries_are) at fits) (rw (capacity-is, entries_are) at shares) in
+      by_call verb t x table mail P refused (λ low high j u room.
+      let good : Good conf (planned j verb).table (planned j verb).entries = planned-good g (rw (entries_are) at (plan_keeps t x table mail j verb low high u)) (rw (capacity-is, entries_are) at room) in
       rw (capacity-is, entries_are)
       (moved (committed t conf.capacity (planned j verb)) (by-verb (Done j) (request-done j) (release-done j) (item-done j) (session-done j) verb low high (rw (entries_are) at u) good)))

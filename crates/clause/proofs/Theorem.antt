@@ -7,7 +7,7 @@ use native.Mathlib.Omega.{arith}
 use lib.Dec.{eqb}
 use lib.ListN.{length}
 use borrow.Author.Tests.{eqb-true, not-false}
-use Rattle.lists.proofs.Tests.{and_intro, by-test, within}
+use Rattle.lists.proofs.Tests.{by-test, within}
 use Rattle.lists.proofs.Laws.{all_none}
 use Rattle.item.specs.Record as ItemRecord
 use Rattle.mailbox.specs.Entry as Entry
@@ -21,8 +21,7 @@ use Rattle.waits.specs.OnTable.{locks, waits_for, cycle_length}
 use Rattle.waits.proofs.Leaders.{cycles-none}
 use Rattle.lockmgr.specs.Calls as Calls
 use Rattle.lockmgr.specs.Calls.{Config}
-use Rattle.lockmgr.proofs.Judging.{Startable, start-zero, start-bounded, report-none}
-use Rattle.lockmgr.proofs.Form.{shares-started, started-formed}
+use Rattle.lockmgr.proofs.Judging.{Startable, start-zero, report-none}
 use Rattle.deadlock.specs.Machine
 use Rattle.agreement.specs.Reading.{read_entries}
 use Rattle.agreement.proofs.MoveAgrees.{start-agrees}
@@ -51,18 +50,15 @@ module _ (conf : Config) where
   begun = Table.started conf.kept
 
   pub begun-good : {table mail : List ℕ} → Startable conf table mail → Good conf begun []
-  begun-good {table} {mail} f =
-      let z = f.sizes.bounds.capacity in
-      let formed = started-formed conf f in record {
-        sized = formed.records.sized;
-        config = StartLaws.config_of-started conf.kept (start-bounded conf table mail f);
-        formed = formed.records.formed;
-        owned = formed.owned;
-        low = z.0;
-        high = z.1;
+  begun-good f =
+      let z = f.sizes in record {
+        sized = StartLaws.sized-started conf.kept z.bounded;
+        config = StartLaws.config_of-started conf.kept z.bounded;
+        formed = StartLaws.well_formed-started conf.kept z.bounded f.ranks;
+        low = z.some-room;
+        high = z.max-room;
         room = omega arith;
         entries = all_none (Entry.well_formed conf.kept.sessions conf.kept.items);
-        shares = shares-started conf f;
       }
 
   pub begun-state : Table.Bounded conf.kept → state_of conf begun [] ≡ Machine.start (machine_of conf)
@@ -73,9 +69,9 @@ module _ (conf : Config) where
       (λ x r. ap ItemRecord.unpacked (StartLaws.item-started conf.kept f x (within 1 conf.kept.items x r).0 (within 1 conf.kept.items x r).1))
       (senior_of conf) (next_of conf)
 
-pub no-entries : (l : List Entry) → length l ≡ 0 → l ≡ []
-no-entries [] e = refl
-no-entries (a ∷ l) e = absurd (omega arith)
+pub no_entries : (l : List Entry) → length l ≡ 0 → l ≡ []
+no_entries [] e = refl
+no_entries (a ∷ l) e = absurd (omega arith)
 
 pub none_read : (l : List Entry) → l ≡ [] → read_entries l ≡ []
 unfolding read_entries
@@ -95,17 +91,17 @@ module _ (conf : Config) (b : Buffers) (calls : List Call) (h : Followed conf (M
       }
 
   module _ (empty : EmptyMail (after b calls)) where
-    no-mail : (ran conf (Machine.start (machine_of conf)) h.run).state.mailbox ≡ []
-    no-mail =
+    no_mail : (ran conf (Machine.start (machine_of conf)) h.run).state.mailbox ≡ []
+    no_mail =
         let g = h.good in
         let n : length h.entries ≡ 0 = sym (MailLaws.count-mail conf.capacity h.entries g.low g.high g.room) ∙ ap Mail.count_of (sym h.mail) ∙ empty in
-        ap (λ (s : Machine.State). s.mailbox) h.state ∙ none_read h.entries (no-entries h.entries n)
+        ap (λ (s : Machine.State). s.mailbox) h.state ∙ none_read h.entries (no_entries h.entries n)
 
     off-cycle : (t : ℕ) → IsSession conf.kept.sessions t → not (eqb (cycle_length table-left t) 0) ≡ false
     off-cycle t known =
         sym (on-cycle_of h.good t)
         ∙ ap (λ (s : Machine.State). Machine.on_cycle (machine_of conf) s t) (sym h.state)
-        ∙ (guaranteed h.good).settled-free h.run no-mail t known.0 known.1
+        ∙ (guaranteed h.good).settled-free h.run no_mail t known.0 known.1
 
     has_no_cycle : (t : ℕ) → IsSession conf.kept.sessions t → cycle_length table-left t ≡ 0
     has_no_cycle t known = eqb-true (cycle_length table-left t) 0 (not-false (eqb (cycle_length table-left t) 0) (off-cycle t known))
@@ -113,10 +109,10 @@ module _ (conf : Config) (b : Buffers) (calls : List Call) (h : Followed conf (M
     settled : Settled conf.kept.sessions b calls
     unfolding Calls.report Waits.on_cycle
     settled = record {
-      counts = omega (arith, h.closes, h.rolls, (guaranteed h.good).counts-agree h.run no-mail);
+      counts = omega (arith, h.closes, h.rolls, (guaranteed h.good).counts-agree h.run no_mail);
       none-stands = cycles-none (waits_for table-left) (Table.sessions_of table-left) (Table.senior table-left) (λ t lo hi. off-cycle t (lo, rw (sessions_are h.good) at hi));
       reports = λ t known. let high : t ≤ Table.sessions_of table-left = rw (sessions_are h.good) known.1 in
-          rw (report-none t table-left h.good.sized (and_intro h.good.formed h.good.owned) known.0 high, has_no_cycle t known) refl;
+          rw (report-none t table-left h.good.sized h.good.formed known.0 high, has_no_cycle t known) refl;
     }
 
 -- every list of calls from a start that is not refused is followed by such a run
@@ -131,7 +127,7 @@ module _ (c : Config) (table mail : List ℕ) (e : (Calls.start c table mail).re
   good = begun-good c known
 
   state : state_of c (begun c) [] ≡ Machine.start (machine_of c)
-  state = begun-state c (start-bounded c table mail known)
+  state = begun-state c known.sizes.bounded
 
   pub followed : Followed c (Machine.start (machine_of c)) (after b calls) (steps b calls) 0 0
   followed = rw (start-leaves c table mail e, ← state) (follow c calls (begun c) [] good)

@@ -26,31 +26,29 @@ is_delivered d = is_delivery d.verb && is_accepted d
 abbrev pub AllDelivered : Buffers → List Step → Type 0
 AllDelivered b l = all_of is_delivered (done b l) ≡ true
 
--- a drain of two buffers for maker k
-abbrev pub drain_of : ℕ → ℕ → Buffers → DrainResult
-drain_of k limit b = drain k limit b.table b.mail
+-- a drain of two buffers
+abbrev pub drain_of : ℕ → Buffers → DrainResult
+drain_of limit b = drain limit b.table b.mail
 
 -- on any two buffers a drain is its single deliveries: made one by one, as calls of their own, they leave the same, and all of them are accepted: RULES 9.9
-pub record IsSteps (k limit : ℕ) (b : Buffers) : Type 0 where
-  pub made : (drain_of k limit b).answer.made ≡ length (drain_steps k limit b)
-  pub left : buffers (drain_of k limit b).table (drain_of k limit b).mail ≡ after b (map call_of (drain_steps k limit b))
-  pub same_left : after b (History.drain k limit ∷ []) ≡ after b (map call_of (drain_steps k limit b))
-  pub same-steps : steps b (History.drain k limit ∷ []) ≡ steps b (map call_of (drain_steps k limit b))
-  pub accepted : all_of is_accepted (done b (drain_steps k limit b)) ≡ true
+pub record IsSteps (limit : ℕ) (b : Buffers) : Type 0 where
+  pub made : (drain_of limit b).answer.made ≡ length (drain_steps limit b)
+  pub left : buffers (drain_of limit b).table (drain_of limit b).mail ≡ after b (map call_of (drain_steps limit b))
+  pub same_left : after b (History.drain limit ∷ []) ≡ after b (map call_of (drain_steps limit b))
+  pub same-steps : steps b (History.drain limit ∷ []) ≡ steps b (map call_of (drain_steps limit b))
+  pub accepted : all_of is_accepted (done b (drain_steps limit b)) ≡ true
 
 abbrev pub DrainIsSteps : Type 0
-DrainIsSteps = (k limit : ℕ) (b : Buffers) → IsSteps k limit b
+DrainIsSteps = (limit : ℕ) (b : Buffers) → IsSteps limit b
 
--- whatever its limit, a drain makes at most as many deliveries as the formula says of all entries, and a limit above that never ends it: RULES 9.10
-pub record DrainEnds (c : Config) (b : Buffers) (k limit : ℕ) : Type 0 where
-  pub bounded : (drain_of k limit b).answer.made ≤ delivery_bound c.kept.sessions c.kept.items (Mail.count_of b.mail)
-  pub ends : delivery_bound c.kept.sessions c.kept.items (Mail.count_of b.mail) < limit → (drain_of k limit b).answer.ending ≢ limited
+-- whatever its limit, a drain makes at most as many deliveries as the formula says, and a limit above that never ends it: RULES 9.10
+pub record DrainEnds (c : Config) (b : Buffers) (limit : ℕ) : Type 0 where
+  pub bounded : (drain_of limit b).answer.made ≤ delivery_bound c.kept.sessions c.kept.items (Mail.count_of b.mail)
+  pub ends : delivery_bound c.kept.sessions c.kept.items (Mail.count_of b.mail) < limit → (drain_of limit b).answer.ending ≢ limited
 
 -- for every lock manager that start accepts, after every list of its calls
 abbrev pub DrainsEnd : Type 0
-DrainsEnd =
-    (c : Config) (table mail : List ℕ) → (Calls.start c table mail).refusal ≡ 0
-    → (calls : List Call) (k limit : ℕ) → DrainEnds c (after (opened c table mail) calls) k limit
+DrainsEnd = (c : Config) (table mail : List ℕ) → (Calls.start c table mail).refusal ≡ 0 → (calls : List Call) (limit : ℕ) → DrainEnds c (after (opened c table mail) calls) limit
 
 -- the formula in numbers: at most 10^15 for any mail that fits
 abbrev pub BoundSmall : Type 0

@@ -11,7 +11,7 @@ use lib.Seq.{take_all}
 use Rattle.lists.specs.Lists.{tabulate}
 use Rattle.message.specs.Limits.{max_sessions}
 use Rattle.session.proofs.Seniority.{senior-weak}
-use Rattle.session.proofs.MostSenior.{Leads, leads_one, leads-new, leads-still, leads-place}
+use Rattle.session.proofs.MostSenior.{Leads, leads_one, leads_new, leads-still, leads-place}
 use Rattle.table.specs.Layout as Table
 use Rattle.table.specs.Layout.{sessions_of}
 use Rattle.table.proofs.Laws.{sized-facts, senior-total}
@@ -100,7 +100,7 @@ module _ {t at : List ℕ} {me n : ℕ} (o : OnCycle t at me n) where
 
     pub best_new : Table.senior t r s ≡ true → Best t me (i + 1) r
     best_new q =
-        rw (add-one) (record { place = i; there = there_too; leads = leads-new (senior-weak (Table.ranks t)) (all t me) i b.place b.leads (rw (there_too, b.there) at q) })
+        rw (add-one) (record { place = i; there = there_too; leads = leads_new (senior-weak (Table.ranks t)) (all t me) i b.place b.leads (rw (there_too, b.there) at q) })
 
     pub best_still : Table.senior t r s ≡ false → Best t me (i + 1) s
     best_still q =
@@ -131,9 +131,9 @@ module _ {t at : List ℕ} {me n : ℕ} (o : OnCycle t at me n) where
 
 -- ---- the causes of a refusal
 module _ (t : ℕ) (table buffer : List ℕ) where
-  pub refused-no-cycle : cycle_length table t ≡ 0 → first (text_causes t table buffer) ≡ Refusal.no_cycle
+  pub refused_no_cycle : cycle_length table t ≡ 0 → first (text_causes t table buffer) ≡ Refusal.no_cycle
   unfolding first
-  refused-no-cycle e = rw (e) refl
+  refused_no_cycle e = rw (e) refl
 
   module _ (on : cycle_length table t ≡ 0 → ⊥) where
     pub refused_short : length buffer < length (text table t) → first (text_causes t table buffer) ≡ Refusal.short_buffer

@@ -40,8 +40,8 @@ module _ {R : Rules} (L : Laws R) {w : World} (known : Known R w) (t : ℕ) (u :
     session-probes R reopened acts (λ v a _. plain-passed-back L known reopened acts (λ v z. ap (cleans_of v) (sym (q z))) (omega arith) v a) (record {
       own-stored = λ _ i ne. absurd (ne refl);
       own-up = λ z lo hi s. absurd (nowhere-queued z lo hi s);
-      own-behind-request = λ z lo hi. rw (u.no-up z) behind-nil;
-      own-down = λ _ z. rw (q z, u.no-down z) behind-nil;
+      own-behind-request = λ z lo hi. rw (u.no_up z) behind-nil;
+      own-down = λ _ z. rw (q z, u.no_down z) behind-nil;
     }) h,
     session-victims L known reopened acts (record {
       mate-waits = λ v h _ _ _ _ s. absurd (omega (arith, s, ap is_waiting u.over.1));
@@ -51,7 +51,7 @@ module _ {R : Rules} (L : Laws R) {w : World} (known : Known R w) (t : ℕ) (u :
       total-other = λ v _. omega (arith, ts v);
       new-clean = λ v z p. absurd (omega arith);
       down_le = λ v z. omega (arith, ap (cleans_of v) (q z));
-      own-aborts = λ z. rw (q z, u.no-down z) every-nil;
+      own-aborts = λ z. rw (q z, u.no_down z) every-nil;
       own-no-request = λ s. absurd (omega arith);
       own-clean-behind = λ s. absurd (omega arith);
     }),

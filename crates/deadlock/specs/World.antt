@@ -214,7 +214,7 @@ module _ (R : Rules) (w : World) where
     -- an abort finds the most junior of a standing cycle, or a session that is a victim already
     pub aborts : (t x : ℕ) → Every (OfAbort t) (w.down t x)
     -- a victim has no request on its way
-    pub no-request : (v x : ℕ) → 1 ≤ x → x ≤ R.M → VictimIn w v → count_kind Kind.request (w.up v x) ≡ 0
+    pub no_request : (v x : ℕ) → 1 ≤ x → x ≤ R.M → VictimIn w v → count_kind Kind.request (w.up v x) ≡ 0
     -- behind every probe that a waiting victim has sent there is a clean
     pub clean-behind-probes : (v x : ℕ) → 1 ≤ x → x ≤ R.M → VictimIn w v → Queued w v x
         → EachBehind (λ m r. OfProbe (λ _ _. 1 ≤ count_kind Kind.clean r) m) (w.up v x)

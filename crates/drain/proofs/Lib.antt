@@ -1,3 +1,2 @@
 pub mod Gaps
 pub mod Oldest
-pub mod Delivering

@@ -1,91 +1,72 @@
 -- The delivery of an entry, the earliest of its route: only room can hinder it, and the other entries are left.
 use mathlib.Core.Path.{◌≡◌, refl, sym, ap, subst, ◌∙◌}
-use mathlib.Core.Bool.{Bool, true, false, cond, not}
-use mathlib.Core.List.{List}
+use mathlib.Core.Bool.{Bool, true, false, cond, ◌&&◌, true≢false}
+use mathlib.Core.List.{List, ◌++◌, map}
 use mathlib.Core.Logic.{◌⊎◌, inl, inr, ⊎_elim}
-use Prim.Native.Nat.{ℕ, ◌≤◌, ◌<◌}
+use Prim.Native.Nat.{ℕ, ◌+◌, ◌<◌}
 use native.Mathlib.Omega.{arith}
 use lib.Dec.{eqb}
-use lib.ListN.{length, get_or, take}
-use lib.Seq.{get_or-take, length-take-le}
-use borrow.Author.Tests.{eq-eqb, ne_eqb, not-true}
-use Rattle.lists.specs.Lists.{all_of, find_index, remove_at}
-use Rattle.lists.proofs.Laws.{all_get_d, filter-head, filter-without, find_index-before, find_index-first, find_index-found, find_index-some}
-use Rattle.lists.proofs.Tests.{by_answer, eqb_self, refuted}
-use Rattle.makers.specs.Makers.{Makers}
+use lib.ListN.{length, length-map}
+use borrow.Author.Tests.{eq-eqb, ne_eqb, leb-true, leb-false, lt-ltb, le-ltb}
+use Rattle.lists.specs.Lists.{remove_at}
+use Rattle.lists.proofs.Laws.{find_index-first}
+use Rattle.lists.proofs.Tests.{by_answer, and_both, eqb_self}
+use Rattle.message.specs.declared.Message.{Message}
+use Rattle.item.specs.declared.Event.{Event}
 use Rattle.mailbox.specs.Entry.{Entry, unused, to_item, to_session, on_route, earliest}
-use Rattle.mailbox.specs.Layout.{count_of, entry_at, entries_of}
-use Rattle.mailbox.specs.Shares.{has_entry, of_maker}
+use Rattle.mailbox.specs.Layout.{capacity_of, count_of, entry_at, entries_of, mail_bytes, Stands}
 use Rattle.mailbox.proofs.Laws as MailLaws
-use Rattle.mailbox.proofs.EntryLaws.{EntryFacts, entry-facts, route-facts}
+use Rattle.mailbox.proofs.EntryLaws.{EntryFacts, entry-facts}
 use Rattle.table.specs.Layout as Table
 use Rattle.waits.specs.OnTable.{locks}
 use Rattle.refusal.specs.Refusal
 use Rattle.refusal.specs.Refusal.{first}
 use Rattle.step.specs.Step as Step
-use Rattle.step.specs.Step.{Plan, Formed, delivered, item_receives, session_receives, session_acts, session_plan, item_plan, plan, crosses, step_causes, overfull, stepped, refused_answer}
-use Rattle.step.specs.Parts.{Judged, concluded}
-use Rattle.step.proofs.Acting.{acted-concluded}
-use Rattle.step.proofs.Parties.{delivery-crosses}
+use Rattle.step.specs.Step.{Plan, Stepped, Formed, delivered, item_receives, session_receives, session_acts, session_plan, item_plan, plan, step_causes, overfull, stepped, refused_answer}
+use Rattle.step.specs.Parts.{Judged, ForItem, ForSession, concluded}
+use Rattle.step.proofs.Acting as Acting
+use Rattle.step.proofs.Acting.{acted-concluded, length-sent, deliverable, item-packed}
 use Rattle.drain.specs.Oldest.{verb_of, EarliestAt, acted_at}
+use Rattle.drain.specs.declared.Gap.{Gap}
+use Rattle.drain.specs.declared.Delivery.{Delivery}
+use Rattle.drain.specs.Parts.{in_use, closed_up, GapIn, Due, longer, fits, refusal_of, Admitted, Outcome, outcome, outcome_of, Delivers}
+use Rattle.drain.proofs.Gaps.{left, some_left, entry-left, others-left, filled-spent, filled-left}
 
 -- what a step comes to that only room can hinder: p is what it plans
 module _ (t : ℕ) (table mail : List ℕ) (p : Plan) where
   -- it is refused with 9 and changes nothing, or accepted
   by-room : (concluded t table mail p ≡ stepped (refused_answer Refusal.mail_full) table mail) ⊎ ((concluded t table mail p).answer.refusal ≡ 0)
-  by-room = by_answer (overfull t table p.entries) (λ e. inl (rw (e) refl)) (λ e. inr (rw (e) refl))
+  by-room = by_answer (overfull (capacity_of mail) p.entries) (λ e. inl (rw (e) refl)) (λ e. inr (rw (e) refl))
+
+  no_room : overfull (capacity_of mail) p.entries ≡ true → (allowed : Bool) → outcome Refusal.mail_full table mail ≡ outcome_of allowed table mail (concluded t table mail p)
+  no_room e true = rw (e) refl
+  no_room e false = rw (e) refl
+
+  only-judged : overfull (capacity_of mail) p.entries ≡ false → outcome 0 table mail ≡ outcome_of false table mail (concluded t table mail p)
+  only-judged e = rw (e) refl
+
+  made : overfull (capacity_of mail) p.entries ≡ false → outcome 0 p.table (mail_bytes (capacity_of mail) p.entries) ≡ outcome_of true table mail (concluded t table mail p)
+  made e = rw (e) refl
 
 -- what the delivery of an entry plans, to its item or to its session
 module _ (e : Entry) (rest : List Entry) (table : List ℕ) where
-  abbrev pub item_planned : Plan
+  abbrev item_planned : Plan
   item_planned = item_plan e.item table rest (item_receives (Table.senior table) (locks table e.item) e)
 
-  abbrev pub session_planned : Plan
+  abbrev session_planned : Plan
   session_planned = session_plan e.session table rest (session_receives (Table.senior table) e.session (Table.session table e.session) e)
 
   -- by its direction
   abbrev directed : Plan
   directed = cond (eqb e.direction to_item) item_planned session_planned
 
--- the oldest entry of maker k, at place n: those before it are not k's
-module _ (m : Makers) (k : ℕ) (mail : List ℕ) (n : ℕ) (inside : n < count_of mail) (own : has_entry m k (entry_at mail n) ≡ true)
-    (passed : all_of (λ e. not (has_entry m k e)) (take n (entries_of mail)) ≡ true) where
-  abbrev oldest : Entry
-  oldest = entry_at mail n
-
-  listed : n < length (entries_of mail)
-  listed = omega (arith, inside, MailLaws.length-entries mail)
-
-  here : get_or (entries_of mail) n unused ≡ oldest
-  here = MailLaws.get_d_entries mail n inside
-
-  -- it is the first of k's entries
-  pub oldest-own : get_or (of_maker m k (entries_of mail)) 0 unused ≡ oldest
-  oldest-own = filter-head (has_entry m k) n (entries_of mail) unused listed (rw (here) own) passed ∙ here
-
-  pub oldest-some : 1 ≤ length (of_maker m k (entries_of mail))
-  oldest-some = omega (arith, filter-without (has_entry m k) n (entries_of mail) unused listed (rw (here) own))
-
-  -- and the earliest of its route, since all entries of its route are k's
-  pub oldest-earliest : EarliestAt n mail
-  oldest-earliest =
-      let route = on_route oldest.direction oldest.session oldest.item in
-      find_index-first route (entries_of mail) unused n listed
-      (rw (here, eqb_self oldest.direction, eqb_self oldest.session, eqb_self oldest.item) refl)
-      (λ j h. let e = get_or (entries_of mail) j unused in
-      let other : has_entry m k e ≡ false =
-      not-true (has_entry m k e) (rw (get_or-take n (entries_of mail) j unused h) at (all_get_d (λ e. not (has_entry m k e)) (take n (entries_of mail)) j unused passed (omega (arith, h, length-take-le n (entries_of mail) (omega (arith, listed)))))) in
-      refuted (route e) (has_entry m k e) (λ q. rw (route-facts oldest.direction oldest.session oldest.item e q).session own) other)
-
--- where k has an entry, its oldest has a place
-pub oldest-place : (m : Makers) (k : ℕ) (mail : List ℕ) → 1 ≤ length (of_maker m k (entries_of mail))
-    → (n : ℕ) × (n < count_of mail) × (has_entry m k (entry_at mail n) ≡ true) × (all_of (λ e. not (has_entry m k e)) (take n (entries_of mail)) ≡ true)
-oldest-place m k mail some =
-    let l = entries_of mail in
-    let n = find_index (has_entry m k) l in
-    let found = find_index-some (has_entry m k) l some in
-    let inside : n < count_of mail = omega (arith, found, MailLaws.length-entries mail) in
-    (n, inside, rw (MailLaws.get_d_entries mail n inside) at (find_index-found (has_entry m k) l unused found), find_index-before (has_entry m k) l)
+-- the oldest entry is the earliest of its route
+pub oldest-earliest : (mail : List ℕ) (k : ℕ) → k ≡ 0 → k < count_of mail → EarliestAt k mail
+oldest-earliest mail k oldest inside =
+    let e = entry_at mail k in
+    find_index-first (on_route e.direction e.session e.item) (entries_of mail) unused k (omega (arith, MailLaws.length-entries mail))
+    (rw (MailLaws.get_d_entries mail k inside, eqb_self e.direction, eqb_self e.session, eqb_self e.item) refl)
+    (λ j h. absurd (omega (arith, h, oldest)))
 
 -- an entry of well-formed buffers
 module _ (table mail : List ℕ) (f : Formed table mail) (k : ℕ) (inside : k < count_of mail) where
@@ -95,7 +76,7 @@ module _ (table mail : List ℕ) (f : Formed table mail) (k : ℕ) (inside : k <
   abbrev others : List Entry
   others = remove_at k (entries_of mail)
 
-  pub facts : EntryFacts (Table.sessions_of table) (Table.items_of table) entry
+  facts : EntryFacts (Table.sessions_of table) (Table.items_of table) entry
   facts =
       entry-facts (Table.sessions_of table) (Table.items_of table) entry (MailLaws.formed-entry (Table.sessions_of table) (Table.items_of table) mail f.mail-formed k inside)
 
@@ -105,51 +86,129 @@ module _ (table mail : List ℕ) (f : Formed table mail) (k : ℕ) (inside : k <
   not_none : eqb k (length (entries_of mail)) ≡ false
   not_none = ne_eqb k (length (entries_of mail)) (λ q. absurd (omega (arith, q, inside, MailLaws.length-entries mail)))
 
-  -- what a delivery to the item or the session finds: no cause but room can hinder it, the entry is at its place, and this is its plan
-  pub record Delivered (verb : ℕ) (p : Plan) : Type 0 where
-    pub none : first (step_causes verb entry.session entry.item table (entries_of mail)) ≡ 0
-    pub place : delivered verb entry.session entry.item (entries_of mail) ≡ k
-    pub planned : plan (Table.senior table) verb entry.session entry.item table (entries_of mail) ≡ p
+  -- no cause but room can hinder its delivery, and this is its plan, whether it runs to its item or not
+  abbrev Delivered : Bool → Type 0
+  Delivered b =
+      let verb = cond b Step.deliver_to_item Step.deliver_to_session in
+      (first (step_causes verb entry.session entry.item table (entries_of mail)) ≡ 0)
+      × (plan (Table.senior table) verb entry.session entry.item table (entries_of mail) ≡ cond b (item_planned entry others table) (session_planned entry others table))
 
   module _ (at : EarliestAt k mail) where
     found : (d : ℕ) → entry.direction ≡ d → earliest d entry.session entry.item (entries_of mail) ≡ k
     found d h = subst (λ (d : ℕ). earliest d entry.session entry.item (entries_of mail) ≡ k) h at
 
-    -- its session and its item belong to one maker
-    one-maker : (verb : ℕ) → crosses (Table.makers table) verb entry.session entry.item ≡ false
-    one-maker verb = delivery-crosses entry.session entry.item table mail entry-judged verb entry.direction (omega (arith, at, inside, MailLaws.length-entries mail))
-
-    pub item-delivered : entry.direction ≡ to_item → Delivered Step.deliver_to_item (item_planned entry others table)
+    delivered-there : (entry.direction ≡ to_item) ⊎ (entry.direction ≡ to_session) → Delivered (eqb entry.direction to_item)
     unfolding plan first delivered session_acts
-    item-delivered h =
-        record {
-          none = rw (one-maker Step.deliver_to_item, found to_item h, not_none) refl;
-          place = found to_item h;
-          planned = rw (found to_item h, MailLaws.get_d_entries mail k inside) refl;
-        }
-
-    pub session-delivered : entry.direction ≡ to_session → Delivered Step.deliver_to_session (session_planned entry others table)
-    unfolding plan first delivered session_acts
-    session-delivered h =
-        record {
-          none = rw (one-maker Step.deliver_to_session, found to_session h, not_none) refl;
-          place = found to_session h;
-          planned = rw (found to_session h, MailLaws.get_d_entries mail k inside) refl;
-        }
-
-    delivered-there : (entry.direction ≡ to_item) ⊎ (entry.direction ≡ to_session) → Delivered (verb_of entry) (directed entry others table)
     delivered-there =
+        let here = MailLaws.get_d_entries mail k inside in
         ⊎_elim
-        (λ h. subst (λ (b : Bool). Delivered (cond b Step.deliver_to_item Step.deliver_to_session) (cond b (item_planned entry others table) (session_planned entry others table))) (sym (eq-eqb entry.direction to_item h)) (item-delivered h))
-        (λ h. subst (λ (b : Bool). Delivered (cond b Step.deliver_to_item Step.deliver_to_session) (cond b (item_planned entry others table) (session_planned entry others table))) (sym (ne_eqb entry.direction to_item (λ q. absurd (omega (arith, h, q))))) (session-delivered h))
+        (λ h. subst Delivered (sym (eq-eqb entry.direction to_item h)) (rw (found to_item h, not_none) refl, rw (found to_item h, here) refl))
+        (λ h. subst Delivered (sym (ne_eqb entry.direction to_item (λ q. absurd (omega (arith, h, q))))) (rw (found to_session h, not_none) refl, rw (found to_session h, here) refl))
 
     -- only room can hinder its delivery
     entry_acts : acted_at k table mail ≡ concluded entry.session table mail (directed entry others table)
     entry_acts =
         let known = delivered-there facts.kinds.direction in
-        acted-concluded (Table.senior table) (verb_of entry) entry.session entry.item table mail known.none
-        ∙ ap (concluded entry.session table mail) known.planned
+        acted-concluded (Table.senior table) (verb_of entry) entry.session entry.item table mail known.0
+        ∙ ap (concluded entry.session table mail) known.1
 
     -- it is refused with 9 and changes nothing, or accepted
     pub refused_or_accepted : (acted_at k table mail ≡ stepped (refused_answer Refusal.mail_full) table mail) ⊎ ((acted_at k table mail).answer.refusal ≡ 0)
     refused_or_accepted = rw (entry_acts) (by-room entry.session table mail (directed entry others table))
+
+-- where no entry is kept before the gap, the one behind it is the oldest in use
+pub oldest_due : (g : Gap) (table mail : List ℕ) → g.from ≡ 0 → GapIn g mail → g.to < count_of mail → Formed table (closed_up g mail) → Due g table mail
+oldest_due g table mail oldest s some f =
+    record { spent = s; some = some; formed = f; earliest = oldest-earliest (closed_up g mail) g.from oldest (some_left g mail s some) }
+
+-- the entry behind the gap
+module _ (g : Gap) (table mail : List ℕ) (due : Due g table mail) where
+  abbrev due_entry : Entry
+  due_entry = entry_at mail g.to
+
+  some_due : g.from < count_of (closed_up g mail)
+  some_due = some_left g mail due.spent due.some
+
+  same-entry : entry_at (closed_up g mail) g.from ≡ due_entry
+  same-entry = entry-left g mail due.spent due.some
+
+  due_judged : Judged due_entry.session due_entry.item table (closed_up g mail)
+  due_judged = rw (sym same-entry) (entry-judged table (closed_up g mail) due.formed g.from some_due)
+
+  due_stands : Stands mail g.to
+  due_stands = record { kept = due.spent.kept; inside = due.some }
+
+  pub has-session : Table.HasSession table due_entry.session
+  has-session = Acting.has-session due_entry.session due_entry.item table (closed_up g mail) due_judged
+
+  pub has-item : Table.HasItem table due_entry.item
+  has-item = Acting.has-item due_entry.session due_entry.item table (closed_up g mail) due_judged
+
+  -- what the item or the session is handed the entry with
+  pub due_for-item : ForItem due_entry.item g.to table mail
+  due_for-item =
+      record { item = has-item; packed = item-packed due_entry.session due_entry.item table (closed_up g mail) due_judged; entry = due_stands }
+
+  pub due_for-session : ForSession due_entry.session g.to table mail
+  due_for-session = record {
+    session = has-session;
+    deliverable = rw (sym same-entry) (deliverable due_entry.session due_entry.item table (closed_up g mail) due_judged g.from some_due);
+    entry = due_stands;
+  }
+
+  abbrev others_due : List Entry
+  others_due = in_use (longer g) mail
+
+  pub due_acts : acted_at g.from table (closed_up g mail) ≡ concluded due_entry.session table (closed_up g mail) (directed due_entry others_due table)
+  due_acts =
+      entry_acts table (closed_up g mail) due.formed g.from some_due due.earliest
+      ∙ ap (λ (e : Entry). concluded e.session table (closed_up g mail) (directed e (remove_at g.from (entries_of (closed_up g mail))) table)) same-entry
+      ∙ ap (λ (l : List Entry). concluded due_entry.session table (closed_up g mail) (directed due_entry l table)) (others-left g mail due.spent due.some)
+
+  -- what the delivery comes to, by whether what is sent fits in with the others
+  module _ (after : List ℕ) (f : Message → Entry) (l : List Message) (event : Event) (n : ℕ) (few : n ≡ length l) where
+    abbrev planned : Plan
+    planned = record { table = after; entries = others_due ++ map f l; sent = length l; event = event }
+
+    abbrev done : Stepped
+    done = concluded due_entry.session table (closed_up g mail) planned
+
+    abbrev told : Bool → Outcome
+    told allowed = outcome_of allowed table (closed_up g mail) done
+
+    same-capacity : capacity_of (closed_up g mail) ≡ capacity_of mail
+    same-capacity = (left g mail due.spent).capacity
+
+    -- it stops where there is no room or it is not allowed
+    told-full : fits (longer g) n mail ≡ false → (allowed : Bool) → outcome Refusal.mail_full table (closed_up g mail) ≡ told allowed
+    told-full e = no_room due_entry.session table (closed_up g mail) planned (rw (same-capacity) (lt-ltb (capacity_of mail) (length (others_due ++ map f l)) (omega (arith, length-sent others_due f l, leb-false (length others_due + n) (capacity_of mail) e, few))))
+
+    room-left : fits (longer g) n mail ≡ true → overfull (capacity_of (closed_up g mail)) (others_due ++ map f l) ≡ false
+    room-left e = rw (same-capacity) (le-ltb (capacity_of mail) (length (others_due ++ map f l)) (omega (arith, length-sent others_due f l, leb-true (length others_due + n) (capacity_of mail) e, few)))
+
+    by_tests : (fit allowed : Bool) → fits (longer g) n mail ≡ fit → fit && allowed ≡ false → outcome (refusal_of fit) table (closed_up g mail) ≡ told allowed
+    by_tests false allowed e h = told-full e allowed
+    by_tests true false e h = only-judged due_entry.session table (closed_up g mail) planned (room-left e)
+    by_tests true true e h = absurd (true≢false h)
+
+    module _ (allowed : Bool) (d : Delivery) (mail' : List ℕ) (a : Admitted g n allowed d mail mail') where
+      pub told_stopped : d.made ≡ false → Delivers g allowed table mail done d table mail'
+      told_stopped e =
+          let s = a.stays e in
+          rw (a.refusal, s.0, s.1) (due.spent, refl, by_tests (fits (longer g) n mail) allowed refl (sym a.made ∙ e))
+
+      both : d.made ≡ true → (fits (longer g) n mail ≡ true) × (allowed ≡ true)
+      both e = and_both (fits (longer g) n mail) allowed (sym a.made ∙ e)
+
+      -- or what is sent is added, and the record written
+      pub told-made : d.made ≡ true → {filled : List ℕ} → filled ≡ mail_bytes (capacity_of mail') (entries_of mail' ++ map f l)
+          → Delivers g allowed table mail done d after filled
+      told-made e q =
+          let p = a.placed e in
+          let b = both e in
+          let count : length (map f l) ≡ n = length-map l f ∙ sym few in (
+            filled-spent (longer g) n d.gap mail mail' p (map f l) count q,
+            p.front,
+            rw (a.refusal, b.0, b.1, filled-left (longer g) n d.gap mail mail' p (map f l) count q)
+                (ap (λ (C : ℕ). outcome 0 after (mail_bytes C (others_due ++ map f l))) (sym same-capacity) ∙ made due_entry.session table (closed_up g mail) planned (room-left b.0)),
+          )

@@ -1,16 +1,14 @@
 -- What the parts of the code ask of each other and leave. No part of the promise.
 -- The entries that a drain has delivered, spent ones, stand in a gap of the mailbox until they go out all at once: before it stand entries that are kept, behind it those that are pending.
-use Rattle.std.specs.Prelude.{ℕ, ◌+◌, ◌-◌, ◌≤◌, ◌<◌, ◌≡◌, Bool, true, false, cond, not, ◌&&◌, List, leb, length, take}
-use Rattle.lists.specs.Lists.{all_of, without_places}
+use Rattle.std.specs.Prelude.{ℕ, ◌+◌, ◌≤◌, ◌<◌, ◌≡◌, Bool, true, false, cond, ◌&&◌, List, leb, length}
+use Rattle.lists.specs.Lists.{without_places}
 use Rattle.mailbox.specs.Entry.{Entry}
-use Rattle.message.specs.Outbox.{room}
-use Rattle.mailbox.specs.Layout.{max_capacity, capacity_of, count_of, entry_at, entries_of, mail_bytes, Kept}
-use Rattle.mailbox.specs.Shares.{has_entry, of_maker}
-use Rattle.table.specs.Layout.{sized, makers}
+use Rattle.mailbox.specs.Layout.{capacity_of, count_of, entries_of, mail_bytes, Kept}
 use Rattle.refusal.specs.Refusal.{mail_full}
 use Rattle.step.specs.Step.{Stepped, Formed}
 use Rattle.drain.specs.declared.Gap.{Gap}
 use Rattle.drain.specs.declared.Delivery.{Delivery}
+use Rattle.drain.specs.Oldest.{EarliestAt}
 
 -- the entries in use, all but the spent ones
 abbrev pub in_use : Gap → List ℕ → List Entry
@@ -26,62 +24,37 @@ pub record GapIn (g : Gap) (mail : List ℕ) : Type 0 where
   pub order : g.from ≤ g.to
   pub inside : g.to ≤ count_of mail
 
--- how many entries of maker k are in use
-abbrev pub own_in_use : ℕ → Gap → List ℕ → List ℕ → ℕ
-own_in_use k g table mail = length (of_maker (makers table) k (in_use g mail))
-
--- a drain for maker k stands here: none of the entries before the gap is k's
-pub record Draining (k : ℕ) (g : Gap) (table mail : List ℕ) : Type 0 where
+-- and the entry behind it is there to deliver
+pub record Due (g : Gap) (table mail : List ℕ) : Type 0 where
   pub spent : GapIn g mail
-  pub formed : Formed table (closed_up g mail)
-  pub passed : all_of (λ e. not (has_entry (makers table) k e)) (take g.from (entries_of mail)) ≡ true
-
--- and the entry behind the gap is there to deliver, one of maker k's
-pub record Due (k : ℕ) (g : Gap) (table mail : List ℕ) : Type 0 where
-  pub draining : Draining k g table mail
   pub some : g.to < count_of mail
-  pub of_maker : has_entry (makers table) k (entry_at mail g.to) ≡ true
-
--- the gap once an entry was moved over it
-abbrev pub shifted : Gap → Gap
-shifted g = record { from = g.from + 1; to = g.to + 1 }
-
--- gap g was there before and h is after; the entries in use are the same
-pub record Moved (g h : Gap) (before after : List ℕ) : Type 0 where
-  pub capacity : capacity_of after ≡ capacity_of before
-  pub entries : in_use h after ≡ in_use g before
+  pub formed : Formed table (closed_up g mail)
+  pub earliest : EarliestAt g.from (closed_up g mail)
 
 -- the gap once that entry is spent too
 abbrev pub longer : Gap → Gap
 longer g = record { from = g.from; to = g.to + 1 }
 
--- so it is, and n places are free behind them
+-- gap g was there before and h is after; the entries in use are the same, and n places are free behind them
 pub record Placed (g : Gap) (n : ℕ) (h : Gap) (before after : List ℕ) : Type 0 where
   pub spent : GapIn h after
   pub front : h.from ≡ g.from
-  pub moved : Moved g h before after
+  pub capacity : capacity_of after ≡ capacity_of before
+  pub entries : in_use h after ≡ in_use g before
   pub free : count_of after + n ≤ capacity_of after
 
--- 9 where there is no room, else 0
+-- n entries more have room beside those in use: the test of `overfull`, by numbers
+abbrev pub fits : Gap → ℕ → List ℕ → Bool
+fits g n mail = leb (length (in_use g mail) + n) (capacity_of mail)
+
+-- 9 where they have none, else 0
 abbrev pub refusal_of : Bool → ℕ
 refusal_of fit = cond fit 0 mail_full
 
--- the delivery of the entry behind gap g, one of own of maker k, sends n messages: where they are within the share, the mailbox has places for them
-pub record Sending (k own : ℕ) (g : Gap) (n : ℕ) (table mail : List ℕ) : Type 0 where
-  pub spent : GapIn (longer g) mail
-  pub sized : sized table ≡ true
-  pub low : 1 ≤ k
-  pub high : k ≤ 2
-  pub some : 1 ≤ own
-  pub fits : own ≤ max_capacity
-  pub few : n ≤ room
-  pub places : leb (own - 1 + n) ((makers table).share k) ≡ true → length (in_use (longer g) mail) + n ≤ capacity_of mail
-
--- it is made if they are within the share and it is allowed
-pub record Admitted (own share : ℕ) (g : Gap) (n : ℕ) (allowed : Bool) (d : Delivery) (before after : List ℕ) : Type 0 where
-  pub refusal : d.refusal ≡ refusal_of (leb (own - 1 + n) share)
-  pub made : d.made ≡ leb (own - 1 + n) share && allowed
-  pub counted : d.own ≡ cond d.made (own - 1 + n) own
+-- the delivery of the entry behind gap g, which sends n messages, is made if they have room and it is allowed
+pub record Admitted (g : Gap) (n : ℕ) (allowed : Bool) (d : Delivery) (before after : List ℕ) : Type 0 where
+  pub refusal : d.refusal ≡ refusal_of (fits (longer g) n before)
+  pub made : d.made ≡ fits (longer g) n before && allowed
   pub stays : d.made ≡ false → (after ≡ before) × (d.gap ≡ g)
   pub placed : d.made ≡ true → Placed (longer g) n d.gap before after
 
@@ -98,8 +71,7 @@ outcome n table mail = record { refusal = n; table = table; mail = mail }
 abbrev pub outcome_of : Bool → List ℕ → List ℕ → Stepped → Outcome
 outcome_of allowed table mail r = outcome r.answer.refusal (cond allowed r.table table) (cond allowed r.mail mail)
 
--- a delivery for maker k leaves what step r leaves or, where it is only judged, what was there
-abbrev pub Delivers : ℕ → Gap → Bool → List ℕ → List ℕ → Stepped → Delivery → List ℕ → List ℕ → Type 0
-Delivers k g allowed table mail r d table' mail' =
-    Draining k d.gap table' mail' × (d.own ≡ own_in_use k d.gap table' mail')
-    × (outcome d.refusal table' (closed_up d.gap mail') ≡ outcome_of allowed table (closed_up g mail) r)
+-- a delivery leaves a gap that begins where it did, and without it what step r leaves or, where it is only judged, what was there
+abbrev pub Delivers : Gap → Bool → List ℕ → List ℕ → Stepped → Delivery → List ℕ → List ℕ → Type 0
+Delivers g allowed table mail r d table' mail' =
+    GapIn d.gap mail' × (d.gap.from ≡ g.from) × (outcome d.refusal table' (closed_up d.gap mail') ≡ outcome_of allowed table (closed_up g mail) r)

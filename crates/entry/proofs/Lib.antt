@@ -1,4 +1,3 @@
 pub mod EntryLaws
 pub mod Cells
 pub mod Cuts
-pub mod WithinLaws

@@ -56,10 +56,6 @@ well_formed S M e =
     && cond (Kind.carries e.kind) (between 1 S e.a && between 1 S e.b) (eqb e.a 0 && eqb e.b 0)
     && (not (eqb e.kind Kind.abort) || eqb e.a e.session)
 
--- it names only sessions and items that pass two tests: its session, its item, and the two sessions that it carries
-unfoldable pub within : (ℕ → Bool) → (ℕ → Bool) → Entry → Bool
-within own ownItem e = own e.session && ownItem e.item && (not (Kind.carries e.kind) || own e.a && own e.b)
-
 abbrev pub on_route : ℕ → ℕ → ℕ → Entry → Bool
 on_route direction t x e = eqb e.direction direction && eqb e.session t && eqb e.item x
 

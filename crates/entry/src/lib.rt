@@ -3,12 +3,10 @@
 
 ghost use Rattle.std.specs.Prelude.{◌≡◌, true, false, [], ◌∷◌, ◌+◌, ◌*◌, ◌≤◌, ◌<◌, length, drop};
 ghost use Rattle.buffer.specs.Bytes.{slice, splice, padded};
-ghost use Rattle.lists.specs.Lists.{every_below, filter, tabulate};
-ghost use Rattle.makers.specs.Masks.{row_of};
+ghost use Rattle.lists.specs.Lists.{every_below};
 ghost use Rattle.entry.specs.Entry as Entry;
 ghost use Rattle.entry.specs.Entry.{width, entry_from};
 ghost use Rattle.entry.specs.Cells.{block_entries, block_cells, agree, cell, cell_at, thrice, misses, differs, differ_cell};
-ghost use Rattle.entry.specs.Within.{of_second, one_maker, joined};
 
 use message::Message;
 
@@ -273,56 +271,4 @@ pub fn cut(m: &mut [u8], from: usize, by: usize, len: usize)
     let end = len - by;
     buffer::move_down(m, from, by, end);
     buffer::put_zeros(m, from + end, by);
-}
-
-// Entries by maker: whether each lies within one, and how many are maker 2's.
-#[derive(Clone, Copy)]
-pub struct ByMaker {
-    pub within: bool,
-    pub second: usize,
-}
-
-// The makers of an entry's numbers, joined.
-fn joined(
-    m: &[u8],
-    at: usize,
-    to: usize,
-    makers: &[u8; makers::BYTES],
-    owners: &[u8; makers::BYTES],
-) -> u8
-    requires { (at + width ≤ length m.now) × (to + width ≤ length m.now) }
-    ensures { result ≡ joined makers.now owners.now (entry_from m.now at to) }
-{
-    makers[m[at + 1] as usize]
-        | owners[m[at + 2] as usize]
-        | makers[m[to + 1] as usize]
-        | makers[m[to + 2] as usize]
-}
-
-// Of the n entries whose routes stand from `at` on and whose bodies stand from `to` on; `sessions` and `items` have those of maker 2, and the rows say the same. Joined, 3 is both makers.
-pub fn within(
-    m: &[u8],
-    at: usize,
-    to: usize,
-    n: usize,
-    sessions: u64,
-    items: u64,
-    makers: &[u8; makers::BYTES],
-    owners: &[u8; makers::BYTES],
-) -> ByMaker
-    requires { (at + width * n ≤ length m.now) × (to + width * n ≤ length m.now) × (makers.now ≡ row_of sessions) × (owners.now ≡ row_of items) }
-    ensures { (result.within ≡ every_below n (λ k. one_maker sessions items (entry_from m.now (at + width * k) (to + width * k))))
-        × (result.second ≡ length (filter (of_second sessions) (tabulate n (λ k. entry_from m.now (at + width * k) (to + width * k))))) }
-{
-    let mut within = true;
-    let mut second: usize = 0;
-    let mut i: usize = 0;
-    while i < n {
-        let p = WIDTH * i;
-        let own = makers[m[at + p + 1] as usize];
-        within = within & (joined(m, at + p, to + p, makers, owners) != 3);
-        second = second + (own / 2) as usize;
-        i += 1;
-    }
-    ByMaker { within, second }
 }

@@ -6,8 +6,6 @@ use lib.ListN.{length}
 use Rattle.buffer.specs.Bytes.{splice}
 use Rattle.lists.specs.Lists.{every, lowest, member, distinct, all_of, filter, find_index, remove_at, tabulate, append_up_to}
 use Rattle.bitset.specs.Bitset.{has, insert, remove, bits_from}
-use Rattle.makers.specs.Makers as Makers
-use Rattle.makers.specs.Makers.{owner, share_of, alone}
 use Rattle.session.specs.Seniority
 use Rattle.session.specs.Seniority.{rank, senior, plain}
 use Rattle.session.specs.Record as SessionRecord
@@ -18,7 +16,6 @@ use Rattle.item.specs.Record as ItemRecord
 use Rattle.item.specs.Rules as Item
 use Rattle.mailbox.specs.Entry
 use Rattle.mailbox.specs.Layout as Mail
-use Rattle.mailbox.specs.Shares as Shares
 use Rattle.table.specs.Layout as Table
 use Rattle.waits.specs.Waits
 use Rattle.waits.specs.OnTable.{locks}
@@ -29,13 +26,10 @@ use Rattle.lockmgr.specs.Run
 use Rattle.lockmgr.specs.Run.{Ran, Tally}
 use Rattle.example.specs.Marked.{calls, printed, shown, last_line, capacity, begun, Example}
 
-abbrev given : Table.Config
-given = Table.config 2 2 (plain 2) (alone 2 2 capacity)
-
 -- start accepts buffers of the right lengths, whatever they hold
 accepted : (table mail : List ℕ) → length table ≡ Table.size 2 2 → length mail ≡ Mail.size capacity
-    → begun table mail ≡ record { refusal = 0; table = Table.started given; mail = Mail.mail_bytes capacity [] }
-unfolding Calls.start Calls.start_refusal Refusal.first Makers.well_formed Seniority.well_formed plain all_of distinct member tabulate
+    → begun table mail ≡ record { refusal = 0; table = Table.started (Table.config 2 2 (plain 2)); mail = Mail.mail_bytes capacity [] }
+unfolding Calls.start Calls.start_refusal Refusal.first Seniority.well_formed plain all_of distinct member tabulate
 accepted table mail p q = rw (p, q) refl
 
 -- a list of steps, where each is computed once
@@ -53,11 +47,11 @@ run_in_turn table mail y (c ∷ l) =
     ap (λ (rest : Ran). record { answers = r.answer ∷ rest.answers; table = rest.table; mail = rest.mail; tally = rest.tally }) (run_in_turn r.table r.mail (Run.counted c.session table r y) l)
 
 -- from there on every answer and the last line are as printed
-computed : shown (in_turn (Table.started given) (Mail.mail_bytes capacity []) Run.zeros calls) ≡ record { answers = printed; left = 0; tally = last_line }
-unfolding splice every lowest member distinct all_of filter find_index remove_at tabulate append_up_to has insert remove bits_from Makers.well_formed owner share_of rank senior Seniority.well_formed plain is_most_senior most_senior next_holder SessionRecord.well_formed SessionRecord.within Session.probes_from Session.to_held Session.requested Session.released Session.granted Session.resent Session.aborted Session.cleaned Session.cleaned_waiting Session.cleaned_victim Session.rolled_back Session.junior Session.kept_probe Session.probed Session.received ItemRecord.well_formed ItemRecord.within Item.resends Item.without Item.on_withdraw Item.granted Item.probes Item.queued Item.on_request Item.on_probe Item.on_clean Item.on_rebroadcast Item.handed_over Item.vacated Item.on_release Item.received Entry.well_formed Entry.within Shares.owned Mail.sized Mail.entry_at Mail.entries_of Mail.well_formed Mail.routes Mail.bodies Mail.mail_bytes Table.sized Table.session Table.with_session Table.item Table.with_item Table.ranks Table.owners Table.well_formed Table.within Table.owned Table.started Waits.queued_at Waits.waits_at Waits.waits_for Waits.reached Waits.cycle_length locks Refusal.first Step.delivered Step.session_acts Step.plan Calls.judged Step.hindered Step.acted Calls.step_by Calls.step in_turn
+computed : shown (in_turn (Table.started (Table.config 2 2 (plain 2))) (Mail.mail_bytes capacity []) Run.zeros calls) ≡ record { answers = printed; left = 0; tally = last_line }
+unfolding splice every lowest member distinct all_of filter find_index remove_at tabulate append_up_to has insert remove bits_from rank senior Seniority.well_formed plain is_most_senior most_senior next_holder SessionRecord.well_formed Session.probes_from Session.to_held Session.requested Session.released Session.granted Session.resent Session.aborted Session.cleaned Session.cleaned_waiting Session.cleaned_victim Session.rolled_back Session.junior Session.kept_probe Session.probed Session.received ItemRecord.well_formed Item.resends Item.without Item.on_withdraw Item.granted Item.probes Item.queued Item.on_request Item.on_probe Item.on_clean Item.on_rebroadcast Item.handed_over Item.vacated Item.on_release Item.received Entry.well_formed Mail.sized Mail.entry_at Mail.entries_of Mail.well_formed Mail.routes Mail.bodies Mail.mail_bytes Table.sized Table.session Table.with_session Table.item Table.with_item Table.ranks Table.well_formed Table.started Waits.queued_at Waits.waits_at Waits.waits_for Waits.reached Waits.cycle_length locks Refusal.first Step.delivered Step.session_acts Step.plan Calls.judged Step.hindered Step.acted Calls.step_by Calls.step in_turn
 computed = refl
 
 pub theorem : Example
 theorem table mail p q =
     let s = accepted table mail p q in
-    (rw (s) refl, rw (s, run_in_turn (Table.started given) (Mail.mail_bytes capacity []) Run.zeros calls) computed)
+    (rw (s) refl, rw (s, run_in_turn (Table.started (Table.config 2 2 (plain 2))) (Mail.mail_bytes capacity []) Run.zeros calls) computed)

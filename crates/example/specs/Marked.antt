@@ -1,7 +1,6 @@
 -- The printed list of 01: from the start with S = M = 2 and the replay's C, the 22 calls give the printed answers and the printed last line.
 use Rattle.std.specs.Prelude.{◌≡◌, List, [], ◌∷◌, ℕ, length}
 use Rattle.session.specs.Seniority.{plain}
-use Rattle.makers.specs.Makers.{alone}
 use Rattle.mailbox.specs.Layout as Mail
 use Rattle.table.specs.Layout as Table
 use Rattle.step.specs.declared.Answer.{Answer}
@@ -47,7 +46,7 @@ abbrev pub capacity : ℕ
 capacity = 4096
 
 abbrev pub begun : List ℕ → List ℕ → Started
-begun table mail = Calls.start (Calls.config 2 2 capacity (plain 2) (alone 2 2 capacity)) table mail
+begun table mail = Calls.start (Calls.config 2 2 capacity (plain 2)) table mail
 
 -- the example: start accepts, every answer is as printed, and so is the last line
 abbrev pub Example : Type 0

@@ -70,7 +70,7 @@ within-at s n l e h k f =
     rw (← get_or-take n l k 0 f) (leb-true (get_or (take n l) k 0) s (all_get_d (λ b. leb b s) (take n l) k 0 (and_both (all_of (λ b. leb b s) (take n l)) (all_of (λ b. eqb b 0) (drop n l)) e).0 (rw (length-take-le n l h) f)))
 
 -- the mask has h and the sessions of a list
-unfoldable pub Seen : ℕ → List ℕ → ℕ → Type 0
+pub Seen : ℕ → List ℕ → ℕ → Type 0
 Seen h l mask = (k : ℕ) → 1 ≤ k → has k mask ≡ eqb h k || member k l
 
 -- no session is zero, none stands there twice, and none is h
@@ -109,11 +109,11 @@ module _ (h : ℕ) (l : List ℕ) (v : ℕ) where
     unfolding Seen
     not_seen = rw (s v p) (neither (eqb h v) (member v l))
 
-    pub line-seen : has v mask ≡ true → in_line h (l ++ (v ∷ [])) ≡ false
-    line-seen e = line-more ∙ rw (← not_seen, e, and-false (leb 1 v)) (and-false (in_line h l))
+    pub line_seen : has v mask ≡ true → in_line h (l ++ (v ∷ [])) ≡ false
+    line_seen e = line-more ∙ rw (← not_seen, e, and-false (leb 1 v)) (and-false (in_line h l))
 
-    pub line-new : has v mask ≡ false → in_line h l ≡ true → in_line h (l ++ (v ∷ [])) ≡ true
-    line-new e f = line-more ∙ rw (f, ← not_seen, e, le-leb 1 v p) refl
+    pub line_new : has v mask ≡ false → in_line h l ≡ true → in_line h (l ++ (v ∷ [])) ≡ true
+    line_new e f = line-more ∙ rw (f, ← not_seen, e, le-leb 1 v p) refl
 
     pub seen_more : Seen h (l ++ (v ∷ [])) (insert v mask)
     unfolding Seen

@@ -1,2 +1,1 @@
 mod FormLaws
-pub mod WithinLaws

@@ -226,9 +226,9 @@ module _ (i : Item) (h : ℕ) (l : List ℕ) (e : i ≡ packed (lock h l)) where
       rw (e) (record { fits = omega arith; room = λ _. f; zeros = sym (ap packed (unpacked-packed (lock h l))) })
 
 -- room for resends is left behind the probes
-pub probes-fit : (senior : ℕ → ℕ → Bool) (n : ℕ) (q : List ℕ) (l : List Message) (o : Outbox) → length l ≤ 1 → length q ≤ 64
+pub probes_fit : (senior : ℕ → ℕ → Bool) (n : ℕ) (q : List ℕ) (l : List Message) (o : Outbox) → length l ≤ 1 → length q ≤ 64
     → o ≡ outbox_of (l ++ probes senior n q) → o.n ≤ 65
-probes-fit senior n q l o f g e =
+probes_fit senior n q l o f g e =
     omega (arith, ap (λ (b : Outbox). b.n) e, length-append l (probes senior n q), probes-length senior n q)
 
 pub vacated-none : (senior : ℕ → ℕ → Bool) (next : List ℕ → ℕ) (q : List ℕ) → length q ≡ 0 → vacated senior next q ≡ after free [] Nothing

@@ -16,9 +16,9 @@ use Rattle.item.specs.Rules.{probes, resends, handed_over, vacated}
 use Rattle.item.proofs.Laws.{vacated-more}
 
 -- nobody left in the queue causes a probe to a session that passes `is_most_senior`
-pub no-probes : (senior : ℕ → ℕ → Bool) (q : List ℕ) (n k : ℕ) → is_most_senior senior q n ≡ true → probes senior n (remove_at k q) ≡ []
+pub no_probes : (senior : ℕ → ℕ → Bool) (q : List ℕ) (n k : ℕ) → is_most_senior senior q n ≡ true → probes senior n (remove_at k q) ≡ []
 unfolding is_most_senior probes
-no-probes senior q n k e = rw (filter_none (λ r. senior r n) (remove_at k q) (all-remove_at (λ s. not (senior s n)) k q e)) refl
+no_probes senior q n k e = rw (filter_none (λ r. senior r n) (remove_at k q) (all-remove_at (λ s. not (senior s n)) k q e)) refl
 
 module _ {senior : ℕ → ℕ → Bool} (order : StrictWeak senior) (q : List ℕ) (h : 0 < length q) where
   abbrev next : ℕ
@@ -40,7 +40,7 @@ module _ {senior : ℕ → ℕ → Bool} (order : StrictWeak senior) (q : List �
   -- a release sends it the grant and no probe; then the resends to those left
   pub next-sends : (vacated senior (next_holder senior) q).sends ≡ plain (get_or q next 0) Kind.grant ∷ resends (remove_at next q)
   unfolding handed_over
-  next-sends = rw (vacated-more senior (next_holder senior) q h, no-probes senior q (get_or q next 0) next next-passes) refl
+  next-sends = rw (vacated-more senior (next_holder senior) q h, no_probes senior q (get_or q next 0) next next-passes) refl
 
 -- where no two sessions are level, no other session of the queue is unsurpassed
 module _ {senior : ℕ → ℕ → Bool} (order : StrictTotal senior) (q : List ℕ) (h : 0 < length q) where

@@ -1,5 +1,5 @@
 -- An item record: its bytes in the table, and when it is well-formed ("in form"). The wait queue is 01's line. RULES is docs/RULES.md.
-use Rattle.std.specs.Prelude.{ℕ, ◌+◌, ◌≤◌, ◌<◌, ◌≡◌, Bool, not, ◌&&◌, ◌||◌, List, [], ◌∷◌, eqb, leb, length, get_or, take, drop}
+use Rattle.std.specs.Prelude.{ℕ, ◌+◌, ◌≤◌, ◌<◌, ◌≡◌, Bool, not, ◌&&◌, List, [], ◌∷◌, eqb, leb, length, get_or, take, drop}
 use Rattle.buffer.specs.Bytes.{slice, splice, padded}
 use Rattle.lists.specs.Lists.{between, member, distinct, all_of}
 use Rattle.message.specs.Limits.{max_sessions}
@@ -60,10 +60,6 @@ well_formed S i =
     && distinct (unpacked i).queue
     && not (member i.holder (unpacked i).queue)
     && all_of (λ b. eqb b 0) (drop i.waiting i.queue)
-
--- it names only sessions that pass a test: its holder and its queue
-unfoldable pub within : (ℕ → Bool) → Lock → Bool
-within own k = (eqb k.holder 0 || own k.holder) && all_of own k.queue
 
 -- what the rules ask of a record: its queue fits, with zeros behind it, and room for one more where a session holds the item
 pub record Packed (i : Item) : Type 0 where

@@ -1,5 +1,5 @@
 -- Laws of the definitions on lists.
-use mathlib.Core.Path.{◌≡◌, refl, sym, ap, ap₂, ◌∙◌}
+use mathlib.Core.Path.{◌≡◌, refl, sym, ap, ◌∙◌}
 use mathlib.Core.Bool.{Bool, true, false, cond, not, ◌&&◌, ◌||◌, and-true, and-false, and_assoc, or_assoc, or-false, or-true, true≢false}
 use mathlib.Core.List.{List, [], ◌∷◌, ◌++◌, map, append_assoc, append-nil}
 use Prim.Native.Nat.{ℕ, zero, suc, ◌+◌, ◌-◌, ◌*◌, ◌≤◌, ◌<◌, zero-le}
@@ -32,10 +32,6 @@ module _ {A : Type 0} where
   cond-length : (t : Bool) (a : A) (k : List A) (n : ℕ) → length k ≤ n → length (cond t (a ∷ k) k) ≤ suc n
   cond-length true a k n h = omega arith
   cond-length false a k n h = omega arith
-
-  one_fewer : (t : Bool) (a : A) (k l : List A) → length k + 1 ≡ length l → length (cond t (a ∷ k) k) + 1 ≡ length (cond t (a ∷ l) l)
-  one_fewer true a k l h = omega arith
-  one_fewer false a k l h = h
 
   pub filter-length : (p : A → Bool) (l : List A) → length (filter p l) ≤ length l
   unfolding filter
@@ -80,27 +76,6 @@ module _ {A : Type 0} where
   find_index-none p none [] = refl
   find_index-none p none (a ∷ l) = rw (none a) (ap suc (find_index-none p none l))
 
-  before-step : (p : A → Bool) (a : A) (l : List A) (k : ℕ) (b : Bool) → p a ≡ b → all_of (λ c. not (p c)) (take k l) ≡ true → all_of (λ c. not (p c)) (take (cond b 0 (suc k)) (a ∷ l)) ≡ true
-  unfolding all_of
-  before-step p a l k true e h = refl
-  before-step p a l k false e h = rw (e) h
-
-  -- those before the place found do not pass
-  pub find_index-before : (p : A → Bool) (l : List A) → all_of (λ c. not (p c)) (take (find_index p l) l) ≡ true
-  unfolding find_index all_of
-  find_index-before p [] = refl
-  find_index-before p (a ∷ l) = before-step p a l (find_index p l) (p a) refl (find_index-before p l)
-
-  some-step : (t : Bool) (a : A) (k : List A) (i n : ℕ) → (1 ≤ length k → i < n) → 1 ≤ length (cond t (a ∷ k) k) → cond t 0 (suc i) < suc n
-  some-step true a k i n f h = omega arith
-  some-step false a k i n f h = omega (arith, f h)
-
-  -- where one is kept, one is found
-  pub find_index-some : (p : A → Bool) (l : List A) → 1 ≤ length (filter p l) → find_index p l < length l
-  unfolding find_index filter
-  find_index-some p [] h = h
-  find_index-some p (a ∷ l) h = some-step (p a) a (filter p l) (find_index p l) (length l) (find_index-some p l) h
-
   first_step : (p : A → Bool) (a : A) (l : List A) (k : ℕ) (b : Bool) → p a ≡ b → filter p (remove_at k l) ≡ drop 1 (filter p l)
       → filter p (remove_at (cond b 0 (suc k)) (a ∷ l)) ≡ drop 1 (cond b (a ∷ filter p l) (filter p l))
   unfolding remove_at filter
@@ -132,52 +107,6 @@ module _ {A : Type 0} where
   filter_none p [] e = refl
   filter_none p (a ∷ l) e =
       let h = and_both (not (p a)) (all_of (λ a. not (p a)) l) e in rw (not-true (p a) h.0) (filter_none p l h.1)
-
-  -- two tests that agree on every element
-  module _ (p q r : A → Bool) (same : (a : A) → r a ≡ true → p a ≡ q a) where
-    pub all_same : (l : List A) → all_of r l ≡ true → all_of p l ≡ all_of q l
-    unfolding all_of
-    all_same [] e = refl
-    all_same (a ∷ l) e = let h = and_both (r a) (all_of r l) e in rw (same a h.0, all_same l h.1) refl
-
-    pub filter_same : (l : List A) → all_of r l ≡ true → filter p l ≡ filter q l
-    unfolding filter all_of
-    filter_same [] e = refl
-    filter_same (a ∷ l) e = let h = and_both (r a) (all_of r l) e in rw (same a h.0, filter_same l h.1) refl
-
-  -- where every element passes all are kept
-  pub filter-all : (p : A → Bool) (l : List A) → all_of p l ≡ true → filter p l ≡ l
-  unfolding filter all_of
-  filter-all p [] e = refl
-  filter-all p (a ∷ l) e = let h = and_both (p a) (all_of p l) e in rw (h.0, filter-all p l h.1) refl
-
-  -- where an element is taken out, those that pass are one fewer if it passes
-  pub filter-without : (p : A → Bool) (k : ℕ) (l : List A) (d : A) → k < length l → p (get_or l k d) ≡ true → length (filter p (remove_at k l)) + 1 ≡ length (filter p l)
-  unfolding filter remove_at
-  filter-without p k [] d h e = absurd (omega arith)
-  filter-without p zero (a ∷ l) d h e = rw (e) (omega arith)
-  filter-without p (suc k) (a ∷ l) d h e = one_fewer (p a) a (filter p (remove_at k l)) (filter p l) (filter-without p k l d (omega arith) e)
-
-  -- the first that is kept: it passes, and those before it do not
-  pub filter-head : (p : A → Bool) (n : ℕ) (l : List A) (d : A) → n < length l → p (get_or l n d) ≡ true → all_of (λ a. not (p a)) (take n l) ≡ true → get_or (filter p l) 0 d ≡ get_or l n d
-  unfolding filter all_of
-  filter-head p n [] d h e f = absurd (omega arith)
-  filter-head p zero (a ∷ l) d h e f = rw (e) refl
-  filter-head p (suc n) (a ∷ l) d h e f =
-      let g = and_both (not (p a)) (all_of (λ a. not (p a)) (take n l)) f in rw (not-true (p a) g.0) (filter-head p n l d (omega arith) e g.1)
-
-  -- two parts that make up the whole
-  pub parts-length : (p q : A → Bool) (l : List A) → all_of (λ a. cond (p a) (not (q a)) (q a)) l ≡ true → length l ≡ length (filter p l) + length (filter q l)
-  unfolding filter all_of
-  parts-length p q [] e = refl
-  parts-length p q (a ∷ l) e = let h = and_both (cond (p a) (not (q a)) (q a)) (all_of (λ a. cond (p a) (not (q a)) (q a)) l) e in go (p a) (q a) h.0 (parts-length p q l h.1)
-    where
-      go : (s r : Bool) → cond s (not r) r ≡ true → length l ≡ length (filter p l) + length (filter q l)
-          → suc (length l) ≡ length (cond s (a ∷ filter p l) (filter p l)) + length (cond r (a ∷ filter q l) (filter q l))
-      go true true e h = absurd (true≢false (sym e))
-      go true false e h = omega arith
-      go false true e h = omega arith
-      go false false e h = absurd (true≢false (sym e))
 
   -- without an element the list is what stands before it and what stands behind it
   pub remove_at-without : (k : ℕ) (l : List A) → k < length l → remove_at k l ≡ without_places k (k + 1) l
@@ -298,12 +227,13 @@ append_up_to-replicate zero k a = rw (mul-zero) refl
 append_up_to-replicate (suc n) k a =
     rw (append_up_to-replicate n k a, replicate-append-replicate (k * n) k a, mul-suc k n) refl
 
-pub tabulate-same : {A : Type 0} (n : ℕ) (f g : ℕ → A) → ((k : ℕ) → k < n → f k ≡ g k) → tabulate n f ≡ tabulate n g
-unfolding tabulate
-tabulate-same zero f g h = refl
-tabulate-same (suc n) f g h = ap₂ ◌∷◌ (h 0 (omega arith)) (tabulate-same n (λ k. f (suc k)) (λ k. g (suc k)) (λ k l. h (suc k) (omega arith)))
-
 module _ (n : ℕ) (f g : ℕ → ℕ) where
+  pub tabulate-same : ((k : ℕ) → k < n → f k ≡ g k) → tabulate n f ≡ tabulate n g
+  tabulate-same h =
+      let a = length-tabulate n f in
+      let b = length-tabulate n g in
+      ext_get_or 0 (tabulate n f) (tabulate n g) (a ∙ sym b) (λ i l. rw (get_d_tabulate n f i 0 (omega arith), get_d_tabulate n g i 0 (omega arith)) (h i (omega arith)))
+
   -- one element is replaced
   pub set-tabulate : (j v : ℕ) → j < n → g j ≡ v → ((k : ℕ) → k < n → (k ≡ j → ⊥) → f k ≡ g k) → set (tabulate n f) j v ≡ tabulate n g
   set-tabulate j v l e h =
@@ -347,17 +277,22 @@ module _ {A : Type 0} (p : A → Bool) where
   all_get_d (a ∷ l) zero d e h = (and_both (p a) (all_of p l) e).0
   all_get_d (a ∷ l) (suc k) d e h = all_get_d l k d (and_both (p a) (all_of p l) e).1 (omega arith)
 
-  -- at any place, where what stands for no element passes too
-  pub all_get_d_or : (l : List A) (k : ℕ) (d : A) → all_of p l ≡ true → p d ≡ true → p (get_or l k d) ≡ true
-  unfolding all_of
-  all_get_d_or [] k d e h = h
-  all_get_d_or (a ∷ l) zero d e h = (and_both (p a) (all_of p l) e).0
-  all_get_d_or (a ∷ l) (suc k) d e h = all_get_d_or l k d (and_both (p a) (all_of p l) e).1 h
-
   pub all_intro : (l : List A) (d : A) → ((k : ℕ) → k < length l → p (get_or l k d) ≡ true) → all_of p l ≡ true
   unfolding all_of
   all_intro [] d f = refl
   all_intro (a ∷ l) d f = and_intro (f 0 (omega arith)) (all_intro l d (λ k h. f (suc k) (omega arith)))
+
+  pub all_take : (n : ℕ) (l : List A) → all_of p l ≡ true → all_of p (take n l) ≡ true
+  unfolding all_of
+  all_take zero l e = refl
+  all_take (suc n) [] e = refl
+  all_take (suc n) (a ∷ l) e = let h = and_both (p a) (all_of p l) e in and_intro h.0 (all_take n l h.1)
+
+  pub all_drop : (n : ℕ) (l : List A) → all_of p l ≡ true → all_of p (drop n l) ≡ true
+  unfolding all_of
+  all_drop zero l e = e
+  all_drop (suc n) [] e = refl
+  all_drop (suc n) (a ∷ l) e = all_drop n l (and_both (p a) (all_of p l) e).1
 
   pub all_replicate : (n : ℕ) (a : A) → p a ≡ true → all_of p (replicate n a) ≡ true
   unfolding all_of
@@ -382,22 +317,28 @@ module _ {A : Type 0} (p : A → Bool) where
   all_weaken q f [] e = refl
   all_weaken q f (a ∷ l) e = let h = and_both (p a) (all_of p l) e in and_intro (f a h.0) (all_weaken q f l h.1)
 
+  pub all_set : (l : List A) (k : ℕ) (v : A) → all_of p l ≡ true → p v ≡ true → all_of p (set l k v) ≡ true
+  unfolding all_of
+  all_set [] k v e f = refl
+  all_set (a ∷ l) zero v e f = and_intro f (and_both (p a) (all_of p l) e).1
+  all_set (a ∷ l) (suc k) v e f = let h = and_both (p a) (all_of p l) e in and_intro h.0 (all_set l k v h.1 f)
+
   pub all-remove_at : (k : ℕ) (l : List A) → all_of p l ≡ true → all_of p (remove_at k l) ≡ true
   unfolding all_of remove_at
   all-remove_at k [] e = refl
   all-remove_at zero (a ∷ l) e = (and_both (p a) (all_of p l) e).1
   all-remove_at (suc k) (a ∷ l) e = let h = and_both (p a) (all_of p l) e in and_intro h.0 (all-remove_at k l h.1)
 
-and-swap : (a b c d : Bool) → (a && b) && (c && d) ≡ (a && c) && (b && d)
-and-swap true true c d = refl
-and-swap true false c d = sym (and-false c)
-and-swap false b c d = refl
+and_swap : (a b c d : Bool) → (a && b) && (c && d) ≡ (a && c) && (b && d)
+and_swap true true c d = refl
+and_swap true false c d = sym (and-false c)
+and_swap false b c d = refl
 
 -- two tests on each element
 pub all_both : {A : Type 0} (p q : A → Bool) (l : List A) → all_of (λ a. p a && q a) l ≡ all_of p l && all_of q l
 unfolding all_of
 all_both p q [] = refl
-all_both p q (a ∷ l) = ap (λ (b : Bool). (p a && q a) && b) (all_both p q l) ∙ and-swap (p a) (q a) (all_of p l) (all_of q l)
+all_both p q (a ∷ l) = ap (λ (b : Bool). (p a && q a) && b) (all_both p q l) ∙ and_swap (p a) (q a) (all_of p l) (all_of q l)
 
 -- zeros, and only they, pass the test for zero
 pub all-zeros : (n : ℕ) → all_of (λ b. eqb b 0) (replicate n 0) ≡ true
@@ -410,7 +351,10 @@ zeros-all (b ∷ l) e =
     let h = and_both (eqb b 0) (all_of (λ b. eqb b 0) l) e in rw (eqb-true b 0 h.0, ← zeros-all l h.1) refl
 
 pub zeros_get_d : (l : List ℕ) (n : ℕ) → all_of (λ b. eqb b 0) l ≡ true → get_or l n 0 ≡ 0
-zeros_get_d l n e = eqb-true (get_or l n 0) 0 (all_get_d_or (λ b. eqb b 0) l n 0 e refl)
+unfolding all_of
+zeros_get_d [] n e = refl
+zeros_get_d (j ∷ l) zero e = eqb-true j 0 (and_both (eqb j 0) (all_of (λ j. eqb j 0) l) e).0
+zeros_get_d (j ∷ l) (suc n) e = zeros_get_d l n (and_both (eqb j 0) (all_of (λ j. eqb j 0) l) e).1
 
 -- ---- members
 pub member-append : (n : ℕ) (k l : List ℕ) → member n (k ++ l) ≡ member n k || member n l

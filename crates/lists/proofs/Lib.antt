@@ -2,4 +2,3 @@ pub mod Tests
 pub mod Laws
 pub mod Searches
 pub mod Orders
-pub mod Filters

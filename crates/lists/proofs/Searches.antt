@@ -163,10 +163,10 @@ sum_mono zero f g h = zero-le
 sum_mono (suc n) f g h = omega (arith, h (suc n) (omega arith) (omega arith), sum_mono n f g (λ a lo hi. h a lo (omega arith)))
 
 -- one term changes
-pub sum-changed : (n t : ℕ) (f g : ℕ → ℕ) → 1 ≤ t → t ≤ n → ((a : ℕ) → t ≢ a → g a ≡ f a) → sum_up_to n g + f t ≡ sum_up_to n f + g t
+pub sum_changed : (n t : ℕ) (f g : ℕ → ℕ) → 1 ≤ t → t ≤ n → ((a : ℕ) → t ≢ a → g a ≡ f a) → sum_up_to n g + f t ≡ sum_up_to n f + g t
 unfolding sum_up_to
-sum-changed zero t f g lo hi h = absurd (omega arith)
-sum-changed (suc n) t f g lo hi h = cases (same? t (suc n)) (λ hi'. sum-changed n t f g lo hi' h)
+sum_changed zero t f g lo hi h = absurd (omega arith)
+sum_changed (suc n) t f g lo hi h = cases (same? t (suc n)) (λ hi'. sum_changed n t f g lo hi' h)
   where
     cases : Dec (t ≡ suc n) → (t ≤ n → sum_up_to n g + f t ≡ sum_up_to n f + g t) → g (suc n) + sum_up_to n g + f t ≡ f (suc n) + sum_up_to n f + g t
     cases (yes q) ih = omega (arith, ap f q, ap g q, sum_same n g f (λ a _ hi'. h a (λ z. absurd (omega arith))))
@@ -182,10 +182,10 @@ unfolding sum_up_to
 sum_add zero f g = refl
 sum_add (suc n) f g = omega (arith, sum_add n f g)
 
-pub sum-swap : (n m : ℕ) (f : ℕ → ℕ → ℕ) → sum_up_to n (λ a. sum_up_to m (λ b. f a b)) ≡ sum_up_to m (λ b. sum_up_to n (λ a. f a b))
+pub sum_swap : (n m : ℕ) (f : ℕ → ℕ → ℕ) → sum_up_to n (λ a. sum_up_to m (λ b. f a b)) ≡ sum_up_to m (λ b. sum_up_to n (λ a. f a b))
 unfolding sum_up_to
-sum-swap zero m f = sym (sum-none _ (λ _. refl) m)
-sum-swap (suc n) m f = omega (arith, sum-swap n m f, sum_add m (f (suc n)) (λ b. sum_up_to n (λ a. f a b)))
+sum_swap zero m f = sym (sum-none _ (λ _. refl) m)
+sum_swap (suc n) m f = omega (arith, sum_swap n m f, sum_add m (f (suc n)) (λ b. sum_up_to n (λ a. f a b)))
 
 -- no term is greater than the other sum's, and one is less by c
 pub sum_less : (n k c : ℕ) (f g : ℕ → ℕ) → 1 ≤ k → k ≤ n → f k + c ≤ g k → ((a : ℕ) → 1 ≤ a → a ≤ n → f a ≤ g a) → sum_up_to n f + c ≤ sum_up_to n g
@@ -194,7 +194,7 @@ sum_less n k c f g lo hi at each =
     let here : more k ≡ f k + c = rw (eqb_self k) refl in
     omega (
       arith,
-      sum-changed n k f more lo hi (λ a ne. rw (ne_eqb a k (λ z. ne (sym z))) refl),
+      sum_changed n k f more lo hi (λ a ne. rw (ne_eqb a k (λ z. ne (sym z))) refl),
       sum_mono n more g (λ a l h. by-test (λ (b : ℕ). b ≤ g a) (eqb a k) (λ e. let q = eqb-true a k e in rw q at) (λ _. each a l h)),
     )
 
@@ -241,7 +241,7 @@ sum_different n (suc k) w f b d =
     let r = b (suc k) (omega arith) (omega arith) in
     let other : ℕ → ℕ = λ m. cond (eqb m a) 0 (w m) in
     let gone : other a ≡ 0 = rw (eqb_self a) refl in
-    let whole = sum-changed n a w other r.0 r.1 (λ m e. rw (ne_eqb m a (λ z. e (sym z))) refl) in
+    let whole = sum_changed n a w other r.0 r.1 (λ m e. rw (ne_eqb m a (λ z. e (sym z))) refl) in
     let rest = sum_same k (λ i. w (f i)) (λ i. other (f i)) (λ i l m. rw (ne_eqb (f i) a (d i (suc k) l (omega arith) (omega arith))) refl) in
     omega (arith, sum_different n k other f (λ i l m. b i l (omega arith)) (λ i j l m h. d i j l m (omega arith)))
 

@@ -1,11 +1,11 @@
 -- Laws of tests: conjunctions, conditionals, equality of numbers, bounds.
 use mathlib.Core.Path.{◌≡◌, refl, sym, ap, ◌∙◌}
 use mathlib.Core.Bool.{Bool, true, false, cond, not, ◌&&◌, ◌||◌, false≢true, true≢false}
-use Prim.Native.Nat.{ℕ, zero, suc, ◌+◌, ◌-◌, ◌≤◌}
+use Prim.Native.Nat.{ℕ, zero, suc, ◌≤◌}
 use native.Mathlib.Omega.{arith}
 use lib.Bits.{bit_or, or_add_and, and_le_r, or_zero_l}
-use lib.Dec.{eqb, leb, ltb, eqb-suc-zero}
-use borrow.Author.Tests.{eqb-true, eqb-false, eq-eqb, ne_eqb, leb-true, le-leb, lt-leb, ltb-true, ltb-false, not-true, not-false}
+use lib.Dec.{eqb, leb, eqb-suc-zero}
+use borrow.Author.Tests.{eqb-true, eqb-false, eq-eqb, ne_eqb, leb-true, le-leb, not-true, not-false}
 use Rattle.lists.specs.Lists.{between}
 
 -- ---- conjunctions and disjunctions
@@ -24,10 +24,6 @@ and-agrees false f = refl
 pub or_neither : (a b : Bool) → a || b ≡ false → (a ≡ false) × (b ≡ false)
 or_neither true b e = absurd (true≢false e)
 or_neither false b e = (refl, e)
-
-pub or_intro : (a b : Bool) → (a ≡ false → b ≡ true) → a || b ≡ true
-or_intro true b f = refl
-or_intro false b f = f refl
 
 -- ---- answers of a test
 -- a test that cannot hold fails
@@ -94,12 +90,3 @@ within low high n e = let p = and_both (leb low n) (leb n high) e in (leb-true l
 
 pub between_intro : (low high n : ℕ) → low ≤ n → n ≤ high → between low high n ≡ true
 between_intro low high n l h = rw (le-leb low n l, le-leb n high h) refl
-
-pub not-above : (a b : ℕ) → not (ltb a b) ≡ leb b a
-not-above a b = by_answer (ltb a b) (λ e. rw (e, lt-leb b a (ltb-true a b e)) refl) (λ e. rw (e, le-leb b a (ltb-false a b e)) refl)
-
--- the second of two numbers is what the first leaves of their sum
-pub sum-rest : (a b c : ℕ) → a ≤ c → eqb (a + b) c ≡ eqb b (c - a)
-sum-rest a b c h =
-    by_answer (eqb b (c - a)) (λ e. let q = eqb-true b (c - a) e in rw (e) (eq-eqb (a + b) c (omega arith)))
-    (λ e. let q = eqb-false b (c - a) e in rw (e) (ne_eqb (a + b) c (λ z. q (omega arith))))

@@ -1,9 +1,9 @@
 -- What a call knows that is not refused, and which cause refuses it.
-use mathlib.Core.Path.{◌≡◌, refl, sym, ◌∙◌}
+use mathlib.Core.Path.{◌≡◌, refl, ◌∙◌}
 use mathlib.Core.Bool.{Bool, true, false, cond, not, ◌&&◌}
 use mathlib.Core.List.{List, [], ◌∷◌, ◌++◌}
 use mathlib.Core.Logic.{◌≢◌}
-use Prim.Native.Nat.{ℕ, zero, suc, ◌+◌, ◌≤◌}
+use Prim.Native.Nat.{ℕ, ◌≤◌}
 use native.Mathlib.Omega.{arith}
 use lib.Dec.{eqb}
 use lib.ListN.{length}
@@ -12,30 +12,19 @@ use Rattle.lists.specs.Lists.{between, all_of}
 use Rattle.lists.proofs.Tests.{and_both, between_intro, by_answer, fails, within}
 use Rattle.message.specs.Limits.{max_sessions, max_items}
 use Rattle.session.specs.Seniority
-use Rattle.makers.specs.Makers as Makers
-use Rattle.makers.specs.Makers.{is_maker}
 use Rattle.mailbox.specs.Layout as Mail
-use Rattle.mailbox.specs.Shares as Shares
 use Rattle.table.specs.Layout as Table
 use Rattle.table.proofs.Laws as TableLaws
 use Rattle.refusal.specs.Refusal
 use Rattle.refusal.specs.Refusal.{Cause, cause, first}
-use Rattle.step.specs.Step.{Plan, Stepped, plan, overfull, acted, stepped, refused_answer, committed, Formed}
+use Rattle.step.specs.Step.{Stepped, plan, acted, stepped, refused_answer, committed, Formed}
 use Rattle.step.specs.Parts.{Judged, Unhindered}
 use Rattle.step.proofs.Acting.{by-outcome}
-use Rattle.step.proofs.Sharing.{plan-fits}
 use Rattle.refusal.proofs.Causes.{first_stops, first-goes-on, unmet-not}
 use Rattle.reopen.specs.Reopening as Reopening
 use Rattle.reopen.specs.Reopening.{may_reopen, reopen_causes, reopened}
 use Rattle.cycletext.specs.OnTable.{text, text_causes, text_answer, described, unless_refused}
-use Rattle.lockmgr.specs.Calls.{Config, mail_in_form, buffer_causes, judged, sizes_fit, makers_fit, start_refusal, step_by, step, report_causes, report_refusal, session_causes, reopen_refusal, reopen, cycle_text_by, cycle_text}
-use Rattle.lockmgr.specs.Run.{buffers}
-use Rattle.lockmgr.specs.Drain.{mail_of}
-use Rattle.lockmgr.specs.Parts.{Counts}
-
--- a refusal is not 0
-pub refusing : {A : Type 0} {n r : ℕ} → r ≡ n → (n ≡ 0 → ⊥) → r ≡ 0 → A
-refusing e f z = absurd (f (sym e ∙ z))
+use Rattle.lockmgr.specs.Calls.{Config, buffer_causes, judged, sizes_fit, start_refusal, step_by, step, report_causes, report_refusal, session_causes, reopen_refusal, reopen, cycle_text_by, cycle_text}
 
 -- a step by what judging answers
 module _ (verb t x : ℕ) (table mail : List ℕ) where
@@ -48,15 +37,13 @@ module _ (verb t x : ℕ) (table mail : List ℕ) where
   step_acts e = rw (e) refl
 
 -- where no cause lies in the buffers or behind them, the buffers are well-formed, and no cause lies behind
-pub buffers_then : (table mail : List ℕ) (behind : List Cause) → first (buffer_causes table mail ++ behind) ≡ 0 → Formed table mail × (first behind ≡ 0)
+buffers_then : (table mail : List ℕ) (behind : List Cause) → first (buffer_causes table mail ++ behind) ≡ 0 → Formed table mail × (first behind ≡ 0)
 buffers_then table mail behind e =
     let s = unmet-not (Table.sized table && Mail.sized mail) 1 _ e in
-    let f = unmet-not (Table.in_form table) 2 _ s.1 in
-    let g = unmet-not (mail_in_form table mail) 3 _ f.1 in
+    let f = unmet-not (Table.well_formed table) 2 _ s.1 in
+    let g = unmet-not (Mail.well_formed (Table.sessions_of table) (Table.items_of table) mail) 3 _ f.1 in
     let sizes = and_both (Table.sized table) (Mail.sized mail) s.0 in
-    let records = and_both (Table.well_formed table) (Table.owned table) f.0 in
-    let entries = and_both (Mail.well_formed (Table.sessions_of table) (Table.items_of table) mail) (Shares.owned (Table.makers table) (Mail.capacity_of mail) (Mail.entries_of mail)) g.0 in
-    (record { records = record { sized = sizes.0; formed = records.0 }; owned = records.1; mail-sized = sizes.1; mail-formed = entries.0; mail-owned = entries.1 }, g.1)
+    (record { records = record { sized = sizes.0; formed = f.0 }; mail-sized = sizes.1; mail-formed = g.0 }, g.1)
 
 -- what a step knows that was judged
 pub judged-zero : (verb t x : ℕ) (table mail : List ℕ) → judged verb t x table mail ≡ 0 → (1 ≤ verb) × (verb ≤ 4) × Judged t x table mail
@@ -80,23 +67,19 @@ judged-zero verb t x table mail e =
       },
     )
 
--- whatever holds of a refused step, and of one that was judged, that nothing hinders and that has room, holds of a step
-module _ (verb t x : ℕ) (table mail : List ℕ) where
-  abbrev planned : Plan
-  planned = plan (Table.senior table) verb t x table (Mail.entries_of mail)
-
-  pub by_call : (P : Stepped → Type 0) → ((n : ℕ) → n ≢ 0 → P (stepped (refused_answer n) table mail))
-      → (1 ≤ verb → verb ≤ 4 → Judged t x table mail → Unhindered verb t x table (Mail.entries_of mail)
-      → overfull t table planned.entries ≡ false → length planned.entries ≤ Mail.capacity_of mail → P (committed t (Mail.capacity_of mail) planned))
-      → P (step verb t x table mail)
-  by_call P refused done =
-      let n = judged verb t x table mail in
-      by_answer (eqb n 0)
-      (λ e. let z = eqb-true n 0 e in
-      let known = judged-zero verb t x table mail z in
-      rw (step_acts verb t x table mail z)
-      (by-outcome (Table.senior table) verb t x table mail P refused (λ u room. done known.0 known.1 known.2 u room (plan-fits t x table mail known.2 verb known.0 known.1 u room))))
-      (λ e. let z = eqb-false n 0 e in rw (step-refused verb t x table mail z) (refused n z))
+-- whatever holds of a refused step, and of one that was judged and that nothing hinders, holds of a step
+pub by_call : (verb t x : ℕ) (table mail : List ℕ) (P : Stepped → Type 0) → ((n : ℕ) → n ≢ 0 → P (stepped (refused_answer n) table mail))
+    → (1 ≤ verb → verb ≤ 4 → Judged t x table mail → Unhindered verb t x table (Mail.entries_of mail)
+    → length (plan (Table.senior table) verb t x table (Mail.entries_of mail)).entries ≤ Mail.capacity_of mail
+    → P (committed t (Mail.capacity_of mail) (plan (Table.senior table) verb t x table (Mail.entries_of mail))))
+    → P (step verb t x table mail)
+by_call verb t x table mail P refused done =
+    let n = judged verb t x table mail in
+    by_answer (eqb n 0)
+    (λ e. let z = eqb-true n 0 e in
+    let known = judged-zero verb t x table mail z in
+    rw (step_acts verb t x table mail z) (by-outcome (Table.senior table) verb t x table mail P refused (done known.0 known.1 known.2)))
+    (λ e. let z = eqb-false n 0 e in rw (step-refused verb t x table mail z) (refused n z))
 
 -- the causes of the verb, of the buffers and of the numbers, one after another
 module _ (verb t x : ℕ) (table mail : List ℕ) where
@@ -142,7 +125,19 @@ buffers-zero table mail e = (buffers_then table mail [] e).0
 -- well-formed buffers have no cause
 pub formed-zero : (table mail : List ℕ) → Formed table mail → first (buffer_causes table mail) ≡ 0
 unfolding first
-formed-zero table mail f = rw (f.records.sized, f.mail-sized, f.records.formed, f.owned, f.mail-formed, f.mail-owned) refl
+formed-zero table mail f = rw (f.records.sized, f.mail-sized, f.records.formed, f.mail-formed) refl
+
+-- what a start knows whose sizes fit, and one that is not refused
+pub record Sizes (c : Config) (table mail : List ℕ) : Type 0 where
+  pub bounded : Table.Bounded c.kept
+  pub some-room : 1 ≤ c.capacity
+  pub max-room : c.capacity ≤ Mail.max_capacity
+  pub table-whole : length table ≡ Table.size c.kept.sessions c.kept.items
+  pub mail-whole : length mail ≡ Mail.size c.capacity
+
+pub record Startable (c : Config) (table mail : List ℕ) : Type 0 where
+  pub sizes : Sizes c table mail
+  pub ranks : Seniority.well_formed c.kept.ranks ≡ true
 
 -- S, M and C are within their bounds
 abbrev pub in_bounds : ℕ → ℕ → ℕ → Bool
@@ -153,28 +148,13 @@ pub record InBounds (S M C : ℕ) : Type 0 where
   pub items : (1 ≤ M) × (M ≤ max_items)
   pub capacity : (1 ≤ C) × (C ≤ Mail.max_capacity)
 
-pub bounds-known : (S M C : ℕ) → in_bounds S M C ≡ true → InBounds S M C
-bounds-known S M C e =
+pub bounds_known : (S M C : ℕ) → in_bounds S M C ≡ true → InBounds S M C
+bounds_known S M C e =
     let s = between 1 max_sessions S in
     let m = between 1 max_items M in
     let three = and_both (s && m) (between 1 Mail.max_capacity C) e in
     let two = and_both s m three.0 in
     record { sessions = within 1 max_sessions S two.0; items = within 1 max_items M two.1; capacity = within 1 Mail.max_capacity C three.1 }
-
--- what a start knows whose sizes fit, and one that is not refused
-pub record Sizes (c : Config) (table mail : List ℕ) : Type 0 where
-  pub bounds : InBounds c.kept.sessions c.kept.items c.capacity
-  pub ranks-whole : length c.kept.ranks ≡ c.kept.sessions
-  pub sessions-whole : length c.kept.owners.sessions ≡ c.kept.sessions
-  pub items-whole : length c.kept.owners.items ≡ c.kept.items
-  pub table-whole : length table ≡ Table.size c.kept.sessions c.kept.items
-  pub mail-whole : length mail ≡ Mail.size c.capacity
-
-pub record Startable (c : Config) (table mail : List ℕ) : Type 0 where
-  pub sizes : Sizes c table mail
-  pub ranks : Seniority.well_formed c.kept.ranks ≡ true
-  pub makers : Makers.well_formed c.kept.owners ≡ true
-  pub shares : c.kept.owners.share1 + c.kept.owners.share2 ≡ c.capacity
 
 module _ (c : Config) (table mail : List ℕ) where
   abbrev S : ℕ
@@ -188,54 +168,43 @@ module _ (c : Config) (table mail : List ℕ) where
 
   pub sizes-known : sizes_fit c table mail ≡ true → Sizes c table mail
   sizes-known e =
-      let six = and_both _ (eqb (length mail) (Mail.size C)) e in
-      let five = and_both _ (eqb (length table) (Table.size S M)) six.0 in
-      let four = and_both _ (eqb (length c.kept.owners.items) M) five.0 in
-      let three = and_both _ (eqb (length c.kept.owners.sessions) S) four.0 in
-      let two = and_both (in_bounds S M C) (eqb (length c.kept.ranks) S) three.0 in
+      let n = in_bounds S M C in
+      let k = eqb (length c.kept.ranks) S in
+      let t = eqb (length table) (Table.size S M) in
+      let q = eqb (length mail) (Mail.size C) in
+      let six = and_both (n && k && t) q e in
+      let five = and_both (n && k) t six.0 in
+      let four = and_both n k five.0 in
+      let b = bounds_known S M C four.0 in
       record {
-        bounds = bounds-known S M C two.0;
-        ranks-whole = eqb-true (length c.kept.ranks) S two.1;
-        sessions-whole = eqb-true (length c.kept.owners.sessions) S three.1;
-        items-whole = eqb-true (length c.kept.owners.items) M four.1;
+        bounded =
+            record {
+              some-sessions = b.sessions.0;
+              max-sessions = b.sessions.1;
+              some-items = b.items.0;
+              max-items = b.items.1;
+              ranks-whole = eqb-true (length c.kept.ranks) S four.1;
+            };
+        some-room = b.capacity.0;
+        max-room = b.capacity.1;
         table-whole = eqb-true (length table) (Table.size S M) five.1;
         mail-whole = eqb-true (length mail) (Mail.size C) six.1;
       }
 
   all_sizes_fit : Sizes c table mail → sizes_fit c table mail ≡ true
   all_sizes_fit f =
-      let b = f.bounds in
-      rw (between_intro 1 max_sessions S b.sessions.0 b.sessions.1, between_intro 1 max_items M b.items.0 b.items.1, between_intro 1 Mail.max_capacity C b.capacity.0 b.capacity.1, eq-eqb (length c.kept.ranks) S f.ranks-whole, eq-eqb (length c.kept.owners.sessions) S f.sessions-whole, eq-eqb (length c.kept.owners.items) M f.items-whole, eq-eqb (length table) (Table.size S M) f.table-whole, eq-eqb (length mail) (Mail.size C) f.mail-whole) refl
+      let b = f.bounded in
+      rw (between_intro 1 max_sessions S b.some-sessions b.max-sessions, between_intro 1 max_items M b.some-items b.max-items, between_intro 1 Mail.max_capacity C f.some-room f.max-room, eq-eqb (length c.kept.ranks) S b.ranks-whole, eq-eqb (length table) (Table.size S M) f.table-whole, eq-eqb (length mail) (Mail.size C) f.mail-whole) refl
 
   pub start-zero : start_refusal c table mail ≡ 0 → Startable c table mail
   unfolding start_refusal
   start-zero e =
-      let o = c.kept.owners in
       let s = unmet-not (sizes_fit c table mail) 1 _ e in
-      let r = unmet-not (Seniority.well_formed c.kept.ranks) 13 _ s.1 in
-      let m = and_both (Makers.well_formed o) (eqb (o.share1 + o.share2) C) (unmet-not (makers_fit c) 15 [] r.1).0 in
-      record { sizes = sizes-known s.0; ranks = r.0; makers = m.0; shares = eqb-true (o.share1 + o.share2) C m.1 }
+      record { sizes = sizes-known s.0; ranks = (unmet-not (Seniority.well_formed c.kept.ranks) 13 [] s.1).0 }
 
-  module _ (f : Startable c table mail) where
-    pub start_none : start_refusal c table mail ≡ 0
-    unfolding start_refusal first
-    start_none = rw (all_sizes_fit f.sizes, f.ranks, f.makers, eq-eqb (c.kept.owners.share1 + c.kept.owners.share2) C f.shares) refl
-
-    -- the shares are no more than the capacity, so they fit their bytes
-    pub start-bounded : Table.Bounded c.kept
-    start-bounded =
-        let b = f.sizes.bounds in
-        record {
-          some-sessions = b.sessions.0;
-          max-sessions = b.sessions.1;
-          some-items = b.items.0;
-          max-items = b.items.1;
-          ranks-whole = f.sizes.ranks-whole;
-          sessions-whole = f.sizes.sessions-whole;
-          items-whole = f.sizes.items-whole;
-          share1-fits = omega (arith, f.shares, b.capacity.1);
-          share2-fits = omega (arith, f.shares, b.capacity.1);
-        }
+  pub start_none : Startable c table mail → start_refusal c table mail ≡ 0
+  unfolding start_refusal first
+  start_none f = rw (all_sizes_fit f.sizes, f.ranks) refl
 
 -- the causes of a report
 module _ (t : ℕ) (table : List ℕ) where
@@ -246,23 +215,23 @@ module _ (t : ℕ) (table : List ℕ) where
   unfolding report_refusal
   report-zero e =
       let s = unmet-not (Table.sized table) 1 _ e in
-      let f = unmet-not (Table.in_form table) 2 _ s.1 in
+      let f = unmet-not (Table.well_formed table) 2 _ s.1 in
       let n = within 1 (Table.sessions_of table) t (unmet-not known 4 _ f.1).0 in
-      (record { sized = s.0; formed = (and_both (Table.well_formed table) (Table.owned table) f.0).0 }, n.0, n.1)
+      (record { sized = s.0; formed = f.0 }, n.0, n.1)
 
-  pub report-small : report_refusal t table ≡ 0 → t ≤ max_sessions
-  report-small e = let f = report-zero e in omega (arith, TableLaws.sized-facts table f.0.sized, f.2)
+  pub report_small : report_refusal t table ≡ 0 → t ≤ max_sessions
+  report_small e = let f = report-zero e in omega (arith, TableLaws.sized-facts table f.0.sized, f.2)
 
   pub report-size : Table.sized table ≡ false → report_refusal t table ≡ Refusal.bad_size
   unfolding report_refusal first
   report-size e = rw (e) refl
 
   module _ (sized : Table.sized table ≡ true) where
-    pub report-table : Table.in_form table ≡ false → report_refusal t table ≡ Refusal.bad_table
+    pub report-table : Table.well_formed table ≡ false → report_refusal t table ≡ Refusal.bad_table
     unfolding report_refusal first
     report-table e = rw (sized, e) refl
 
-    module _ (formed : Table.in_form table ≡ true) where
+    module _ (formed : Table.well_formed table ≡ true) where
       pub report-number : (1 ≤ t → t ≤ Table.sessions_of table → ⊥) → report_refusal t table ≡ Refusal.bad_number
       unfolding report_refusal first
       report-number h =
@@ -312,15 +281,3 @@ module _ (t : ℕ) (table mail : List ℕ) where
       let n = unmet-not number 4 _ b.1 in
       let m = unmet-not (may_reopen t table mail) 14 _ n.1 in
       (b.0, n.0, m.0)
-
--- ---- the entries that are counted with the buffers
-module _ (table mail : List ℕ) {a b : ℕ} (counts : Counts a b table mail) where
-  by-maker : (k : ℕ) → 1 ≤ k → k ≤ 2 → cond (eqb k 1) a b ≡ length (mail_of k (buffers table mail))
-  by-maker zero low high = absurd (omega arith)
-  by-maker (suc zero) low high = counts.first
-  by-maker (suc (suc zero)) low high = counts.second
-  by-maker (suc (suc (suc k))) low high = absurd (omega arith)
-
-  -- those of a maker
-  pub own-count : (k : ℕ) → is_maker k ≡ true → {n : ℕ} → n ≡ cond (eqb k 1) a b → n ≡ length (mail_of k (buffers table mail))
-  own-count k e f = let r = within 1 2 k e in f ∙ by-maker k r.0 r.1

@@ -16,7 +16,7 @@ use Rattle.lockmgr.specs.Calls.{Config}
 use Rattle.lockmgr.specs.Run.{Step, Buffers, Done, done_on, left_by, done, left}
 use Rattle.lockmgr.specs.History.{Call, step, report, drain, reopen, steps_of, leaves, after, steps}
 use Rattle.lockmgr.specs.PlainRanks.{Plain, DoneBy, ByNumber}
-use Rattle.lockmgr.proofs.Judging.{start-zero, start-bounded}
+use Rattle.lockmgr.proofs.Judging.{start-zero}
 use Rattle.lockmgr.proofs.Form.{step-config, reopen-config}
 
 -- ---- the config stays
@@ -29,7 +29,7 @@ pub leaves-config : (b : Buffers) (c : Call) → Table.config_of (leaves b c).ta
 unfolding leaves
 leaves-config b (step verb t x) = left-config b (steps_of b (step verb t x))
 leaves-config b (report t) = refl
-leaves-config b (drain k limit) = left-config b (steps_of b (drain k limit))
+leaves-config b (drain limit) = left-config b (steps_of b (drain limit))
 leaves-config b (reopen t) = reopen-config t b.table b.mail
 
 -- and so do plain ranks
@@ -81,7 +81,7 @@ start_plain : (c : Config) (table mail : List ℕ) → (Calls.start c table mail
 unfolding Calls.start
 start_plain c table mail e p =
     by-test (λ (r : Calls.Started). r.refusal ≡ 0 → Plain r.table) (eqb (Calls.start_refusal c table mail) 0)
-    (λ z _. subst plain_config (sym (config_of-started c.kept (start-bounded c table mail (start-zero c table mail (eqb-true (Calls.start_refusal c table mail) 0 z))))) p)
+    (λ z _. subst plain_config (sym (config_of-started c.kept (start-zero c table mail (eqb-true (Calls.start_refusal c table mail) 0 z)).sizes.bounded)) p)
     (λ z q. absurd (eqb-false (Calls.start_refusal c table mail) 0 z q))
     e
 

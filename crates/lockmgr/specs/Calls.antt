@@ -1,13 +1,10 @@
 -- The calls on bytes (01: desk): from the arguments and the lent buffers, the answer and the buffers after. RULES is docs/RULES.md.
 -- T is the session and X the item that a call names; S, M and C are read from the buffers.
-use Rattle.std.specs.Prelude.{ℕ, ◌+◌, Bool, cond, not, ◌&&◌, List, [], ◌∷◌, ◌++◌, eqb, length}
+use Rattle.std.specs.Prelude.{ℕ, Bool, cond, not, ◌&&◌, List, [], ◌∷◌, ◌++◌, eqb, length}
 use Rattle.lists.specs.Lists.{between}
 use Rattle.message.specs.Limits.{max_sessions, max_items}
 use Rattle.session.specs.Seniority
-use Rattle.makers.specs.Makers as Makers
-use Rattle.makers.specs.Makers.{Owners}
 use Rattle.mailbox.specs.Layout as Mail
-use Rattle.mailbox.specs.Shares as Shares
 use Rattle.table.specs.Layout as Table
 use Rattle.waits.specs.OnTable.{cycle_length}
 use Rattle.refusal.specs.Refusal
@@ -24,8 +21,8 @@ pub record Config : Type 0 where
   pub kept : Table.Config
   pub capacity : ℕ
 
-abbrev pub config : ℕ → ℕ → ℕ → List ℕ → Owners → Config
-config S M C ranks owners = record { kept = Table.config S M ranks owners; capacity = C }
+abbrev pub config : ℕ → ℕ → ℕ → List ℕ → Config
+config S M C ranks = record { kept = Table.config S M ranks; capacity = C }
 
 -- what start answers, and both buffers after
 pub record Started : Type 0 where
@@ -36,19 +33,13 @@ pub record Started : Type 0 where
 abbrev pub start_result : ℕ → List ℕ → List ℕ → Started
 start_result refusal table mail = record { refusal = refusal; table = table; mail = mail }
 
--- S, M and C are within their bounds, and the lengths are theirs: RULES 8.2
+-- S, M and C are within their bounds, and the three lengths are theirs: RULES 8.2
 abbrev pub sizes_fit : Config → List ℕ → List ℕ → Bool
 sizes_fit c table mail =
     between 1 max_sessions c.kept.sessions && between 1 max_items c.kept.items && between 1 Mail.max_capacity c.capacity
     && eqb (length c.kept.ranks) c.kept.sessions
-    && eqb (length c.kept.owners.sessions) c.kept.sessions
-    && eqb (length c.kept.owners.items) c.kept.items
     && eqb (length table) (Table.size c.kept.sessions c.kept.items)
     && eqb (length mail) (Mail.size c.capacity)
-
--- the makers are 1 or 2, and the shares sum to C, neither of them 0: RULES 8.16
-abbrev pub makers_fit : Config → Bool
-makers_fit c = Makers.well_formed c.kept.owners && eqb (c.kept.owners.share1 + c.kept.owners.share2) c.capacity
 
 -- the causes of a start, in their order: RULES 8.0
 unfoldable pub start_refusal : Config → List ℕ → List ℕ → ℕ
@@ -56,7 +47,6 @@ start_refusal c table mail =
     first
     (cause (not (sizes_fit c table mail)) Refusal.bad_size
     ∷ cause (not (Seniority.well_formed c.kept.ranks)) Refusal.bad_ranks
-    ∷ cause (not (makers_fit c)) Refusal.bad_makers
     ∷ [])
 
 -- what start writes: RULES 4.3
@@ -67,17 +57,12 @@ start c table mail =
     (start_result (start_refusal c table mail) table mail)
 
 -- ---- step
--- the mail is well-formed for the table: its entries, and the shares: RULES 3.7
-abbrev pub mail_in_form : List ℕ → List ℕ → Bool
-mail_in_form table mail =
-    Mail.well_formed (Table.sessions_of table) (Table.items_of table) mail && Shares.owned (Table.makers table) (Mail.capacity_of mail) (Mail.entries_of mail)
-
 -- the causes that are judged first, in their order: those of the verb, the buffers and the numbers
 abbrev pub buffer_causes : List ℕ → List ℕ → List Cause
 buffer_causes table mail =
     cause (not (Table.sized table && Mail.sized mail)) Refusal.bad_size
-    ∷ cause (not (Table.in_form table)) Refusal.bad_table
-    ∷ cause (not (mail_in_form table mail)) Refusal.bad_mail
+    ∷ cause (not (Table.well_formed table)) Refusal.bad_table
+    ∷ cause (not (Mail.well_formed (Table.sessions_of table) (Table.items_of table) mail)) Refusal.bad_mail
     ∷ []
 
 unfoldable pub judged : ℕ → ℕ → ℕ → List ℕ → List ℕ → ℕ
@@ -99,7 +84,7 @@ step verb t x table mail = step_by (Table.senior table) verb t x table mail
 abbrev pub report_causes : ℕ → List ℕ → List Cause
 report_causes t table =
     cause (not (Table.sized table)) Refusal.bad_size
-    ∷ cause (not (Table.in_form table)) Refusal.bad_table
+    ∷ cause (not (Table.well_formed table)) Refusal.bad_table
     ∷ cause (not (between 1 (Table.sessions_of table) t)) Refusal.bad_number
     ∷ []
 

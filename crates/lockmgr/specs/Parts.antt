@@ -1,12 +1,7 @@
 -- What the parts of a drain ask of each other and leave. No part of the promise.
 use Rattle.std.specs.Prelude.{ℕ, ◌+◌, ◌-◌, ◌≤◌, ◌≡◌, cond, ◌&&◌, List, eqb, ltb, length}
 use Rattle.lockmgr.specs.Run.{Buffers, buffers, done_on, left_by, left}
-use Rattle.lockmgr.specs.Drain.{mail_of, oldest, limited, ending, deliveries}
-
--- how many entries of the mail each maker has
-pub record Counts (one two : ℕ) (table mail : List ℕ) : Type 0 where
-  pub first : one ≡ length (mail_of 1 (buffers table mail))
-  pub second : two ≡ length (mail_of 2 (buffers table mail))
+use Rattle.lockmgr.specs.Drain.{oldest, limited, ending, deliveries}
 
 -- a turn of a drain: why it ends here, or 0 where a delivery was made, how many were made so far, and what is left
 pub record Turned : Type 0 where
@@ -17,19 +12,19 @@ pub record Turned : Type 0 where
 abbrev pub turned : ℕ → ℕ → List ℕ → List ℕ → Turned
 turned n made table mail = record { ending = n; made = made; left = buffers table mail }
 
--- a delivery for maker k is made where one more is allowed and nothing but the limit could end the drain
-abbrev pub turn_of : ℕ → ℕ → ℕ → Buffers → Turned
-turn_of k limit made b =
-    cond (ltb made limit && eqb (ending k b) limited) (record { ending = 0; made = made + 1; left = left_by (done_on b (oldest k b)) }) (record { ending = ending k b; made = made; left = b })
+-- a delivery is made where one more is allowed and nothing but the limit could end the drain
+abbrev pub turn_of : ℕ → ℕ → Buffers → Turned
+turn_of limit made b =
+    cond (ltb made limit && eqb (ending b) limited) (record { ending = 0; made = made + 1; left = left_by (done_on b (oldest b)) }) (record { ending = ending b; made = made; left = b })
 
--- after j deliveries of a drain for maker k from one state to another the rest of it is ahead
-pub record Ahead (k limit j : ℕ) (from to : Buffers) : Type 0 where
+-- after j deliveries of a drain from one state to another the rest of it is ahead
+pub record Ahead (limit j : ℕ) (from to : Buffers) : Type 0 where
   pub allowed : j ≤ limit
-  pub made : length (deliveries k limit from) ≡ j + length (deliveries k (limit - j) to)
-  pub left : left from (deliveries k limit from) ≡ left to (deliveries k (limit - j) to)
+  pub made : length (deliveries limit from) ≡ j + length (deliveries (limit - j) to)
+  pub left : left from (deliveries limit from) ≡ left to (deliveries (limit - j) to)
 
--- all j deliveries of a drain for maker k are made
-pub record Ended (k limit j n : ℕ) (from to : Buffers) : Type 0 where
-  pub made : length (deliveries k limit from) ≡ j
-  pub left : left from (deliveries k limit from) ≡ to
-  pub ending : ending k to ≡ n
+-- all j deliveries of a drain are made
+pub record Ended (limit j n : ℕ) (from to : Buffers) : Type 0 where
+  pub made : length (deliveries limit from) ≡ j
+  pub left : left from (deliveries limit from) ≡ to
+  pub ending : ending to ≡ n

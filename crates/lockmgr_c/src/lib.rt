@@ -5,40 +5,24 @@ ghost use Rattle.std.specs.Prelude.{◌≡◌};
 ghost use Rattle.step.specs.Step.{stepped};
 ghost use Rattle.reopen.specs.Reopening.{reopened};
 ghost use Rattle.cycletext.specs.OnTable.{described};
-ghost use Rattle.makers.specs.Makers.{owners_of};
 ghost use Rattle.lockmgr.specs.Calls.{config, start_result, start, step, report, reopen, cycle_text};
 ghost use Rattle.lockmgr.specs.Drain.{drain_result, drain};
 
 use lockmgr::{Answer, Cycle, Drained, Text};
 
-// Opens a lock manager in two lent buffers. Byte k of a list, from 1, is the rank of session k, the maker of session k, the maker of item k; the shares say how many entries of the mail each maker may fill.
+// Opens a lock manager in two lent buffers; byte k of the list, from 1, is the rank of session k.
 #[unsafe(no_mangle)]
 pub extern "C" fn lockmgr_start(
     sessions: u64,
     items: u64,
     capacity: u64,
     ranks: &[u8],
-    session_makers: &[u8],
-    item_makers: &[u8],
-    share1: u64,
-    share2: u64,
     table: &mut [u8],
     mail: &mut [u8],
 ) -> u8
-    ensures { start_result result table.new mail.new ≡ start (config sessions items capacity ranks.now (owners_of session_makers.now item_makers.now share1 share2)) table.old mail.old }
+    ensures { start_result result table.new mail.new ≡ start (config sessions items capacity ranks.now) table.old mail.old }
 {
-    lockmgr::lockmgr_start(
-        sessions,
-        items,
-        capacity,
-        ranks,
-        session_makers,
-        item_makers,
-        share1,
-        share2,
-        table,
-        mail,
-    )
+    lockmgr::lockmgr_start(sessions, items, capacity, ranks, table, mail)
 }
 
 // One step: a request, a release or a delivery.
@@ -79,15 +63,10 @@ pub extern "C" fn lockmgr_cycle_text(session: u64, table: &[u8], text: &mut [u8]
     lockmgr::lockmgr_cycle_text(session, table, text)
 }
 
-// Delivers the oldest entry of a maker again and again: until it has none left, the next delivery would be refused with 9, or so many are made.
+// Delivers the oldest entry again and again: until no mail is left, the next delivery would be refused with 9, or so many are made.
 #[unsafe(no_mangle)]
-pub extern "C" fn lockmgr_drain(
-    maker: u64,
-    limit: u64,
-    table: &mut [u8],
-    mail: &mut [u8],
-) -> Drained
-    ensures { drain_result result table.new mail.new ≡ drain maker limit table.old mail.old }
+pub extern "C" fn lockmgr_drain(limit: u64, table: &mut [u8], mail: &mut [u8]) -> Drained
+    ensures { drain_result result table.new mail.new ≡ drain limit table.old mail.old }
 {
-    lockmgr::lockmgr_drain(maker, limit, table, mail)
+    lockmgr::lockmgr_drain(limit, table, mail)
 }

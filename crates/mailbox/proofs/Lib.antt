@@ -3,5 +3,3 @@ pub mod Laws
 mod Triples
 mod Moves
 pub mod Tests
-pub mod Shares
-pub mod Masked

@@ -1,10 +1,10 @@
--- The bytes of a mailbox after entries are taken out, after one is added or is another, and of an empty mailbox.
+-- The bytes of a mailbox after entries are taken out, after one is added, and of an empty mailbox.
 use mathlib.Core.Path.{◌≡◌, refl, sym, ap, ◌∙◌}
 use mathlib.Core.List.{List, [], ◌∷◌, ◌++◌, append_assoc, map}
 use Prim.Native.Nat.{ℕ, ◌+◌, ◌-◌, ◌*◌, ◌≤◌, ◌<◌}
 use native.Mathlib.Numerals.{add-one}
 use native.Mathlib.Omega.{arith}
-use lib.ListN.{length, get_or, set, take, drop, replicate, length-append, length-map, length-set, replicate-append-replicate, get_or-append}
+use lib.ListN.{length, get_or, take, drop, replicate, length-append, length-map, replicate-append-replicate, get_or-append}
 use lib.Seq.{take-suc, length-take-le}
 use Rattle.buffer.specs.Bytes.{splice, to_bytes, padded}
 use Rattle.lists.specs.Lists.{without_places}
@@ -14,10 +14,9 @@ use Rattle.message.specs.Outbox.{room, plain, cells}
 use Rattle.entry.specs.Entry.{Entry, width}
 use Rattle.mailbox.specs.Layout.{header, count_place, route_place, body_place, routes, bodies, mail_bytes, size}
 use Rattle.entry.specs.Entry.{sent}
-use Rattle.buffer.proofs.Laws.{length-splice}
-use Rattle.buffer.proofs.Padded.{splice-within, length-padded, end-within}
+use Rattle.buffer.proofs.Padded.{length-padded, end-within}
 use Rattle.entry.proofs.Cuts.{closed_up, cut-within}
-use Rattle.mailbox.proofs.Triples.{triples, routes-triples, bodies-triples, triples-append, triples-without, triples-set}
+use Rattle.mailbox.proofs.Triples.{triples, routes-triples, bodies-triples, triples-append, triples-without}
 use Rattle.mailbox.proofs.Laws.{framed, head, framed-second, length-routes, length-bodies}
 
 -- the count alone is written
@@ -90,40 +89,6 @@ add_mail C n l e {m₁ = m₁} {m₂ = m₂} len h f e₁ e₂ =
     ∙ ap (λ (q : List ℕ). (head C (length l) ++ r) ++ (padded (width * C) q ++ [])) (bodies_add l e)
     ∙ sym (framed-second C (length l) r (padded (width * C) (bodies (l ++ (e ∷ []))))) in
     ap (λ (q : List ℕ). splice q count_place (to_bytes 2 (n + 1))) second ∙ splice-count C (length l) (n + 1) r (padded (width * C) (bodies (l ++ (e ∷ []))))
-    ∙ rw (count) refl
-
--- a write over a padded list that stands between two others
-over-within : (x z : List ℕ) (n : ℕ) (r v : List ℕ) (k : ℕ) → k + length v ≤ length r → length r ≤ n
-    → splice (x ++ (padded n r ++ z)) (length x + k) v ≡ x ++ (padded n (splice r k v) ++ z)
-over-within x z n r v k h m =
-    let full : length (padded n r) ≡ n = length-padded n r m in
-    let none : 0 + k ≡ k = omega arith in
-    let over : splice (padded n r) k v ≡ padded n (splice r k v) = (rw (none) at (splice-within [] r (replicate (n - length r) 0) v k h)) ∙ ap (λ (j : ℕ). splice r k v ++ replicate (n - j) 0) (sym (length-splice r k v h)) in
-    splice-within x (padded n r) z v k (omega arith) ∙ ap (λ (q : List ℕ). x ++ (q ++ z)) over
-
--- what a route and a body leave that are written over those of entry a
-pub set-mail : (C a : ℕ) (l : List Entry) (e : Entry) {m m₁ : List ℕ} → a < length l → length l ≤ C → m ≡ mail_bytes C l
-    → m₁ ≡ splice m (route_place a) (e.direction ∷ e.session ∷ e.item ∷ [])
-    → splice m₁ (body_place C a) (e.kind ∷ e.a ∷ e.b ∷ []) ≡ mail_bytes C (set l a e)
-unfolding mail_bytes
-set-mail C a l e {m₁ = m₁} inside h f e₁ =
-    let after : List Entry = set l a e in
-    let r : List ℕ = padded (width * C) (routes after) in
-    let route : List ℕ = e.direction ∷ e.session ∷ e.item ∷ [] in
-    let body : List ℕ = e.kind ∷ e.a ∷ e.b ∷ [] in
-    let count : length after ≡ length l = length-set l a e in
-    let routes-set : splice (routes l) (width * a) route ≡ routes after =
-    rw (routes-triples l, routes-triples after) (sym (triples-set (λ e. e.direction) (λ e. e.session) (λ e. e.item) a l e inside)) in
-    let bodies-set : splice (bodies l) (width * a) body ≡ bodies after =
-    rw (bodies-triples l, bodies-triples after) (sym (triples-set (λ e. e.kind) (λ e. e.a) (λ e. e.b) a l e inside)) in
-    let first : m₁ ≡ framed C (length l) r (padded (width * C) (bodies l)) =
-    e₁ ∙ rw (f) (over-within (head C (length l)) (padded (width * C) (bodies l)) (width * C) (routes l) route (width * a) (omega (arith, length-routes l)) (omega (arith, length-routes l)))
-    ∙ ap (λ (q : List ℕ). framed C (length l) (padded (width * C) q) (padded (width * C) (bodies l))) routes-set in
-    let at : body_place C a ≡ length (head C (length l) ++ r) + width * a =
-    omega (arith, length-append (head C (length l)) r, length-padded (width * C) (routes after) (omega (arith, length-routes after))) in
-    rw (at, first ∙ framed-second C (length l) r (padded (width * C) (bodies l))) (over-within (head C (length l) ++ r) [] (width * C) (bodies l) body (width * a) (omega (arith, length-bodies l)) (omega (arith, length-bodies l)))
-    ∙ ap (λ (q : List ℕ). (head C (length l) ++ r) ++ (padded (width * C) q ++ [])) bodies-set
-    ∙ sym (framed-second C (length l) r (padded (width * C) (bodies after)))
     ∙ rw (count) refl
 
 -- zeros, with C written over the first two

@@ -4,9 +4,9 @@ use mathlib.Core.List.{List, [], ◌∷◌, ◌++◌}
 use Prim.Native.Nat.{ℕ, zero, suc, ◌+◌, ◌-◌, ◌*◌, ◌≤◌, ◌<◌}
 use native.Mathlib.Nat.{add-zero}
 use native.Mathlib.Omega.{arith}
-use lib.ListN.{length, get_or, set, take, drop}
-use lib.Seq.{take-nil, drop-nil, drop-cons, get_or-drop, set_split}
-use Rattle.buffer.specs.Bytes.{slice, splice}
+use lib.ListN.{length, get_or, take, drop}
+use lib.Seq.{take-nil, drop-nil, drop-cons, get_or-drop}
+use Rattle.buffer.specs.Bytes.{slice}
 use Rattle.lists.specs.Lists.{without_places, tabulate}
 use Rattle.entry.specs.Entry.{Entry, unused}
 use Rattle.mailbox.specs.Layout.{routes, bodies}
@@ -56,13 +56,6 @@ module _ (f g h : Entry → ℕ) where
   triples-without a b l order =
       let both : 3 * b ≡ 3 * a + 3 * (b - a) = omega arith in
       triples-append (take a l) (drop b l) ∙ rw (triples-take a l, triples-drop b l, both) refl
-
-  -- entry k is another
-  pub triples-set : (k : ℕ) (l : List Entry) (e : Entry) → k < length l → triples f g h (set l k e) ≡ splice (triples f g h l) (3 * k) (f e ∷ g e ∷ h e ∷ [])
-  unfolding triples splice
-  triples-set k l e p =
-      let after : 3 * k + 3 ≡ 3 * suc k = omega arith in
-      ap (triples f g h) (set_split l k e p) ∙ triples-append (take k l) (e ∷ drop (suc k) l) ∙ rw (triples-take k l, triples-drop (suc k) l, after) refl
 
   -- the three numbers of entry k, and what follows them
   drop-triples : (k : ℕ) (l : List Entry) → k < length l

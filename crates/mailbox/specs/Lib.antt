@@ -1,3 +1,2 @@
 pub use Rattle.entry.specs.Entry
 pub mod Layout
-pub mod Shares

@@ -1,19 +1,14 @@
-// The mailbox (01: mail) in a lent buffer: well-formedness, the entries of each maker, the earliest entry of a route, take, copy, append.
+// The mailbox (01: mail) in a lent buffer: well-formedness, the earliest entry of a route, take, append.
 #![tactic(auto)]
 
-ghost use Rattle.std.specs.Prelude.{◌≡◌, true, cond, List, [], ◌∷◌, ◌++◌, map, ℕ, ◌^◌, ◌≤◌, ◌<◌, eqb, length, set};
-ghost use Rattle.lists.specs.Lists.{all_of, filter, remove_at, without_places};
-ghost use Rattle.makers.specs.Makers.{Makers};
-ghost use Rattle.makers.specs.Masks.{Masked, row_of};
-ghost use Rattle.message.specs.Limits.{max_sessions, max_items};
+ghost use Rattle.std.specs.Prelude.{◌≡◌, true, cond, List, [], ◌∷◌, ◌++◌, map, ◌≤◌, ◌<◌, eqb, length};
+ghost use Rattle.lists.specs.Lists.{remove_at, without_places};
 ghost use Rattle.message.specs.declared.Message.{Message};
 ghost use Rattle.message.specs.Outbox.{message, outbox_of};
 ghost use Rattle.entry.specs.Entry.{Entry, width, to_item, sent, earliest, seen_by_item, seen_by_session};
-ghost use Rattle.entry.specs.Within.{within_own, of_second};
 ghost use Rattle.mailbox.specs.Layout.{header, max_capacity, size, route_place, body_place, capacity_of, count_of, sized, entry_at, entries_of, route_of, well_formed, mail_bytes, Kept, Stands, Room};
-ghost use Rattle.mailbox.specs.Shares.{of_maker, owned};
 
-use entry::{ByMaker, WIDTH};
+use entry::WIDTH;
 use message::{Message, Outbox};
 
 // The two directions: session to item, item to session.
@@ -104,82 +99,6 @@ pub fn well_formed(m: &[u8], sessions: u8, items: u8) -> bool
     }
 }
 
-// Whether the entries of a well-formed mailbox lie within one maker each, and how many are maker 2's; `sessions` and `items` have those of maker 2, and the rows say the same.
-pub fn within(
-    m: &[u8],
-    sessions: u64,
-    items: u64,
-    makers: &[u8; makers::BYTES],
-    owners: &[u8; makers::BYTES],
-) -> ByMaker
-    requires { (sized m.now ≡ true) × (count_of m.now ≤ capacity_of m.now) × (makers.now ≡ row_of sessions) × (owners.now ≡ row_of items) }
-    ensures { ((S M : ℕ) → well_formed S M m.now ≡ true → result.within ≡ all_of (within_own sessions items) (entries_of m.now))
-        × (result.second ≡ length (filter (of_second sessions) (entries_of m.now))) }
-{
-    let c = capacity(m);
-    let n = count(m);
-    let to = route_place(c);
-    entry::within(m, HEADER, to, n, sessions, items, makers, owners)
-}
-
-// The entries by maker; nothing is looked up where all belong to maker 1.
-fn by_maker(m: &[u8], s: u8, i: u8, sessions: u64, items: u64) -> ByMaker
-    requires { (sized m.now ≡ true) × (well_formed s i m.now ≡ true) × (s ≤ max_sessions) × (i ≤ max_items) × (sessions < 2 ^ s) × (items < 2 ^ i) }
-    ensures { (result.within ≡ all_of (within_own sessions items) (entries_of m.now)) × (result.second ≡ length (filter (of_second sessions) (entries_of m.now))) }
-{
-    if sessions == 0 {
-        if items == 0 {
-            return ByMaker {
-                within: true,
-                second: 0,
-            };
-        }
-    }
-    let makers = makers::row(sessions, s);
-    let owners = makers::row(items, i);
-    within(m, sessions, items, &makers, &owners)
-}
-
-// Whether each entry lies within one maker and no maker has more than its share, and how many each has.
-#[derive(Clone, Copy)]
-pub struct Shared {
-    pub owned: bool,
-    pub first: usize,
-    pub second: usize,
-}
-
-// A well-formed mailbox for s sessions and i items; `sessions` and `items` have those of maker 2.
-pub fn owned(
-    m: &[u8],
-    s: u8,
-    i: u8,
-    sessions: u64,
-    items: u64,
-    share1: usize,
-    share2: usize,
-) -> Shared
-    requires { (sized m.now ≡ true) × (well_formed s i m.now ≡ true) × (s ≤ max_sessions) × (i ≤ max_items) × (sessions < 2 ^ s) × (items < 2 ^ i) }
-    ensures { (k : Makers) → Masked k s i sessions items → k.share 1 ≡ share1 → k.share 2 ≡ share2
-        → (result.owned ≡ owned k (capacity_of m.now) (entries_of m.now)) × (result.first ≡ length (of_maker k 1 (entries_of m.now))) × (result.second ≡ length (of_maker k 2 (entries_of m.now))) }
-{
-    let r = by_maker(m, s, i, sessions, items);
-    let second = r.second;
-    let first = count(m) - second;
-    let c = capacity(m);
-    if c < share1 {
-        return Shared {
-            owned: false,
-            first,
-            second,
-        };
-    }
-    Shared {
-        owned: r.within & ((first <= share1) & (second <= share2)) & (share2 == c - share1),
-        first,
-        second,
-    }
-}
-
 // The place of the earliest entry of a route, or the number of entries.
 pub fn earliest(m: &[u8], direction: u8, t: u8, x: u8) -> usize
     requires { Kept m.now }
@@ -260,24 +179,6 @@ pub fn remove(m: &mut [u8], k: usize)
     ensures { m.new ≡ mail_bytes (capacity_of m.old) (remove_at k (entries_of m.old)) }
 {
     cut(m, k, k + 1);
-}
-
-// Copies entry b, its route and its body, to place a.
-pub fn copy(m: &mut [u8], a: usize, b: usize)
-    requires { Stands m.old b × (a < count_of m.old) }
-    ensures { m.new ≡ mail_bytes (capacity_of m.old) (set (entries_of m.old) a (entry_at m.old b)) }
-{
-    let c = capacity(m);
-    let route = route_of(m, b);
-    let body = message_to_item(m, b);
-    entry::put(
-        m,
-        route_place(a),
-        route.direction,
-        route.session,
-        route.item,
-    );
-    entry::put(m, body_place(c, a), body.kind, body.a, body.b);
 }
 
 // Adds an entry to the n that a mailbox of capacity c holds.

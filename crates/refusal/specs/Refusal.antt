@@ -61,14 +61,6 @@ bad_ranks = 14
 abbrev pub in_use : ℕ
 in_use = 15
 
--- RULES 8.16
-abbrev pub bad_makers : ℕ
-bad_makers = 16
-
--- RULES 8.17
-abbrev pub other_maker : ℕ
-other_maker = 17
-
 -- a cause that holds or not
 pub record Cause : Type 0 where
   pub holds : Bool

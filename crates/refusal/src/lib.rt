@@ -33,10 +33,6 @@ pub const BAD_RANKS: u8 = 14;
 
 pub const IN_USE: u8 = 15;
 
-pub const BAD_MAKERS: u8 = 16;
-
-pub const OTHER_MAKER: u8 = 17;
-
 // The number of a cause that holds, else that of the causes behind it.
 pub fn cause(holds: bool, number: u8, rest: u8) -> u8
     ensures { result ≡ cond holds number rest }

@@ -35,13 +35,13 @@ module _ (R : Rules) (s : State) (k : Invariant R s) (d : AllEnded R s) (t : ℕ
   releases = elim over [ inl e ↦ rw e (omega arith) | inr e ↦ rw e.0 (omega arith) ]
 
   -- no message is on its way between it and an item
-  no-up : (x : ℕ) → up_route s t x ≡ []
+  no_up : (x : ℕ) → up_route s t x ≡ []
   unfolding up_route
-  no-up x = route-none true t x s.mailbox none
+  no_up x = route-none true t x s.mailbox none
 
-  no-down : (x : ℕ) → down_route s t x ≡ []
+  no_down : (x : ℕ) → down_route s t x ≡ []
   unfolding down_route
-  no-down x = route-none false t x s.mailbox none
+  no_down x = route-none false t x s.mailbox none
 
   module _ (x : ℕ) (lo : 1 ≤ x) (hi : x ≤ R.M) where
     not-queued : occurs t (s.item x).queue ≡ 0
@@ -50,8 +50,8 @@ module _ (R : Rules) (s : State) (k : Invariant R s) (d : AllEnded R s) (t : ℕ
     not-holder : held_by (s.item x).holder t ≡ false
     unfolding count_kind
     not-holder = fails (held_by (s.item x).holder t) (λ h. elim over [
-      | inl e ↦ omega (arith, ap bit h, (d t).owns x lo hi (omega (arith, ap doomed e)), ap bit ((d t).holds-none x (ap (λ (a : Stage). is_rolled_back a) e)), ap (count_kind Kind.release) (no-up x))
-      | inr e ↦ omega (arith, ap bit h, (k.core.links.linked t x lo hi).own-only_if, ap doomed e.0, ap bit (e.1 x), ap (count_kind Kind.release) (no-up x), ap (count_kind Kind.grant) (no-down x))
+      | inl e ↦ omega (arith, ap bit h, (d t).owns x lo hi (omega (arith, ap doomed e)), ap bit ((d t).holds-none x (ap (λ (a : Stage). is_rolled_back a) e)), ap (count_kind Kind.release) (no_up x))
+      | inr e ↦ omega (arith, ap bit h, (k.core.links.linked t x lo hi).own-only_if, ap doomed e.0, ap bit (e.1 x), ap (count_kind Kind.release) (no_up x), ap (count_kind Kind.grant) (no_down x))
     ])
 
     no_item : item_names t (s.item x) ≡ false
@@ -68,8 +68,8 @@ module _ (R : Rules) (s : State) (k : Invariant R s) (d : AllEnded R s) (t : ℕ
       let z : u ≡ t = walk-still no_edge (path-walk-from t c.path (rw q at h)) in
       omega (arith, releases, stage-facts (s.session t).stage, rw z at (ap bit l))
 
-  no-probe : (u i : ℕ) → (s.session u).stored i ≢ 0 → (i ≢ t) × ((s.session u).stored i ≢ t)
-  no-probe u i ne =
+  no_probe : (u i : ℕ) → (s.session u).stored i ≢ 0 → (i ≢ t) × ((s.session u).stored i ≢ t)
+  no_probe u i ne =
       by_answer (is_live (s.session u).stage)
       (λ l. let c = k.core.probes.stored-true u l i ne in
       let off = off-path u i ((s.session u).stored i) l c in
@@ -80,7 +80,7 @@ module _ (R : Rules) (s : State) (k : Invariant R s) (d : AllEnded R s) (t : ℕ
       ])
 
   named-nowhere : NamedNowhere R s t
-  named-nowhere = record { no_item = no_item; no-probe = no-probe }
+  named-nowhere = record { no_item = no_item; no_probe = no_probe }
 
 pub theorem : Statement
 theorem R L admits cs t = named-nowhere R _ (invariant R L admits cs) (ended R L admits cs) t

@@ -9,7 +9,7 @@ Over r = (r.stage ≡ releasing rolled_back) ⊎ ((r.stage ≡ releasing shrinki
 -- no item names session t, and no stored probe does, as initiator or as junior
 pub record NamedNowhere (R : Rules) (s : State) (t : ℕ) : Type 0 where
   pub no_item : (x : ℕ) → 1 ≤ x → x ≤ R.M → item_names t (s.item x) ≡ false
-  pub no-probe : (u i : ℕ) → (s.session u).stored i ≢ 0 → (i ≢ t) × ((s.session u).stored i ≢ t)
+  pub no_probe : (u i : ℕ) → (s.session u).stored i ≢ 0 → (i ≢ t) × ((s.session u).stored i ≢ t)
 
 -- for every seniority and choice of the next holder that meet the laws, every policy and every list of calls
 abbrev pub Statement : Type 0

@@ -31,7 +31,7 @@ use Rattle.room.proofs.Sending.{every-each, every-stored, sent-each, sent-stored
 use Rattle.room.proofs.Members.{awaited_of_member, links★, is_of_member, victim-member}
 use Rattle.room.proofs.NoCycle.{none_to_abort}
 use Rattle.room.proofs.Holders.{held_then, the_victim, told-cycle}
-use Rattle.room.proofs.SessionKept.{dropped, Fits, kept, same-stage, waits-no-more}
+use Rattle.room.proofs.SessionKept.{dropped, Fits, kept, same-stage, waits_no_more}
 use Rattle.room.proofs.SessionCleans.{cleaned}
 
 stored-few : (R : Rules) (f : ℕ → ℕ) → stored_count R f ≤ R.S
@@ -59,8 +59,8 @@ module _ (R : Rules) (L : Laws R) (p : Snapshot) (k : Sound R p) (s : State) (i 
   drops = dropped R p s t c x
 
   -- a waiting session is not the victim
-  waits-no-victim : (y : ℕ) → own.stage ≡ waiting y → t ≢ p.victim
-  waits-no-victim y q z =
+  waits_no_victim : (y : ℕ) → own.stage ≡ waiting y → t ≢ p.victim
+  waits_no_victim y q z =
       omega (arith, c.victim-stage, ap (λ (u : ℕ). is_victim (s.session u).stage + may_release (s.session u).stage) z, ap (λ (b : Stage). is_victim b + may_release b) q)
 
   -- ---- grant
@@ -69,7 +69,7 @@ module _ (R : Rules) (L : Laws R) (p : Snapshot) (k : Sound R p) (s : State) (i 
   granted growing q = drops (down grant)
   granted (waiting y) q = by-test (FitsOn (down grant)) (eqb y x)
       (λ _. record {
-        turns = waits-no-more R p s t _ refl (λ z. absurd (waits-no-victim y q z)) (rw q (omega arith)) (λ _. refl);
+        turns = waits_no_more R p s t _ refl (λ z. absurd (waits_no_victim y q z)) (rw q (omega arith)) (λ _. refl);
         allowed = every-nil;
         covered = omega arith;
       })
@@ -140,7 +140,7 @@ module _ (R : Rules) (L : Laws R) (p : Snapshot) (k : Sound R p) (s : State) (i 
   rolled-back (waiting y) q = drops (down withdrawn)
   rolled-back (victim cleaning y) q = drops (down withdrawn)
   rolled-back (victim withdrawing y) q = record {
-    turns = waits-no-more R p s t _ refl (λ _. omega arith) (rw q (omega arith)) (λ _. refl);
+    turns = waits_no_more R p s t _ refl (λ _. omega arith) (rw q (omega arith)) (λ _. refl);
     allowed = releases-allowed y q;
     covered = omega (arith, releases_le y q);
   }
@@ -152,9 +152,9 @@ module _ (R : Rules) (L : Laws R) (p : Snapshot) (k : Sound R p) (s : State) (i 
     holds live = (came R s i t x a j l e live).held
 
     -- no grant is behind the probe
-    no-grant : count_kind Kind.grant (down_route s t x) ≡ 0
+    no_grant : count_kind Kind.grant (down_route s t x) ≡ 0
     unfolding down_route count_kind count_behind
-    no-grant =
+    no_grant =
         let q = take_same false t x s.mailbox (probe a j) l e in
         let z : count_behind Kind.probe Kind.grant (route false t x s.mailbox) ≡ 0 = d.grant-first t x in
         let n : count_behind Kind.probe Kind.grant (probe a j ∷ route false t x l) ≡ 0 = rw q at z in
@@ -177,7 +177,7 @@ module _ (R : Rules) (L : Laws R) (p : Snapshot) (k : Sound R p) (s : State) (i 
               g.own-only_if,
               g.release_when,
               g.held-not-awaited,
-              no-grant,
+              no_grant,
               ap (λ (b : Stage). awaits b x) q,
               ap doomed q,
               ap may_release q,
@@ -195,7 +195,7 @@ module _ (R : Rules) (L : Laws R) (p : Snapshot) (k : Sound R p) (s : State) (i 
     probed (waiting y) q = by-test (FitsOn (probe a j)) (is_news R own.stored a (junior R j t))
         (λ _. record {
           turns = same-stage R p s t c _ refl (λ f _. absurd (true≢false (sym (told-member y q) ∙ f)));
-          allowed = every-cons (awaited_of_member R L p k t y (told-member y q) (waits-no-victim y q) (c.waited t y q), tt) every-nil;
+          allowed = every-cons (awaited_of_member R L p k t y (told-member y q) (waits_no_victim y q) (c.waited t y q), tt) every-nil;
           covered = omega arith;
         })
         (λ _. drops (probe a j))

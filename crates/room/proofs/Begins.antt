@@ -53,7 +53,7 @@ module _ (R : Rules) (L : Laws R) (s : State) (k : Invariant R s) (d : Tidy R s)
     all-probes = every-fromSession t (every-stored (λ y m. ProbeFrom t x (entry true t y m)) (s.session t).stored x (one_to R.S) (λ i j. probe_from));
     few = omega (arith, stored-few t x (s.session t).stored (one_to R.S), length-one_to R.S);
     stage = rw (eqb_self t) refl;
-    no-victim = λ u. by-test (λ (r : Session). is_victim r.stage ≡ 0) (eqb t u) (λ _. refl) (λ _. none-victim R L s k e d u);
+    no_victim = λ u. by-test (λ (r : Session). is_victim r.stage ≡ 0) (eqb t u) (λ _. refl) (λ _. none-victim R L s k e d u);
     has_no_cycle = none-cycle R L s k e;
   }
 
@@ -73,8 +73,8 @@ module _ (R : Rules) (L : Laws R) (s : State) (k : Invariant R s) (d : Tidy R s)
     sound = record {
       sessions = omega arith;
       invariant = k;
-      no-own-probe = d.own-stored;
-      no-victim = none-victim R L s k e d;
+      no_own-probe = d.own-stored;
+      no_victim = none-victim R L s k e d;
       member-reached = λ u m. subst (Walk E t) (sym (eqb-true u t m)) rest;
       reached-member = λ u w. eq-eqb u t (walk-still still w);
       cycle_or_still = inr still;

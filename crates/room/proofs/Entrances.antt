@@ -7,7 +7,7 @@ use native.Mathlib.Omega.{arith}
 use lib.Dec.{eqb}
 use borrow.Author.Tests.{ne_eqb}
 use Rattle.lists.specs.Lists.{member, sum_up_to}
-use Rattle.lists.proofs.Searches.{sum_less, sum_mono, sum-single, sum-some, sum-swap, sum-term}
+use Rattle.lists.proofs.Searches.{sum_less, sum_mono, sum-single, sum-some, sum_swap, sum-term}
 use Rattle.lists.proofs.Tests.{and_both, by_answer, by-test, eqb_self, same?}
 use Rattle.deadlock.specs.Lists.{bit}
 use Rattle.deadlock.specs.Machine.{is_live, Laws, Rules}
@@ -46,7 +46,7 @@ module _ (R : Rules) (L : Laws R) (p : Snapshot) (k : Sound R p) where
   part_le i t = by-test (λ (n : ℕ). n ≤ 2) (p.member t) (λ _. omega (arith, bit_le (eqb t i))) (λ _. cases (same? t i))
     where
       cases : Dec (t ≡ i) → 2 * bit (eqb t i) + is_stored (p.state.session t).stored i ≤ 2
-      cases (yes q) = omega (arith, bit_le (eqb t i), ap (λ (n : ℕ). bit (not (eqb n 0))) (ap (p.state.session t).stored (sym q) ∙ k.no-own-probe t))
+      cases (yes q) = omega (arith, bit_le (eqb t i), ap (λ (n : ℕ). bit (not (eqb n 0))) (ap (p.state.session t).stored (sym q) ∙ k.no_own-probe t))
       cases (no q) = omega (arith, ap bit (ne_eqb t i q), bit_le (not (eqb ((p.state.session t).stored i) 0)))
 
   -- whoever stands in a queue is live
@@ -54,7 +54,7 @@ module _ (R : Rules) (L : Laws R) (p : Snapshot) (k : Sound R p) where
   queued-live t y lo hi q =
       let a = (p.state.session t).stage in
       let f = (links★ R L p k).linked t y lo hi in
-      bit-one (is_live a) (omega (arith, q, seen-facts a y, stage-facts a, k.no-victim t))
+      bit-one (is_live a) (omega (arith, q, seen-facts a y, stage-facts a, k.no_victim t))
 
   -- i leads to t, which waits for a member at item y; if t itself is a member it is i
   record Enters (i t y : ℕ) : Type 0 where
@@ -140,7 +140,7 @@ module _ (R : Rules) (L : Laws R) (p : Snapshot) (k : Sound R p) where
 
   queue_le : (y : ℕ) → cond (of_member p y) (queue_weight R p y) 0 ≤ sum_up_to R.S (λ i. sum_up_to R.S (term i y))
   unfolding queue_weight
-  queue_le y = rw (sum-swap R.S R.S (λ i t. term i y t)) (by-test (λ (n : ℕ). n ≤ sum_up_to R.S (λ t. sum_up_to R.S (λ i. term i y t))) (of_member p y) (λ o. sum_mono R.S _ _ (each o)) (λ _. zero-le))
+  queue_le y = rw (sum_swap R.S R.S (λ i t. term i y t)) (by-test (λ (n : ℕ). n ≤ sum_up_to R.S (λ t. sum_up_to R.S (λ i. term i y t))) (of_member p y) (λ o. sum_mono R.S _ _ (each o)) (λ _. zero-le))
     where
       each : of_member p y ≡ true → (t : ℕ) → 1 ≤ t → t ≤ R.S → cond (member t (p.state.item y).queue) (own_weight R p t) 0 ≤ sum_up_to R.S (λ i. term i y t)
       each o t lo hi = by-test (λ (n : ℕ). n ≤ sum_up_to R.S (λ i. term i y t)) (member t (p.state.item y).queue) (λ m. rw (o, m) (own_le t lo hi)) (λ _. zero-le)
@@ -149,6 +149,6 @@ module _ (R : Rules) (L : Laws R) (p : Snapshot) (k : Sound R p) where
   entrances = omega (
     arith,
     sum_mono R.M (λ y. cond (of_member p y) (queue_weight R p y) 0) (λ y. sum_up_to R.S (λ i. sum_up_to R.S (term i y))) (λ y _ _. queue_le y),
-    sum-swap R.M R.S (λ y i. sum_up_to R.S (term i y)),
+    sum_swap R.M R.S (λ y i. sum_up_to R.S (term i y)),
     sum_le R.S 2 (λ i. sum_up_to R.M (λ y. sum_up_to R.S (term i y))) initiator_le,
   )

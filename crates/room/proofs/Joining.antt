@@ -58,9 +58,9 @@ length-sum (e ∷ l) = omega (arith, length-sum l)
 abbrev pub OneSingle : Sends → Type 0
 OneSingle l = (sent_weight (λ _ _. 1) l ≤ 1) × Every (λ (p : ℕ × Message). Single p.1) l
 
-pub no-single : OneSingle []
+pub no_single : OneSingle []
 unfolding sent_weight
-no-single = (omega arith, every-nil)
+no_single = (omega arith, every-nil)
 
 pub one_single : (x : ℕ) (m : Message) → Single m → OneSingle ((x, m) ∷ [])
 unfolding sent_weight
@@ -174,7 +174,7 @@ module _ (R : Rules) (s : State) (k : Invariant R s) (d : Tidy R s) (a : Asked R
         single.0,
         a.few,
       );
-      no-victim = a.no-victim;
+      no_victim = a.no_victim;
       one-cycle = cycle_through T edge-split a.has_no_cycle;
     }
       where
@@ -191,7 +191,7 @@ module _ (R : Rules) (s : State) (k : Invariant R s) (d : Tidy R s) (a : Asked R
       (λ b w. absurd (omega (arith, w, ap (occurs b) (k.core.idle X e)))) (inl refl)
   granted_or_queued (some h) e =
       joined (grant_or_queue R T (s.item X).queue (some h)) h refl
-      (by-test OneSingle (R.senior T h) (λ _. one_single h (probe T h) single_probe) (λ _. no-single))
+      (by-test OneSingle (R.senior T h) (λ _. one_single h (probe T h) single_probe) (λ _. no_single))
       (λ b w. cases b w (same? T b)) (inr (omega (arith, occurs-last-same T (s.item X).queue)))
     where
       cases : (b : ℕ) → 1 ≤ occurs b ((s.item X).queue ++ T ∷ []) → Dec (T ≡ b) → ((1 ≤ occurs b (s.item X).queue) × ((s.item X).holder ≡ some h)) ⊎ (b ≡ T)

@@ -38,8 +38,8 @@ module _ (R : Rules) (L : Laws R) (p : Snapshot) (k : Sound R p) where
   Still = (b : ℕ) → Edge★ p.victim b → ⊥
 
   -- where it does so it is the only member
-  still-alone : Still → (t : ℕ) → p.member t ≡ true → t ≡ p.victim
-  still-alone q t m = walk-still q (k.member-reached t m)
+  still_alone : Still → (t : ℕ) → p.member t ≡ true → t ≡ p.victim
+  still_alone q t m = walk-still q (k.member-reached t m)
 
   -- a member other than the victim lies on a cycle
   member-cycle : (t : ℕ) → p.member t ≡ true → t ≢ p.victim → FirstApart Edge★ t t
@@ -47,7 +47,7 @@ module _ (R : Rules) (L : Laws R) (p : Snapshot) (k : Sound R p) where
     where
       cases : FirstApart Edge★ p.victim p.victim ⊎ Still → FirstApart Edge★ t t
       cases (inl c) = cycle-turned (one-edge links★) c (k.member-reached t m)
-      cases (inr q) = absurd (ne (still-alone q t m))
+      cases (inr q) = absurd (ne (still_alone q t m))
 
   -- every member leads to the victim
   pub member_back : (t : ℕ) → p.member t ≡ true → Walk Edge★ t p.victim
@@ -55,7 +55,7 @@ module _ (R : Rules) (L : Laws R) (p : Snapshot) (k : Sound R p) where
     where
       cases : FirstApart Edge★ p.victim p.victim ⊎ Still → Walk Edge★ t p.victim
       cases (inl c) = cycle-back (one-edge links★) c (k.member-reached t m)
-      cases (inr q) = rw (still-alone q t m) rest
+      cases (inr q) = rw (still_alone q t m) rest
 
   -- two members do not wait for the same session
   pub one-before : (t u h : ℕ) → p.member t ≡ true → p.member u ≡ true → Edge★ t h → Edge★ u h → t ≡ u
@@ -63,7 +63,7 @@ module _ (R : Rules) (L : Laws R) (p : Snapshot) (k : Sound R p) where
     where
       cases : FirstApart Edge★ p.victim p.victim ⊎ Still → t ≡ u
       cases (inl c) = cycle-one-way-in (one-edge links★) c (k.member-reached t m) (k.member-reached u n) e f
-      cases (inr q) = still-alone q t m ∙ sym (still-alone q u n)
+      cases (inr q) = still_alone q t m ∙ sym (still_alone q u n)
 
   -- an item held by a member
   pub is_of_member : (x h : ℕ) → HolderIs (world_of p.state) x h → p.member h ≡ true → of_member p x ≡ true

@@ -29,7 +29,7 @@ use Rattle.bound.proofs.Ranges.{came}
 use Rattle.bound.proofs.Sent.{sent_weight}
 use Rattle.room.specs.Snapshot.{NoVictim}
 use Rattle.room.specs.Phases.{Asked, HeldFrom, Phase, probing, Probing, Single, single_abort, single_grant, single_probe, Tidy}
-use Rattle.room.proofs.Joining.{first_taken, length-sum, no-single, one_single, OneSingle, only-route, request-done}
+use Rattle.room.proofs.Joining.{first_taken, length-sum, no_single, one_single, OneSingle, only-route, request-done}
 use Rattle.room.proofs.Holders.{told-cycle}
 use Rattle.room.proofs.Told.{told-phase}
 
@@ -47,11 +47,11 @@ asked-goes-on R s k d a (deliver_to_item t x) e =
 
 -- ---- probes, aborts and grants
 -- none of them is a request
-no-request : {Q : Entry → Type 0} (d : Bool) (t x : ℕ) {l : List Entry} → Every (λ (e : Entry). Single e.message × Q e) l → count_kind Kind.request (route d t x l) ≡ 0
+no_request : {Q : Entry → Type 0} (d : Bool) (t x : ℕ) {l : List Entry} → Every (λ (e : Entry). Single e.message × Q e) l → count_kind Kind.request (route d t x l) ≡ 0
 unfolding count_kind route
-no-request d t x every-nil = refl
-no-request d t x (every-cons {a} {l} h k) =
-    by-test (λ (q : List Message). count_kind Kind.request q ≡ 0) (is_on_route d t x a) (λ _. omega (arith, other a.message h.0, no-request d t x k)) (λ _. no-request d t x k)
+no_request d t x every-nil = refl
+no_request d t x (every-cons {a} {l} h k) =
+    by-test (λ (q : List Message). count_kind Kind.request q ≡ 0) (is_on_route d t x a) (λ _. omega (arith, other a.message h.0, no_request d t x k)) (λ _. no_request d t x k)
   where
     other : (m : Message) → Single m → bit (eqb (kind_of m) Kind.request) ≡ 0
     other _ single_probe = refl
@@ -68,7 +68,7 @@ module _ (R : Rules) (s : State) (a : Probing R s) where
     from = a.from;
     mail = every_map held-still m;
     few = f;
-    no-victim = nv;
+    no_victim = nv;
     one-cycle = λ v c. walk-map along (a.one-cycle v (record { next = c.next; out = edge-against R s.item r.item same v c.next c.out; walk = walk-map (edge-against R s.item r.item same) c.walk }));
   }
     where
@@ -85,16 +85,16 @@ module _ (R : Rules) (s : State) (a : Probing R s) where
 
     passes : (i j : ℕ) (h : Option ℕ) → OneSingle (pass_probe R i j h)
     unfolding pass_probe
-    passes i j none = no-single
+    passes i j none = no_single
     passes i j (some h) =
-        by-test OneSingle (R.senior h i) (λ _. no-single)
+        by-test OneSingle (R.senior h i) (λ _. no_single)
         (λ _. by-test OneSingle (eqb h i) (λ _. one_single j (abort j i) single_abort) (λ _. one_single h (probe i j) single_probe))
 
     kept : (m : Message) → Single m → Kept (item_receives R t (s.item x) m)
     unfolding item_receives
-    kept _ (single_probe {i} {j}) = (refl, by-test OneSingle (in_queue R t (s.item x)) (λ _. passes i j (s.item x).holder) (λ _. no-single))
-    kept _ single_abort = (refl, no-single)
-    kept _ single_grant = (refl, no-single)
+    kept _ (single_probe {i} {j}) = (refl, by-test OneSingle (in_queue R t (s.item x)) (λ _. passes i j (s.item x).holder) (λ _. no_single))
+    kept _ single_abort = (refl, no_single)
+    kept _ single_grant = (refl, no_single)
 
   -- ---- at a session
   module _ (t x : ℕ) (m : Message) (l : List Entry) (e : take_first false t x s.mailbox ≡ taken m l) where
@@ -106,7 +106,7 @@ module _ (R : Rules) (s : State) (a : Probing R s) where
         → Every (λ (p : ℕ × Message). Single p.1 × HeldFrom R s a.from p.0) o.sends → Phase R (after_session s t l o)
     unfolding after_session updated
     session-on o nv f h = probing (goes_on (after_session s t l o) (λ z. refl)
-        (λ u. by-test (λ (r : Session). is_victim r.stage ≡ 0) (eqb t u) (λ _. nv) (λ _. a.no-victim u))
+        (λ u. by-test (λ (r : Session). is_victim r.stage ≡ 0) (eqb t u) (λ _. nv) (λ _. a.no_victim u))
         (every_append heard.1 (every-fromSession t h))
         (omega (
           arith,
@@ -118,12 +118,12 @@ module _ (R : Rules) (s : State) (a : Probing R s) where
         )))
 
     dropped : Phase R (after_session s t l (session_drops (s.session t)))
-    dropped = session-on (session_drops (s.session t)) (a.no-victim t) no-single.0 every-nil
+    dropped = session-on (session_drops (s.session t)) (a.no_victim t) no_single.0 every-nil
 
     granted : (b : Stage) → Phase R (after_session s t l (on_grant R x (s.session t) b))
     unfolding on_grant
     granted growing = dropped
-    granted (waiting y) = by-test (λ (o : SessionStep). Phase R (after_session s t l o)) (eqb y x) (λ _. session-on _ refl no-single.0 every-nil) (λ _. dropped)
+    granted (waiting y) = by-test (λ (o : SessionStep). Phase R (after_session s t l o)) (eqb y x) (λ _. session-on _ refl no_single.0 every-nil) (λ _. dropped)
     granted (victim p y) = dropped
     granted (releasing p) = dropped
 
@@ -155,23 +155,23 @@ module _ (R : Rules) (s : State) (a : Probing R s) where
               record { holder = h.0; held = h.1; walk = onward leads-here (record { item = y; low = range.0; high = range.1; stands = w; held = h.1 }) }
           cases (inl z) =
               let f = k.core.links.linked t y range.0 range.1 in
-              let h = bit-one (held_by (s.item y).holder t) (omega (arith, ap (λ (b : Stage). waits b y) q, ap bit (eqb_self y), no-request true t y a.mail)) in
+              let h = bit-one (held_by (s.item y).holder t) (omega (arith, ap (λ (b : Stage). waits b y) q, ap bit (eqb_self y), no_request true t y a.mail)) in
               record { holder = t; held = is_held_by (s.item y).holder t h; walk = leads-here }
 
       passed_on : (n : ℕ) (b : Stage) → (s.session t).stage ≡ b
           → (sent_weight (λ _ _. 1) (to_awaited b (probe i n)) ≤ 1) × Every (λ (p : ℕ × Message). Single p.1 × HeldFrom R s a.from p.0) (to_awaited b (probe i n))
       unfolding to_awaited
-      passed_on n growing q = (no-single.0, every-nil)
+      passed_on n growing q = (no_single.0, every-nil)
       passed_on n (waiting y) q = ((one_single y (probe i n) single_probe).0, every-cons (single_probe, awaited-held y q) every-nil)
-      passed_on n (victim p y) q = absurd (omega (arith, a.no-victim t, ap is_victim q))
-      passed_on n (releasing p) q = (no-single.0, every-nil)
+      passed_on n (victim p y) q = absurd (omega (arith, a.no_victim t, ap is_victim q))
+      passed_on n (releasing p) q = (no_single.0, every-nil)
 
       stored : Phase R (after_session s t l (store_probe R (s.session t) i (junior R j t) (to_awaited (s.session t).stage (probe i (junior R j t)))))
       unfolding store_probe
       stored =
           let f = passed_on (junior R j t) (s.session t).stage refl in
           by-test (λ (o : SessionStep). Phase R (after_session s t l o)) (is_news R (s.session t).stored i (junior R j t))
-          (λ _. session-on t x (probe i j) l e _ (a.no-victim t) f.0 f.1) (λ _. dropped t x (probe i j) l e)
+          (λ _. session-on t x (probe i j) l e _ (a.no_victim t) f.0 f.1) (λ _. dropped t x (probe i j) l e)
 
     module _ (t x : ℕ) (tlo : 1 ≤ t) (thi : t ≤ R.S) (l : List Entry) where
       probed : (i j : ℕ) → take_first false t x s.mailbox ≡ taken (probe i j) l → Phase R (after_session s t l (on_probe R t (s.session t) i j (s.session t).stage))
@@ -201,7 +201,7 @@ item-probes R s a t x m l e =
     let q = every_take true t x m l a.mail e in
     let o = item_receives R t (s.item x) m in
     let f = kept R s a t x m q.0.0 in
-    goes_on R s a (after_item s x l o) (λ z. ap (λ (y : Item). updated s.item x y z) f.0 ∙ updated-unchanged s.item x z) a.no-victim
+    goes_on R s a (after_item s x l o) (λ z. ap (λ (y : Item). updated s.item x y z) f.0 ∙ updated-unchanged s.item x z) a.no_victim
     (every_append q.1 (every-fromItem x (every_map (λ p z. (z, q.0.1)) f.1.1)))
     (omega (
       arith,

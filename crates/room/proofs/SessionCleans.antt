@@ -32,7 +32,7 @@ use Rattle.room.specs.Phases.{Allowed, Clearing}
 use Rattle.room.proofs.Sending.{every-each, sent-each, Sent}
 use Rattle.room.proofs.Members.{awaited_of_member, Edge★, links★, member-next, is_of_member, one-before}
 use Rattle.room.proofs.Holders.{edge_then, held_then, holder_then, the_victim}
-use Rattle.room.proofs.SessionKept.{dropped, Fits, same-stage, waits-no-more}
+use Rattle.room.proofs.SessionKept.{dropped, Fits, same-stage, waits_no_more}
 
 -- nothing stored
 none-stored : (R : Rules) → stored_count R (λ (_ : ℕ). 0) ≡ 0
@@ -99,9 +99,9 @@ module _ (R : Rules) (L : Laws R) (p : Snapshot) (k : Sound R p) (s : State) (i 
     unfolding holder_at
     holder-at y h = rw h refl
 
-    no-more-up : (y : ℕ) → (p.state.item y).holder ≡ some t → ahead_up p t y ≡ false
+    no_more-up : (y : ℕ) → (p.state.item y).holder ≡ some t → ahead_up p t y ≡ false
     unfolding ahead_up
-    no-more-up y h = rw (holder-at y h, left_here) (le-ltb (p.far t) (p.far t) (omega arith))
+    no_more-up y h = rw (holder-at y h, left_here) (le-ltb (p.far t) (p.far t) (omega arith))
 
     ahead-held : (y : ℕ) → (p.state.item y).holder ≡ some t → not (eqb y x) ≡ true → ahead_down p t x y ≡ true
     unfolding ahead_down
@@ -124,7 +124,7 @@ module _ (R : Rules) (L : Laws R) (p : Snapshot) (k : Sound R p) (s : State) (i 
     unfolding pass_weight
     each-covered y lo hi = term-left (others y) (ahead_up p t y) (ahead_down p t x y) (of_member p y) (of_victim p y) (queue_weight R p y)
         (λ h. let q = holder-here y lo hi h in (
-          no-more-up y q,
+          no_more-up y q,
           (ahead-held y q (and_both ((s.session t).held y) (not (eqb y x)) h).1, (is_of_member R L p k y t q here-member, not_victim's y q)),
         ))
         (up-down y)
@@ -140,8 +140,8 @@ module _ (R : Rules) (L : Laws R) (p : Snapshot) (k : Sound R p) (s : State) (i 
     )
 
     -- no member stands in the queues of those items: members wait for t at item x only
-    no-member-there : (y b : ℕ) → 1 ≤ y → y ≤ R.M → others y ≡ true → p.member b ≡ true → occurs b (p.state.item y).queue ≡ 0
-    no-member-there y b lo hi h m = cases (zero-or-more (occurs b (p.state.item y).queue))
+    no_member-there : (y b : ℕ) → 1 ≤ y → y ≤ R.M → others y ≡ true → p.member b ≡ true → occurs b (p.state.item y).queue ≡ 0
+    no_member-there y b lo hi h m = cases (zero-or-more (occurs b (p.state.item y).queue))
       where
         cases : (occurs b (p.state.item y).queue ≡ 0) ⊎ (1 ≤ occurs b (p.state.item y).queue) → occurs b (p.state.item y).queue ≡ 0
         cases (inl z) = z
@@ -155,7 +155,7 @@ module _ (R : Rules) (L : Laws R) (p : Snapshot) (k : Sound R p) (s : State) (i 
     rebroadcasts-allowed : Sent (λ y m. Allowed p (entry true t y m)) (rebroadcasts R x (s.session t))
     unfolding rebroadcasts
     rebroadcasts-allowed = every-each (λ y m. Allowed p (entry true t y m)) (up rebroadcast) others R.M
-        (λ y lo hi h. (is_of_member R L p k y t (holder-here y lo hi h) here-member, λ b m. no-member-there y b lo hi h m))
+        (λ y lo hi h. (is_of_member R L p k y t (holder-here y lo hi h) here-member, λ b m. no_member-there y b lo hi h m))
 
   -- a session that keeps its stage, its probes cleared
   cleared-fits : (o : Sends) → Sent (λ y m. Allowed p (entry true t y m)) o → sent_weight (λ y m. weight R p true t y m) o ≤ weight R p false t x (clean v a)
@@ -188,7 +188,7 @@ module _ (R : Rules) (L : Laws R) (p : Snapshot) (k : Sound R p) (s : State) (i 
       (omega (arith, rebroadcasts_weigh ne, sent-append (λ y m. weight R p true t y m) (rebroadcasts R x (s.session t)) ((y, clean v a) ∷ [])))
   cleaned (victim cleaning y) q = by-test (Fits R p s t x (clean v a)) (eqb v t)
       (λ w. record {
-        turns = waits-no-more R p s t _ refl (λ _. omega arith) (rw q (omega arith)) (λ ne. absurd (ne (sym (eqb-true v t w) ∙ is_the_victim)));
+        turns = waits_no_more R p s t _ refl (λ _. omega arith) (rw q (omega arith)) (λ ne. absurd (ne (sym (eqb-true v t w) ∙ is_the_victim)));
         allowed = every-cons (victim-awaits y q (eqb-true v t w), tt) every-nil;
         covered = omega arith;
       })

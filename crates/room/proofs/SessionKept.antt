@@ -42,9 +42,9 @@ module _ (R : Rules) (p : Snapshot) (s : State) (t : ℕ) where
       pub covered : sent_weight (λ y a. weight R p true t y a) o.sends ≤ weight R p false t x m
 
   -- the new stage is not waiting
-  pub waits-no-more : (r : Session) → is_waiting r.stage ≡ 0 → (t ≡ p.victim → 1 ≤ is_victim r.stage + may_release r.stage)
+  pub waits_no_more : (r : Session) → is_waiting r.stage ≡ 0 → (t ≡ p.victim → 1 ≤ is_victim r.stage + may_release r.stage)
       → may_release (s.session t).stage ≤ may_release r.stage → (t ≢ p.victim → is_victim r.stage ≡ 0) → Turns r
-  waits-no-more r n f g h = record {
+  waits_no_more r n f g h = record {
     victim-stays = f;
     over-stays = g;
     no_other = h;

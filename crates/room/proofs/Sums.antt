@@ -7,7 +7,7 @@ use native.Mathlib.Omega.{arith}
 use lib.Dec.{eqb}
 use borrow.Author.Tests.{eqb-true, ne_eqb}
 use Rattle.lists.specs.Lists.{member, sum_up_to}
-use Rattle.lists.proofs.Searches.{sum-changed}
+use Rattle.lists.proofs.Searches.{sum_changed}
 use Rattle.lists.proofs.Tests.{by-test, eqb_self}
 use Rattle.deadlock.specs.Lists.{bit, occurs, without}
 use Rattle.deadlock.specs.Counts.{sum_over}
@@ -26,7 +26,7 @@ different_sum n (b ∷ l) f g once range le =
     omega (
       arith,
       le b (omega arith),
-      sum-changed n b g other r.0 r.1 (λ a ne. rw (ne_eqb a b (λ z. ne (sym z))) refl),
+      sum_changed n b g other r.0 r.1 (λ a ne. rw (ne_eqb a b (λ z. ne (sym z))) refl),
       different_sum n l f other (λ a. omega (arith, once a)) (λ a h. range a (omega arith))
           (λ a h. by-test (λ (c : ℕ). f a ≤ c) (eqb a b)
           (λ e. let q = eqb-true a b e in absurd (omega (arith, once b, ap (λ (c : ℕ). occurs c l) q))) (λ _. le a (omega arith))),

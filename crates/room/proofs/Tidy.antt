@@ -67,7 +67,7 @@ TidySent q a p = (probes_by a p ≡ 0) × ((count_kind Kind.grant p ≡ 0) ⊎ (
 
 -- behind what is on its way to a
 appended : (q p : List Message) (a : ℕ) → TidyRoute a q → TidySent q a p → TidyRoute a (q ++ p)
-appended q p a (z, y) (h, inl no-grant) = (omega (arith, probesBy-append a q p), omega (arith, countBehind-none Kind.probe Kind.grant q p no-grant))
+appended q p a (z, y) (h, inl no_grant) = (omega (arith, probesBy-append a q p), omega (arith, countBehind-none Kind.probe Kind.grant q p no_grant))
 appended q p a (z, y) (h, inr (free, first)) = (omega (arith, probesBy-append a q p), omega (arith, countBehind-first Kind.probe Kind.grant q p free))
 
 -- ---- probes on their way to a session
@@ -84,16 +84,16 @@ not-probe (clean v i) c = refl
 not-probe (abort v i) c = refl
 
 -- a session that does not hold the item is told of no probe there
-no-probe : (R : Rules) (w : World) (t x : ℕ) {q : List Message} → EachBehind (TellsDown R w t x) q → (HolderIs w x t → ⊥) → count_kind Kind.probe q ≡ 0
+no_probe : (R : Rules) (w : World) (t x : ℕ) {q : List Message} → EachBehind (TellsDown R w t x) q → (HolderIs w x t → ⊥) → count_kind Kind.probe q ≡ 0
 unfolding count_kind
-no-probe R w t x behind-nil h = refl
-no-probe R w t x (behind-cons {m} c r) h = omega (arith, ap bit (not-probe m (ofProbe-map (λ i j came. h came.held) m c)), no-probe R w t x r h)
+no_probe R w t x behind-nil h = refl
+no_probe R w t x (behind-cons {m} c r) h = omega (arith, ap bit (not-probe m (ofProbe-map (λ i j came. h came.held) m c)), no_probe R w t x r h)
 
 -- ---- an item
 module _ (R : Rules) (L : Laws R) (s : State) (k : Invariant R s) where
-  waiting-no-probe : (t x : ℕ) → 1 ≤ is_waiting (s.session t).stage → (HolderIs (world_of s) x t → ⊥) → count_kind Kind.probe (down_route s t x) ≡ 0
-  waiting-no-probe t x wait h =
-      no-probe R (world_of s) t x (k.core.probes.down-true t x (bit-one _ (omega (arith, wait, stage-facts (s.session t).stage)))) h
+  waiting_no_probe : (t x : ℕ) → 1 ≤ is_waiting (s.session t).stage → (HolderIs (world_of s) x t → ⊥) → count_kind Kind.probe (down_route s t x) ≡ 0
+  waiting_no_probe t x wait h =
+      no_probe R (world_of s) t x (k.core.probes.down-true t x (bit-one _ (omega (arith, wait, stage-facts (s.session t).stage)))) h
 
   module _ (t x : ℕ) (lo : 1 ≤ x) (hi : x ≤ R.M) where
     abbrev TidySends : Sends → Type 0
@@ -126,17 +126,17 @@ module _ (R : Rules) (L : Laws R) (s : State) (k : Invariant R s) where
         → TidySends (grant_or_queue R t (s.item x).queue o).sends
     unfolding grant_or_queue
     requested l e none q =
-        granted t (waiting-no-probe t x (request-is-waiting L (known_of R L s k.core) t x lo hi (mail_of s) (route true t x l) (head (up request) l e))
+        granted t (waiting_no_probe t x (request-is-waiting L (known_of R L s k.core) t x lo hi (mail_of s) (route true t x l) (head (up request) l e))
         (λ h. let z : ◌≡◌ {A = ℕ} 0 1 = cc in absurd (omega arith))) every-nil
     requested l e (some h) q = by-test TidySends (R.senior t h) (λ z. plain (every-cons (senior-plain t h z) every-nil)) (λ _. plain every-nil)
 
     -- whoever stands in the queue of an item that is released waits, and is told of no probe there
-    next-no-probe : (l : List Entry) → take_first true t x s.mailbox ≡ taken (up release) l → (n : ℕ) → Queued (world_of s) n x → count_kind Kind.probe (down_route s n x) ≡ 0
-    next-no-probe l e n stands =
+    next_no_probe : (l : List Entry) → take_first true t x s.mailbox ≡ taken (up release) l → (n : ℕ) → Queued (world_of s) n x → count_kind Kind.probe (down_route s n x) ≡ 0
+    next_no_probe l e n stands =
         let known = known_of R L s k.core in
         let hd = head (up release) l e in
         let holds : HolderIs (world_of s) x t = release-holder L known t x lo hi (mail_of s) (route true t x l) hd in
-        waiting-no-probe n x (released-waits R L s k.core t x lo hi l e n stands)
+        waiting_no_probe n x (released-waits R L s k.core t x lo hi l e n stands)
         (λ h. release-no-edge L known t x lo hi (mail_of s) (route true t x l) hd t
         (record { item = x; low = lo; high = hi; stands = (let q : t ≡ n = cc in rw q stands); held = holds }))
 
@@ -145,7 +145,7 @@ module _ (R : Rules) (L : Laws R) (s : State) (k : Invariant R s) where
     released l e [] q = plain every-nil
     released l e (b ∷ bs) q =
         let n = R.next b bs in
-        granted n (next-no-probe l e n (rw q (member-occurs n (b ∷ bs) (L.next-member b bs)))) (anew n (without n (b ∷ bs)) (without n (b ∷ bs)))
+        granted n (next_no_probe l e n (rw q (member-occurs n (b ∷ bs) (L.next-member b bs)))) (anew n (without n (b ∷ bs)) (without n (b ∷ bs)))
 
     rebroadcasted : (l : List ℕ) (o : Option ℕ) → TidySends (on_rebroadcast R l o)
     unfolding on_rebroadcast

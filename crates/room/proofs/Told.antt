@@ -107,8 +107,8 @@ module _ (R : Rules) (L : Laws R) (s : State) (k : Invariant R s) (d : Tidy R s)
   told-sound = record {
     sessions = omega arith;
     invariant = k;
-    no-own-probe = d.own-stored;
-    no-victim = a.no-victim;
+    no_own-probe = d.own-stored;
+    no_victim = a.no_victim;
     member-reached = on_this;
     reached-member = this_member;
     cycle_or_still = inl o.cycle;
@@ -140,7 +140,7 @@ module _ (R : Rules) (L : Laws R) (s : State) (k : Invariant R s) (d : Tidy R s)
 
     pub told-phase : Phase R (after_session s t l victim_step)
     unfolding from_session mail_weight weight capacity_bound mail_sum
-    told-phase = clearing told told-sound (clears_from R told a.no-victim l victim_step (omega arith)
+    told-phase = clearing told told-sound (clears_from R told a.no_victim l victim_step (omega arith)
         (every_append (every_map allowed m) (every-cons (awaited-member y q, tt) every-nil))
         (omega (
           arith,

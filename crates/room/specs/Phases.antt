@@ -35,7 +35,7 @@ pub record Asked (R : Rules) (s : State) : Type 0 where
   pub all-probes : Every (ProbeFrom session item) probes
   pub few : length probes ≤ R.S
   pub stage : (s.session session).stage ≡ waiting item
-  pub no-victim : NoVictim s
+  pub no_victim : NoVictim s
   pub has_no_cycle : (v : ℕ) → FirstApart (Edge R (world_of s)) v v → ⊥
 
 -- ---- probes on their way
@@ -57,7 +57,7 @@ pub record Probing (R : Rules) (s : State) : Type 0 where
   pub from : ℕ
   pub mail : Every (λ (e : Entry). Single e.message × HeldFrom R s from e.item) s.mailbox
   pub few : length s.mailbox ≤ R.S + 1
-  pub no-victim : NoVictim s
+  pub no_victim : NoVictim s
   pub one-cycle : (v : ℕ) → FirstApart (Edge R (world_of s)) v v → Walk (Edge R (world_of s)) v from
 
 -- ---- a cycle dissolved, or an item handed over

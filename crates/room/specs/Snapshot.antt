@@ -62,9 +62,9 @@ pub record Sound (R : Rules) (p : Snapshot) : Type 0 where
   -- the invariant holds in it
   pub invariant : Invariant R p.state
   -- nobody stores a probe of its own
-  pub no-own-probe : (t : ℕ) → (p.state.session t).stored t ≡ 0
+  pub no_own-probe : (t : ℕ) → (p.state.session t).stored t ≡ 0
   -- nobody is a victim yet
-  pub no-victim : NoVictim p.state
+  pub no_victim : NoVictim p.state
   -- the members are the sessions that are reached from the victim
   pub member-reached : (u : ℕ) → p.member u ≡ true → Walk (Edge R (world_of p.state)) p.victim u
   pub reached-member : (u : ℕ) → Walk (Edge R (world_of p.state)) p.victim u → p.member u ≡ true

@@ -21,9 +21,9 @@ use Rattle.message.specs.Kind
 use Rattle.message.specs.declared.Message.{Message}
 use Rattle.message.specs.Outbox.{message, plain}
 use Rattle.session.specs.declared.Session.{Session}
-use Rattle.session.specs.Record.{size, session_at, session_bytes, put_session, stored}
+use Rattle.session.specs.Record.{size, session_at, session_bytes, put_session}
 use Rattle.session.specs.Stage
-use Rattle.session.specs.Rules.{After, after, dropped, probes_from, stored_probes, to_held, requested, released, granted, resent, aborted, cleaned, cleaned_waiting, cleaned_victim, rolled_back, junior, kept_probe, probed, received}
+use Rattle.session.specs.Rules.{After, after, dropped, probes_from, stored_probes, stored, to_held, requested, released, granted, resent, aborted, cleaned, cleaned_waiting, cleaned_victim, rolled_back, junior, kept_probe, probed, received}
 
 -- what holds of both branches holds of the conditional
 pub either : {A : Type 0} (P : A → Type 0) (b : Bool) {x y : A} → P x → P y → P (cond b x y)

@@ -30,8 +30,8 @@ module _ {senior : ℕ → ℕ → Bool} (order : StrictWeak senior) (q : List �
 
   -- one session more, which is senior to the one that led, or is not
   module _ (i k : ℕ) (l : Leads senior q i k) where
-    pub leads-new : senior (get_or q i 0) (get_or q k 0) ≡ true → Leads senior q (suc i) i
-    leads-new e = record {
+    pub leads_new : senior (get_or q i 0) (get_or q k 0) ≡ true → Leads senior q (suc i) i
+    leads_new e = record {
       inside = omega arith;
       unsurpassed =
           below-and-at (λ j. senior (get_or q j 0) (get_or q i 0) ≡ false) i
@@ -62,7 +62,7 @@ module _ {senior : ℕ → ℕ → Bool} (order : StrictWeak senior) where
     leads-some (suc (suc i)) h =
         let p = leads-some (suc i) (omega arith) in
         by_answer (senior (get_or q (suc i) 0) (get_or q p.0 0))
-        (λ e. (suc i, leads-new order q (suc i) p.0 p.1 e)) (λ e. (p.0, leads-still order q (suc i) p.0 p.1 e))
+        (λ e. (suc i, leads_new order q (suc i) p.0 p.1 e)) (λ e. (p.0, leads-still order q (suc i) p.0 p.1 e))
 
     -- and it is the place defined
     pub leads-place : (i k : ℕ) → i ≤ length q → Leads senior q i k → most_senior senior (take i q) ≡ k

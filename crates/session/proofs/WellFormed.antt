@@ -1,18 +1,19 @@
 -- What a well-formed session record gives, fact by fact, and how one is made.
-use mathlib.Core.Path.{◌≡◌}
+use mathlib.Core.Path.{◌≡◌, refl}
 use mathlib.Core.Bool.{true, cond}
 use Prim.Native.Nat.{ℕ, ◌^◌, ◌≤◌, ◌<◌}
 use native.Mathlib.Omega.{arith}
 use lib.Dec.{eqb, leb, ltb}
-use lib.ListN.{length, take, drop, length-replicate}
-use lib.Pow.{pow_mono}
-use borrow.Author.Tests.{lt-ltb, ltb-true}
+use lib.ListN.{length, take, drop, replicate, length-replicate}
+use lib.Pow.{pow_pos, pow_mono}
+use borrow.Author.Tests.{le-leb, lt-ltb, ltb-true}
 use Rattle.lists.specs.Lists.{between, all_of}
+use Rattle.lists.proofs.Laws.{all_drop, all_replicate, all_take}
 use Rattle.lists.proofs.Tests.{and_both, and_intro, between_intro, within}
 use Rattle.message.specs.Limits.{max_sessions, max_items}
 use Rattle.session.specs.declared.Session.{Session}
 use Rattle.session.specs.Stage
-use Rattle.session.specs.Record.{well_formed, none}
+use Rattle.session.specs.Record.{well_formed, none, fresh}
 
 -- a session's record, of S sessions and M items
 pub record SessionWellFormed (S M : ℕ) (s : Session) : Type 0 where
@@ -50,6 +51,16 @@ module _ (S M : ℕ) where
     pub held_fits : M ≤ max_items → well_formed S M s ≡ true → s.held < 2 ^ 64
     held_fits h w = omega (arith, (session-facts w).held, pow_mono {i = M} {j = 64} h)
 
--- no stored probe
+  -- no stored probe
+  pub none-juniors : all_of (λ j. leb j S) (take S none) ≡ true
+  none-juniors = all_take (λ j. leb j S) S (replicate max_sessions 0) (all_replicate (λ j. leb j S) max_sessions 0 (le-leb 0 S (omega arith)))
+
+  pub none-zeros : all_of (λ j. eqb j 0) (drop S none) ≡ true
+  none-zeros = all_drop (λ j. eqb j 0) S (replicate max_sessions 0) (all_replicate (λ j. eqb j 0) max_sessions 0 refl)
+
+  -- every session of a lock manager that was just started
+  pub fresh-formed : well_formed S M fresh ≡ true
+  fresh-formed = session-formed fresh (record { stage-low = omega arith; stage-high = omega arith; awaited = refl; held = pow_pos M; juniors = none-juniors; zeros = none-zeros })
+
 pub none-length : length none ≡ max_sessions
 none-length = length-replicate {A = ℕ} max_sessions 0

@@ -1,9 +1,8 @@
 -- A session record: its bytes in the table, and when it is well-formed ("in form"). RULES is docs/RULES.md.
-use Rattle.std.specs.Prelude.{ℕ, ◌+◌, ◌-◌, ◌^◌, Bool, cond, not, ◌&&◌, ◌||◌, List, ◌∷◌, ◌++◌, eqb, ltb, leb, get_or, take, drop, replicate}
+use Rattle.std.specs.Prelude.{ℕ, ◌+◌, ◌^◌, Bool, cond, ◌&&◌, List, ◌∷◌, ◌++◌, eqb, ltb, leb, get_or, take, drop, replicate}
 use Rattle.buffer.specs.Bytes.{slice, from_bytes, to_bytes, splice}
-use Rattle.lists.specs.Lists.{between, every, all_of}
-use Rattle.bitset.specs.Bitset.{has}
-use Rattle.message.specs.Limits.{max_sessions, max_items}
+use Rattle.lists.specs.Lists.{between, all_of}
+use Rattle.message.specs.Limits.{max_sessions}
 use Rattle.session.specs.declared.Session.{Session}
 use Rattle.session.specs.Stage
 
@@ -41,10 +40,6 @@ put_session t at s = splice t at (session_bytes s)
 abbrev pub none : List ℕ
 none = replicate max_sessions 0
 
--- the junior of the probe stored for initiator i, or 0 for none
-abbrev pub stored : Session → ℕ → ℕ
-stored s i = get_or s.juniors (i - 1) 0
-
 -- the record with one field changed
 abbrev pub with_stage : ℕ → Session → Session
 with_stage n s = record { stage = n; awaited = s.awaited; held = s.held; juniors = s.juniors }
@@ -70,10 +65,3 @@ well_formed S M s =
     && ltb s.held (2 ^ M)
     && all_of (λ j. leb j S) (take S s.juniors)
     && all_of (λ j. eqb j 0) (drop S s.juniors)
-
--- of S sessions, the record names only sessions and items that pass two tests: its awaited item, its held items, and both sessions of each stored probe
-unfoldable pub within : ℕ → (ℕ → Bool) → (ℕ → Bool) → Session → Bool
-within S own ownItem s =
-    (eqb s.awaited 0 || ownItem s.awaited)
-    && every max_items (λ x. not (has x s.held) || ownItem x)
-    && every S (λ i. eqb (stored s i) 0 || own i && own (stored s i))

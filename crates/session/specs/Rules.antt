@@ -1,6 +1,6 @@
 -- What a session does: on the two calls that act on it, and on each message, by kind and then by stage. RULES is docs/RULES.md.
 -- T is the session itself, X the item that the call names or the message comes from.
-use Rattle.std.specs.Prelude.{ℕ, suc, ◌-◌, ◌≤◌, ◌≡◌, Bool, true, cond, not, ◌||◌, List, [], ◌∷◌, ◌++◌, map, eqb, set}
+use Rattle.std.specs.Prelude.{ℕ, suc, ◌-◌, ◌≤◌, ◌≡◌, Bool, true, cond, not, ◌||◌, List, [], ◌∷◌, ◌++◌, map, eqb, get_or, set}
 use Rattle.lists.specs.Lists.{filter}
 use Rattle.bitset.specs.Bitset.{insert, remove, members}
 use Rattle.message.specs.Limits.{max_items, IsSession}
@@ -10,7 +10,7 @@ use Rattle.message.specs.Outbox.{message, plain, outbox_of}
 use Rattle.session.specs.declared.Session.{Session}
 use Rattle.session.specs.declared.SessionStep.{SessionStep}
 use Rattle.session.specs.Stage
-use Rattle.session.specs.Record.{none, stored, with_stage, with_awaited, with_held, with_juniors}
+use Rattle.session.specs.Record.{none, with_stage, with_awaited, with_held, with_juniors}
 
 -- the record that follows, and what is sent, in order of sending
 pub record After : Type 0 where
@@ -40,6 +40,10 @@ probes_from x i (j ∷ js) = cond (eqb j 0) (probes_from x (suc i) js) (message 
 -- all stored probes by rising initiator, to item x
 abbrev pub stored_probes : Session → ℕ → List Message
 stored_probes s x = probes_from x 1 s.juniors
+
+-- the junior of the probe stored for initiator i, or 0 for none
+abbrev pub stored : Session → ℕ → ℕ
+stored s i = get_or s.juniors (i - 1) 0
 
 -- a message of one kind to every held item but x, by rising item number; no item has number 0, so with 0 none is left out
 unfoldable pub to_held : ℕ → ℕ → ℕ → List Message

@@ -1,17 +1,19 @@
 -- What a step that was judged knows of its buffers, and what it does by the tests that the code makes.
-use mathlib.Core.Path.{◌≡◌, refl}
-use mathlib.Core.Bool.{Bool, true, false, cond}
-use mathlib.Core.List.{List, [], ◌∷◌}
+use mathlib.Core.Path.{◌≡◌, refl, sym, ap, ◌∙◌}
+use mathlib.Core.Bool.{Bool, true, false, cond, false≢true, true≢false}
+use mathlib.Core.List.{List, [], ◌∷◌, ◌++◌, map}
 use mathlib.Core.Logic.{◌≢◌}
-use Prim.Native.Nat.{ℕ, zero, suc, ◌≤◌, ◌<◌}
+use Prim.Native.Nat.{ℕ, zero, suc, ◌+◌, ◌≤◌, ◌<◌}
 use native.Mathlib.Omega.{arith}
-use lib.Dec.{eqb}
-use lib.ListN.{length, get_or}
-use borrow.Author.Tests.{ne_eqb, eqb-true, eqb-false}
+use lib.Dec.{eqb, ltb}
+use lib.ListN.{length, get_or, length-append, length-map}
+use borrow.Author.Tests.{ne_eqb, eqb-true, eqb-false, ltb-false}
 use Rattle.lists.specs.Lists.{between, all_of, remove_at}
 use Rattle.lists.proofs.Laws.{find_index-length, remove_at_le, remove_at-past}
 use Rattle.lists.proofs.Tests.{and_intro, between_intro, by_answer, by-test, refuted}
 use Rattle.buffer.proofs.Laws.{AreBytes}
+use Rattle.message.specs.declared.Message.{Message}
+use Rattle.message.specs.declared.Outbox.{Outbox}
 use Rattle.message.specs.Outbox as Outbox
 use Rattle.session.proofs.Laws.{requested-length, received-length}
 use Rattle.session.specs.declared.Session.{Session}
@@ -30,8 +32,8 @@ use Rattle.waits.specs.OnTable.{locks}
 use Rattle.refusal.specs.Refusal
 use Rattle.refusal.specs.Refusal.{cause, first}
 use Rattle.step.specs.Step as Step
-use Rattle.step.specs.Step.{Plan, Stepped, delivered, item_receives, session_receives, session_acts, session_plan, item_plan, plan, crosses, stage_forbids, mask_forbids, nothing_to_deliver, step_causes, hindered, overfull, acted, stepped, refused_answer, unless, committed}
-use Rattle.step.specs.Parts.{Judged, Unhindered, ForItem, ForSession, concluded}
+use Rattle.step.specs.Step.{Plan, Stepped, delivered, item_receives, session_receives, session_acts, session_plan, item_plan, plan, stage_forbids, mask_forbids, nothing_to_deliver, step_causes, hindered, overfull, acted, stepped, refused_answer, unless, committed}
+use Rattle.step.specs.Parts.{Judged, Unhindered, ForItem, ForSession, Fitting, fitting, room_made, concluded}
 use Rattle.refusal.proofs.Causes.{first_stops, first-goes-on, unmet}
 
 -- what a step that was judged knows of its buffers
@@ -103,6 +105,10 @@ delivered-length verb t x l =
     cond-length (eqb verb Step.deliver_to_item) (eqb verb Step.deliver_to_session) _ _ (length l) (find_index-length (on_route to_item t x) l) (find_index-length (on_route to_session t x) l)
 
 -- ---- the mailbox without entry k, which may be past the end
+-- the entries that are left and those that are sent
+pub length-sent : (rest : List Entry) (f : Message → Entry) (l : List Message) → length (rest ++ map f l) ≡ length rest + length l
+length-sent rest f l = length-append rest (map f l) ∙ ap (λ (n : ℕ). length rest + n) (length-map l f)
+
 pub record Without (mail : List ℕ) (k : ℕ) : Type 0 where
   pub kept : Kept (mail_bytes (capacity_of mail) (remove_at k (entries_of mail)))
   pub capacity : capacity_of (mail_bytes (capacity_of mail) (remove_at k (entries_of mail))) ≡ capacity_of mail
@@ -120,6 +126,40 @@ without-entry mail h k =
       entries = MailLaws.entries-mail C l h.low h.high fits;
       count = MailLaws.count-mail C l h.low h.high fits;
     }
+
+-- ---- whether there is room beside the entries that are left
+refused-room : {fits : Bool} {mail : List ℕ} (o : Bool) (m n : List ℕ) → fits ≡ false → fitting fits mail ≡ cond o (fitting false m) (fitting true n) → (o ≡ true) × (mail ≡ m)
+refused-room true m n e q = (refl, ap (λ (p : Fitting). p.mail) q)
+refused-room false m n e q = absurd (false≢true (sym e ∙ ap (λ (p : Fitting). p.fits) q))
+
+granted-room : {fits : Bool} {mail : List ℕ} (o : Bool) (m n : List ℕ) → fits ≡ true → fitting fits mail ≡ cond o (fitting false m) (fitting true n) → (o ≡ false) × (mail ≡ n)
+granted-room true m n e q = absurd (true≢false (sym e ∙ ap (λ (p : Fitting). p.fits) q))
+granted-room false m n e q = (refl, ap (λ (p : Fitting). p.mail) q)
+
+module _ (mail : List ℕ) (k n : ℕ) {fits : Bool} {after : List ℕ} (made : fitting fits after ≡ room_made mail (remove_at k (entries_of mail)) n) where
+  abbrev left : List Entry
+  left = remove_at k (entries_of mail)
+
+  pub no_room : fits ≡ false → (f : Message → Entry) (l : List Message) → n ≡ length l → (overfull (capacity_of mail) (left ++ map f l) ≡ true) × (after ≡ mail)
+  no_room e f l c =
+      let p = refused-room (ltb (capacity_of mail) (length left + n)) mail (mail_bytes (capacity_of mail) left) e made in
+      (rw (length-sent left f l, sym c) p.0, p.1)
+
+  module _ (kept : Kept mail) (e : fits ≡ true) where
+    granted : (ltb (capacity_of mail) (length left + n) ≡ false) × (after ≡ mail_bytes (capacity_of mail) left)
+    granted = granted-room (ltb (capacity_of mail) (length left + n)) mail (mail_bytes (capacity_of mail) left) e made
+
+    pub has_room : (out : Outbox) → out.n ≡ n → n ≤ Outbox.room → Mail.Room after out
+    has_room out c few =
+        let w = without-entry mail kept k in
+        rw granted.1
+        (record { kept = w.kept; few = omega (arith, c, few); fits = rw (w.capacity, w.count) (omega (arith, c, ltb-false (capacity_of mail) (length left + n) granted.0)) })
+
+    pub room-filled : (f : Message → Entry) (l : List Message) → n ≡ length l → {filled : List ℕ} → filled ≡ mail_bytes (capacity_of after) (entries_of after ++ map f l)
+        → (overfull (capacity_of mail) (left ++ map f l) ≡ false) × (filled ≡ mail_bytes (capacity_of mail) (left ++ map f l))
+    room-filled f l c q =
+        let w = without-entry mail kept k in
+        (rw (length-sent left f l, sym c) granted.0, rw (q, granted.1, w.capacity, w.entries) refl)
 
 -- ---- what a step does
 -- an item sends no more than an outbox has places for
@@ -147,11 +187,10 @@ module _ (verb t x : ℕ) (table : List ℕ) (entries : List Entry) where
   -- where none of them holds, none hinders it
   pub unhindered : first (step_causes verb t x table entries) ≡ 0 → Unhindered verb t x table entries
   unhindered e =
-      let c = unmet (crosses (Table.makers table) verb t x) 16 _ e in
-      let s = unmet (stage_forbids verb (Table.session table t).stage) 5 _ c.1 in
+      let s = unmet (stage_forbids verb (Table.session table t).stage) 5 _ e in
       let m = unmet (mask_forbids verb x (Table.session table t).held) 6 _ s.1 in
       let r = unmet (nothing_to_deliver verb (delivered verb t x entries) entries) 7 _ m.1 in
-      record { maker = c.0; stage = s.0; mask = m.0; route = r.0 }
+      record { stage = s.0; mask = m.0; route = r.0 }
 
   -- a delivery that none hinders finds its entry
   pub delivers : Unhindered verb t x table entries → 1 ≤ verb → verb ≤ 4 → (verb ≡ Step.request → ⊥) → (verb ≡ Step.release → ⊥) → delivered verb t x entries < length entries
@@ -180,19 +219,19 @@ module _ (senior : ℕ → ℕ → Bool) (verb t x : ℕ) (table mail : List ℕ
   pub acted-concluded : causes ≡ 0 → acted senior verb t x table mail ≡ concluded t table mail planned
   unfolding acted hindered first all_of
   acted-concluded e =
-      rw (first-goes-on (step_causes verb t x table (entries_of mail)) (cause (overfull t table planned.entries) Refusal.mail_full ∷ []) refl e)
-      (tail (overfull t table planned.entries) (committed t (capacity_of mail) planned))
+      rw (first-goes-on (step_causes verb t x table (entries_of mail)) (cause (overfull (capacity_of mail) planned.entries) Refusal.mail_full ∷ []) refl e)
+      (tail (overfull (capacity_of mail) planned.entries) (committed t (capacity_of mail) planned))
 
   -- a step that was judged is refused, or nothing hinders it and it does what is planned
   pub by-outcome : (P : Stepped → Type 0) → ((n : ℕ) → n ≢ 0 → P (stepped (refused_answer n) table mail))
-      → (Unhindered verb t x table (entries_of mail) → overfull t table planned.entries ≡ false → P (committed t (capacity_of mail) planned))
+      → (Unhindered verb t x table (entries_of mail) → length planned.entries ≤ capacity_of mail → P (committed t (capacity_of mail) planned))
       → P (acted senior verb t x table mail)
   by-outcome P refused done =
       by_answer (eqb causes 0)
       (λ e. let z = eqb-true causes 0 e in
       rw (acted-concluded z)
-      (by-test P (overfull t table planned.entries) (λ _. refused Refusal.mail_full (λ q. absurd (omega (arith, q))))
-      (done (unhindered verb t x table (entries_of mail) z))))
+      (by-test P (overfull (capacity_of mail) planned.entries) (λ _. refused Refusal.mail_full (λ q. absurd (omega (arith, q))))
+      (λ f. done (unhindered verb t x table (entries_of mail) z) (ltb-false (capacity_of mail) (length planned.entries) f))))
       (λ e. rw (acted-refused (eqb-false causes 0 e)) (refused causes (eqb-false causes 0 e)))
 
 -- an item acts in a delivery to it, a session in every other step

@@ -1,40 +1,38 @@
 -- Form is kept: a step that was judged leaves well-formed buffers, with the same config and capacity.
-use mathlib.Core.Path.{◌≡◌, refl, ap, ◌∙◌}
-use mathlib.Core.Bool.{Bool, true, false}
+use mathlib.Core.Path.{◌≡◌, refl, ap}
+use mathlib.Core.Bool.{Bool, true, false, ◌||◌}
 use mathlib.Core.List.{List, map}
-use Prim.Native.Nat.{ℕ, ◌≤◌}
+use Prim.Native.Nat.{ℕ, ◌≤◌, ◌<◌}
+use native.Mathlib.Omega.{arith}
 use lib.Dec.{eqb}
-use lib.ListN.{get_or}
-use borrow.Author.Tests.{eqb-true}
-use Rattle.lists.specs.Lists.{all_of, remove_at}
-use Rattle.lists.proofs.Laws.{all_join, all_map, all-remove_at}
-use Rattle.lists.proofs.Tests.{by_answer}
-use Rattle.makers.specs.Makers.{Makers, has_session, has_item}
+use lib.ListN.{length, get_or}
+use borrow.Author.Tests.{eqb-true, eqb-false, not-false}
+use Rattle.lists.specs.Lists.{between, all_of, remove_at}
+use Rattle.lists.proofs.Laws.{all_get_d, all_join, all_map, all-remove_at, find_index-found}
+use Rattle.lists.proofs.Tests.{between_intro, by_answer}
+use Rattle.session.specs.Stage
+use Rattle.session.proofs.Seniority.{senior-weak}
+use Rattle.session.specs.Record as SessionRecord
 use Rattle.session.specs.Rules as Session
-use Rattle.session.proofs.WellFormed.{held_fits}
-use Rattle.session.proofs.Within.{session-within-test}
+use Rattle.item.specs.NextHolder.{next_holder}
+use Rattle.item.proofs.NextHolder.{next-inside}
 use Rattle.item.specs.Record.{packed}
 use Rattle.item.specs.Rules as Item
-use Rattle.item.proofs.Laws.{unpacked-packed}
-use Rattle.item.proofs.WellFormed.{packed-lock, queue-whole}
-use Rattle.item.proofs.Within.{lock-within-test}
 use Rattle.mailbox.specs.Entry as Entry
-use Rattle.mailbox.specs.Entry.{Entry, unused, from_session, from_item}
+use Rattle.mailbox.specs.Entry.{Entry, unused, on_route, to_item, to_session, from_session, from_item}
 use Rattle.mailbox.specs.Layout as Mail
-use Rattle.mailbox.specs.Shares as Shares
 use Rattle.mailbox.proofs.Laws as MailLaws
+use Rattle.mailbox.proofs.EntryLaws.{route-facts}
 use Rattle.table.specs.Layout as Table
 use Rattle.table.proofs.Laws as TableLaws
-use Rattle.table.proofs.Owned as Owned
 use Rattle.waits.specs.OnTable.{locks}
-use Rattle.wellformed.proofs.Sessions.{SessionKept}
-use Rattle.wellformed.proofs.Items.{ItemKept}
+use Rattle.wellformed.proofs.Sessions.{SessionKept, session-kept, request-kept, release-kept}
+use Rattle.item.proofs.WellFormed.{unpacked-lock, packed-lock, queue-whole}
+use Rattle.wellformed.proofs.Items.{ItemKept, item-kept}
 use Rattle.step.specs.Step as Step
-use Rattle.step.specs.Step.{Plan, Stepped, Formed, delivered, item_receives, session_acts, session_plan, item_plan, plan, overfull, stepped, refused_answer, committed}
+use Rattle.step.specs.Step.{Plan, Stepped, Formed, delivered, item_receives, session_acts, session_plan, item_plan, plan, stepped, refused_answer, committed}
 use Rattle.step.specs.Parts.{Judged, Unhindered}
-use Rattle.step.proofs.Acting.{item_acts, session_acting}
-use Rattle.step.proofs.Parties.{all-entries, item_keeps, session_keeps, own-item, item-owns, session-owns}
-use Rattle.step.proofs.Sharing.{plan-shares, plan-fits}
+use Rattle.step.proofs.Acting.{by-verb, delivers, item_acts, session_acting}
 
 -- what is planned on a well-formed table and well-formed entries is so again
 pub record Planned (table : List ℕ) (p : Plan) : Type 0 where
@@ -74,7 +72,24 @@ module _ (table : List ℕ) where
           entries = all_join is_entry rest (map (from_item x) r.sends) w (all_map is_entry (from_item x) r.sends k.sends);
         }
 
--- a step that was judged and that nothing hinders plans well-formed records and entries, each within its maker
+-- the entry of a route that is there
+abbrev head : ℕ → ℕ → ℕ → List Entry → Entry
+head direction t x l = get_or l (Entry.earliest direction t x l) unused
+
+module _ (direction t x : ℕ) (l : List Entry) (found : Entry.earliest direction t x l < length l) where
+  abbrev here : Entry
+  here = head direction t x l
+
+  on-route : on_route direction t x here ≡ true
+  on-route = find_index-found (on_route direction t x) l unused found
+
+  pub head-session : here.session ≡ t
+  head-session = (route-facts direction t x here on-route).session
+
+  pub head-item : here.item ≡ x
+  head-item = (route-facts direction t x here on-route).item
+
+-- ---- what a step that was judged and that nothing hinders leaves of its party, and sends
 module _ (t x : ℕ) (table mail : List ℕ) (j : Judged t x table mail) where
   abbrev entries : List Entry
   entries = Mail.entries_of mail
@@ -82,48 +97,66 @@ module _ (t x : ℕ) (table mail : List ℕ) (j : Judged t x table mail) where
   abbrev senior : ℕ → ℕ → Bool
   senior = Table.senior table
 
-  others : (n : ℕ) → all_of (is_entry table) (remove_at n entries) ≡ true
-  others n = all-remove_at (is_entry table) n entries (all-entries t x table mail j)
+  all-entries : all_of (is_entry table) entries ≡ true
+  all-entries = (MailLaws.formed-facts (S table) (M table) mail j.formed.mail-formed).entries
+
+  t-range : between 1 (S table) t ≡ true
+  t-range = between_intro 1 (S table) t j.session-low j.session-high
+
+  x-range : between 1 (M table) x ≡ true
+  x-range = between_intro 1 (M table) x j.item-low j.item-high
+
+  session-formed : SessionRecord.well_formed (S table) (M table) (Table.session table t) ≡ true
+  session-formed = TableLaws.well_formed-session table j.formed.records.formed t j.session-low j.session-high
+
+  session-juniors : length (Table.session table t).juniors ≡ 64
+  session-juniors = TableLaws.juniors-length table j.formed.records.sized t j.session-low j.session-high
+
+  abbrev taken_by : ℕ → Entry
+  taken_by verb = get_or entries (delivered verb t x entries) unused
+
+  head-formed : (direction : ℕ) → Entry.earliest direction t x entries < length entries → is_entry table (head direction t x entries) ≡ true
+  head-formed direction found = all_get_d (is_entry table) entries (Entry.earliest direction t x entries) unused all-entries found
+
+  -- an item, in a delivery to it
+  pub item_keeps : Unhindered Step.deliver_to_item t x table entries → ItemKept (S table) (M table) x (item_receives senior (locks table x) (taken_by Step.deliver_to_item))
+  unfolding locks delivered
+  item_keeps u =
+      let found = delivers Step.deliver_to_item t x table entries u (omega arith) (omega arith) (λ q. absurd (omega arith)) (λ q. absurd (omega arith)) in
+      let lock = unpacked-lock (S table) (Table.item table x) (TableLaws.well_formed-item table j.formed.records.formed x j.item-low j.item-high) in
+      rw (head-item to_item t x entries found) at (item-kept senior (next_holder senior) (S table) (M table) (head to_item t x entries) (head-formed to_item found) (locks table x) lock (next-inside (senior-weak (Table.ranks table)) (locks table x).queue))
+
+  -- a session, in every other step
+  abbrev Kept : ℕ → Type 0
+  Kept verb = eqb verb Step.deliver_to_item ≡ false → Unhindered verb t x table entries → SessionKept (S table) (M table) t (session_acts senior verb t x (Table.session table t) (taken_by verb))
+
+  pub session_keeps : (verb : ℕ) → 1 ≤ verb → verb ≤ 4 → Kept verb
+  unfolding session_acts delivered
+  session_keeps =
+      by-verb Kept
+      (λ _ _. request-kept (S table) (M table) t x t-range x-range (Table.session table t) session-formed session-juniors)
+      (λ _ u. let stage = (Table.session table t).stage in
+      release-kept (S table) (M table) t x t-range x-range (Table.session table t) session-formed session-juniors (not-false (eqb stage Stage.growing || eqb stage Stage.shrinking) u.stage))
+      (λ q _. absurd (eqb-false 3 3 q refl))
+      (λ _ u. let found = delivers Step.deliver_to_session t x table entries u (omega arith) (omega arith) (λ q. absurd (omega arith)) (λ q. absurd (omega arith)) in
+      rw (head-session to_session t x entries found) at (session-kept senior (S table) (M table) (head to_session t x entries) (head-formed to_session found) (Table.session table t) session-formed session-juniors))
+
+  -- so its plan is well-formed
+  others : (k : ℕ) → all_of (is_entry table) (remove_at k entries) ≡ true
+  others k = all-remove_at (is_entry table) k entries all-entries
 
   abbrev Plans : ℕ → Type 0
   Plans verb = Unhindered verb t x table entries → Planned table (plan senior verb t x table entries)
 
   pub plan_keeps : (verb : ℕ) → 1 ≤ verb → verb ≤ 4 → Plans verb
   plan_keeps verb low high =
-      let n = delivered verb t x entries in
+      let k = delivered verb t x entries in
       by_answer (eqb verb Step.deliver_to_item)
       (λ e. rw (eqb-true verb Step.deliver_to_item e) (λ u.
       rw (item_acts senior Step.deliver_to_item t x table entries refl)
-      (item-planned table j.formed.records.sized j.formed.records.formed _ (others _) x j.item-low j.item-high _ (item_keeps t x table mail j u))))
+      (item-planned table j.formed.records.sized j.formed.records.formed _ (others _) x j.item-low j.item-high _ (item_keeps u))))
       (λ e u. rw (session_acting senior verb t x table entries e)
-      (session-planned table j.formed.records.sized j.formed.records.formed (remove_at n entries) (others n) t j.session-low j.session-high _ (session_keeps t x table mail j verb low high e u)))
-
-  abbrev m : Makers
-  m = Table.makers table
-
-  abbrev k : ℕ
-  k = m.session t
-
-  abbrev Owns : ℕ → Type 0
-  Owns verb = Unhindered verb t x table entries → Table.owned (plan senior verb t x table entries).table ≡ true
-
-  pub plan-owned : (verb : ℕ) → 1 ≤ verb → verb ≤ 4 → Owns verb
-  plan-owned verb low high =
-      let sized = j.formed.records.sized in
-      let sizes = TableLaws.sized-facts table sized in
-      by_answer (eqb verb Step.deliver_to_item)
-      (λ e. rw (eqb-true verb Step.deliver_to_item e) (λ u.
-      let kept = item_keeps t x table mail j u in
-      let stays = item-owns t x table mail j u in
-      let l = (item_receives senior (locks table x) (get_or entries (delivered Step.deliver_to_item t x entries) unused)).lock in
-      let own : m.item x ≡ k = eqb-true (m.item x) k (own-item t x table mail j Step.deliver_to_item u) in
-      rw (item_acts senior Step.deliver_to_item t x table entries refl)
-      (Owned.owned-with_item table sized x j.item-low j.item-high (packed l) (queue-whole (S table) sizes.max-sessions l kept.lock) j.formed.owned (rw (own, unpacked-packed l) (lock-within-test (has_session m k) l stays.lock)))))
-      (λ e u. let kept = session_keeps t x table mail j verb low high e u in
-      let stays = session-owns t x table mail j verb low high e u in
-      let s = (session_acts senior verb t x (Table.session table t) (get_or entries (delivered verb t x entries) unused)).session in
-      rw (session_acting senior verb t x table entries e)
-      (Owned.owned-with_session table sized t j.session-low j.session-high s kept.juniors (held_fits (S table) (M table) s sizes.max-items kept.session) j.formed.owned (session-within-test (has_session m k) (has_item m k) (S table) s stays.session)))
+      (session-planned table j.formed.records.sized j.formed.records.formed (remove_at k entries) (others k) t j.session-low j.session-high _ (session_keeps verb low high e u)))
 
 -- well-formed buffers, with the config and the capacity that they had
 pub record FormKept (table mail : List ℕ) (r : Stepped) : Type 0 where
@@ -131,31 +164,20 @@ pub record FormKept (table mail : List ℕ) (r : Stepped) : Type 0 where
   pub config : Table.config_of r.table ≡ Table.config_of table
   pub capacity : Mail.capacity_of r.mail ≡ Mail.capacity_of mail
 
-pub unchanged : (table mail : List ℕ) → Formed table mail → (n : ℕ) → FormKept table mail (stepped (refused_answer n) table mail)
-unchanged table mail f n = record { formed = f; config = refl; capacity = refl }
+module _ (table mail : List ℕ) (f : Formed table mail) where
+  pub unchanged : (n : ℕ) → FormKept table mail (stepped (refused_answer n) table mail)
+  unchanged n = record { formed = f; config = refl; capacity = refl }
 
--- what is planned is committed where the maker of its session stays within its share
-module _ (t x : ℕ) (table mail : List ℕ) (j : Judged t x table mail) (verb : ℕ) (low : 1 ≤ verb) (high : verb ≤ 4) (u : Unhindered verb t x table (Mail.entries_of mail)) where
-  abbrev p : Plan
-  p = plan (Table.senior table) verb t x table (Mail.entries_of mail)
-
-  pub committed_keeps : overfull t table p.entries ≡ false → FormKept table mail (committed t (Mail.capacity_of mail) p)
-  committed_keeps room =
+  pub committed_keeps : (t : ℕ) (p : Plan) → Planned table p → length p.entries ≤ Mail.capacity_of mail → FormKept table mail (committed t (Mail.capacity_of mail) p)
+  committed_keeps t p h fits =
       let C = Mail.capacity_of mail in
-      let h = plan_keeps t x table mail j verb low high u in
-      let fits = plan-fits t x table mail j verb low high u room in
-      let s = MailLaws.sized-facts mail j.formed.mail-sized in
-      let capacity = MailLaws.capacity-mail C p.entries s.low s.high fits in
+      let m = MailLaws.sized-facts mail f.mail-sized in
       record {
         formed = record {
           records = record { sized = h.sized; formed = h.formed };
-          owned = plan-owned t x table mail j verb low high u;
-          mail-sized = MailLaws.sized-mail C p.entries s.low s.high fits;
-          mail-formed = rw (ap (λ (c : Table.Config). c.sessions) h.config, ap (λ (c : Table.Config). c.items) h.config) (MailLaws.well_formed-mail C p.entries s.low s.high fits (Table.sessions_of table) (Table.items_of table) h.entries);
-          mail-owned =
-              ap (λ (n : Makers). Shares.owned n (Mail.capacity_of (Mail.mail_bytes C p.entries)) (Mail.entries_of (Mail.mail_bytes C p.entries))) (Owned.makers-config table p.table h.config)
-              ∙ rw (capacity, MailLaws.entries-mail C p.entries s.low s.high fits) (plan-shares t x table mail j verb low high u room);
+          mail-sized = MailLaws.sized-mail C p.entries m.low m.high fits;
+          mail-formed = rw (ap (λ (c : Table.Config). c.sessions) h.config, ap (λ (c : Table.Config). c.items) h.config) (MailLaws.well_formed-mail C p.entries m.low m.high fits (Table.sessions_of table) (Table.items_of table) h.entries);
         };
         config = h.config;
-        capacity = capacity;
+        capacity = MailLaws.capacity-mail C p.entries m.low m.high fits;
       }

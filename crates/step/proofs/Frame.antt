@@ -31,7 +31,7 @@ use Rattle.step.specs.Step.{Plan, delivered, item_receives, session_acts, plan}
 use Rattle.step.specs.Parts.{Judged, Unhindered}
 use Rattle.step.specs.Frame.{Party, session, item, actor, route_sender, sender, receiver, takes, sent_by, Touches}
 use Rattle.step.proofs.Acting.{item_acts, session_acting}
-use Rattle.step.proofs.Parties.{item_keeps, session_keeps}
+use Rattle.step.proofs.Form.{item_keeps, session_keeps}
 
 -- ---- the table
 -- a record put into a table is read there, and touches no other

@@ -1,6 +1,3 @@
 pub mod Acting
-pub mod Parties
-pub mod Frame
-pub mod Sharing
-pub mod Room
 pub mod Form
+pub mod Frame

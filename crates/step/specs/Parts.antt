@@ -1,15 +1,12 @@
 -- What the parts of the code ask of each other and leave. No part of the promise.
-use Rattle.std.specs.Prelude.{ℕ, ◌+◌, ◌≤◌, ◌<◌, ◌≡◌, Bool, false, cond, List, leb, length}
-use Rattle.lists.specs.Lists.{remove_at}
-use Rattle.message.specs.Outbox.{room}
+use Rattle.std.specs.Prelude.{ℕ, ◌+◌, ◌≤◌, ◌<◌, ◌≡◌, Bool, true, false, cond, List, ltb, length}
 use Rattle.session.specs.Rules as Session
 use Rattle.item.specs.Record.{Packed}
 use Rattle.mailbox.specs.Entry.{Entry, seen_by_session}
 use Rattle.mailbox.specs.Layout as Mail
-use Rattle.mailbox.specs.Shares.{of_maker}
 use Rattle.table.specs.Layout as Table
 use Rattle.refusal.specs.Refusal
-use Rattle.step.specs.Step.{Plan, Stepped, Formed, request, release, delivered, crosses, stage_forbids, mask_forbids, nothing_to_deliver, overfull, stepped, refused_answer, committed}
+use Rattle.step.specs.Step.{Plan, Stepped, Formed, request, release, delivered, stage_forbids, mask_forbids, nothing_to_deliver, overfull, stepped, refused_answer, committed}
 
 -- a step was judged: both buffers are well-formed, and its session and item are there
 pub record Judged (t x : ℕ) (table mail : List ℕ) : Type 0 where
@@ -21,7 +18,6 @@ pub record Judged (t x : ℕ) (table mail : List ℕ) : Type 0 where
 
 -- no cause of its own but room hinders a step
 pub record Unhindered (verb t x : ℕ) (table : List ℕ) (entries : List Entry) : Type 0 where
-  pub maker : crosses (Table.makers table) verb t x ≡ false
   pub stage : stage_forbids verb (Table.session table t).stage ≡ false
   pub mask : mask_forbids verb x (Table.session table t).held ≡ false
   pub route : nothing_to_deliver verb (delivered verb t x entries) entries ≡ false
@@ -43,27 +39,20 @@ pub record ForSession (t k : ℕ) (table mail : List ℕ) : Type 0 where
   pub deliverable : Session.Deliverable (seen_by_session (Mail.entry_at mail k))
   pub entry : Mail.Stands mail k
 
--- the entries of T's maker
-abbrev pub entries_with : ℕ → List ℕ → List Entry → List Entry
-entries_with t table entries = of_maker (Table.makers table) ((Table.makers table).session t) entries
+-- whether more entries fit into the mail, and the mail after
+pub record Fitting : Type 0 where
+  pub fits : Bool
+  pub mail : List ℕ
 
--- n messages more of T's maker are within its share, once entry k is out: the test of `overfull`, by numbers
-abbrev pub fits : ℕ → ℕ → ℕ → List ℕ → List ℕ → Bool
-fits t k n table mail =
-    leb (length (entries_with t table (remove_at k (Mail.entries_of mail))) + n) ((Table.makers table).share ((Table.makers table).session t))
+abbrev pub fitting : Bool → List ℕ → Fitting
+fitting fits mail = record { fits = fits; mail = mail }
 
--- T's maker has own entries, and the one at k, if it is there, is one of them
-pub record Counted (t k own : ℕ) (table mail : List ℕ) : Type 0 where
-  pub all : own ≡ length (entries_with t table (Mail.entries_of mail))
-  pub left : k < Mail.count_of mail → length (entries_with t table (remove_at k (Mail.entries_of mail))) + 1 ≡ own
-
--- n messages more have places in the mailbox, once entry k is out
-pub record Places (k n : ℕ) (mail : List ℕ) : Type 0 where
-  pub kept : Mail.Kept mail
-  pub few : n ≤ room
-  pub free : length (remove_at k (Mail.entries_of mail)) + n ≤ Mail.capacity_of mail
+-- the mail with these entries alone, if n more fit beside them; else as it was
+abbrev pub room_made : List ℕ → List Entry → ℕ → Fitting
+room_made mail entries n =
+    cond (ltb (Mail.capacity_of mail) (length entries + n)) (fitting false mail) (fitting true (Mail.mail_bytes (Mail.capacity_of mail) entries))
 
 -- the tail of every step: 9 where there is no room for the entries after it, else what is planned
 abbrev pub concluded : ℕ → List ℕ → List ℕ → Plan → Stepped
 concluded t table mail p =
-    cond (overfull t table p.entries) (stepped (refused_answer Refusal.mail_full) table mail) (committed t (Mail.capacity_of mail) p)
+    cond (overfull (Mail.capacity_of mail) p.entries) (stepped (refused_answer Refusal.mail_full) table mail) (committed t (Mail.capacity_of mail) p)

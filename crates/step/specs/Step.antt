@@ -1,6 +1,6 @@
 -- One step on buffers that were judged: the answer and both buffers after. RULES is docs/RULES.md.
 -- T is the session and X the item that a step names; S, M and C are read from the buffers.
-use Rattle.std.specs.Prelude.{ℕ, ◌≡◌, Bool, true, cond, not, ◌&&◌, ◌||◌, List, [], ◌∷◌, ◌++◌, map, eqb, length, get_or}
+use Rattle.std.specs.Prelude.{ℕ, ◌≡◌, Bool, true, cond, not, ◌&&◌, ◌||◌, List, [], ◌∷◌, ◌++◌, map, eqb, ltb, length, get_or}
 use Rattle.lists.specs.Lists.{between, remove_at}
 use Rattle.bitset.specs.Bitset.{has}
 use Rattle.session.specs.Stage
@@ -12,10 +12,7 @@ use Rattle.item.specs.Record.{Lock, packed}
 use Rattle.item.specs.NextHolder.{next_holder}
 use Rattle.item.specs.Rules as Item
 use Rattle.mailbox.specs.Entry.{Entry, to_item, to_session, unused, earliest, from_session, from_item, seen_by_item, seen_by_session}
-use Rattle.makers.specs.Makers.{Makers}
 use Rattle.mailbox.specs.Layout as Mail
-use Rattle.mailbox.specs.Shares as Shares
-use Rattle.mailbox.specs.Shares.{over_share}
 use Rattle.table.specs.Layout as Table
 use Rattle.waits.specs.OnTable.{locks, cycle_length}
 use Rattle.step.specs.declared.Answer.{Answer}
@@ -25,10 +22,8 @@ use Rattle.refusal.specs.Refusal.{Cause, cause, first}
 -- both buffers are well-formed (01: in form)
 pub record Formed (table mail : List ℕ) : Type 0 where
   pub records : Table.Formed table
-  pub owned : Table.owned table ≡ true
   pub mail-sized : Mail.sized mail ≡ true
   pub mail-formed : Mail.well_formed (Table.sessions_of table) (Table.items_of table) mail ≡ true
-  pub mail-owned : Shares.owned (Table.makers table) (Mail.capacity_of mail) (Mail.entries_of mail) ≡ true
 
 -- the number, and zeros
 abbrev pub refused_answer : ℕ → Answer
@@ -97,10 +92,6 @@ plan senior verb t x table entries =
     (item_plan x table (remove_at k entries) (item_receives senior (locks table x) (get_or entries k unused)))
     (session_plan t table (remove_at k entries) (session_acts senior verb t x (Table.session table t) (get_or entries k unused)))
 
--- a request or a delivery across makers: RULES 8.17
-abbrev pub crosses : Makers → ℕ → ℕ → ℕ → Bool
-crosses m verb t x = not (eqb verb release) && not (eqb (m.session t) (m.item x))
-
 -- the stage forbids a request or a release: RULES 8.6
 abbrev pub stage_forbids : ℕ → ℕ → Bool
 stage_forbids verb stage =
@@ -115,15 +106,14 @@ mask_forbids verb x held = eqb verb request && has x held || eqb verb release &&
 abbrev pub nothing_to_deliver : ℕ → ℕ → List Entry → Bool
 nothing_to_deliver verb k entries = is_delivery verb && eqb k (length entries)
 
--- the entries after a step are more of T's maker than its share: RULES 8.9
-abbrev pub overfull : ℕ → List ℕ → List Entry → Bool
-overfull t table entries = over_share (Table.makers table) ((Table.makers table).session t) entries
+-- there is no room for the entries after a step: RULES 8.9
+abbrev pub overfull : ℕ → List Entry → Bool
+overfull C entries = ltb C (length entries)
 
 -- the causes that lie in the step itself, in their order
 abbrev pub step_causes : ℕ → ℕ → ℕ → List ℕ → List Entry → List Cause
 step_causes verb t x table entries =
-    cause (crosses (Table.makers table) verb t x) Refusal.other_maker
-    ∷ cause (stage_forbids verb (Table.session table t).stage) Refusal.wrong_stage
+    cause (stage_forbids verb (Table.session table t).stage) Refusal.wrong_stage
     ∷ cause (mask_forbids verb x (Table.session table t).held) Refusal.wrong_item
     ∷ cause (nothing_to_deliver verb (delivered verb t x entries) entries) Refusal.no_message
     ∷ []
@@ -133,7 +123,7 @@ unfoldable pub hindered : (ℕ → ℕ → Bool) → ℕ → ℕ → ℕ → Lis
 hindered senior verb t x table mail =
     first
     (step_causes verb t x table (Mail.entries_of mail)
-    ++ (cause (overfull t table (plan senior verb t x table (Mail.entries_of mail)).entries) Refusal.mail_full ∷ []))
+    ++ (cause (overfull (Mail.capacity_of mail) (plan senior verb t x table (Mail.entries_of mail)).entries) Refusal.mail_full ∷ []))
 
 -- what a step answers, and both buffers after
 pub record Stepped : Type 0 where

@@ -9,12 +9,11 @@ ghost use Rattle.session.specs.Rules as SessionRules;
 ghost use Rattle.item.specs.Rules as ItemRules;
 ghost use Rattle.mailbox.specs.Entry.{unused};
 ghost use Rattle.mailbox.specs.Layout.{capacity_of, entry_at, entries_of, mail_bytes, Kept};
-ghost use Rattle.table.specs.Layout as Table;
-ghost use Rattle.table.specs.Layout.{HasSession, HasItem, sessions_of, session, senior, makers, well_formed, with_item};
+ghost use Rattle.table.specs.Layout.{HasSession, HasItem, Formed, sessions_of, session, senior, well_formed, with_item};
 ghost use Rattle.waits.specs.OnTable.{locks, cycle_length};
 ghost use Rattle.refusal.specs.Refusal.{first};
-ghost use Rattle.step.specs.Step.{Formed, refused_answer, accepted_answer, delivered, item_receives, session_receives, session_acts, crosses, stage_forbids, mask_forbids, step_causes, session_plan, item_plan, stepped, answered, committed, acted};
-ghost use Rattle.step.specs.Parts.{Judged, Acting, ForItem, ForSession, entries_with, fits, Counted, Places};
+ghost use Rattle.step.specs.Step.{refused_answer, accepted_answer, delivered, item_receives, session_receives, session_acts, stage_forbids, mask_forbids, step_causes, session_plan, item_plan, stepped, answered, acted};
+ghost use Rattle.step.specs.Parts.{Judged, Acting, ForItem, ForSession, fitting, room_made, concluded};
 
 use item::{Event, ItemStep};
 use session::{Session, SessionStep};
@@ -95,20 +94,11 @@ fn mask_forbids(verb: u64, x: u8, held: u64) -> bool
     ((verb == REQUEST) & has) | ((verb == RELEASE) & !has)
 }
 
-// Whether a request or a delivery names a session and an item of two makers.
-fn crosses(verb: u64, t: u8, x: u8, table: &[u8]) -> bool
-    requires { HasSession table.now t × HasItem table.now x }
-    ensures { result ≡ crosses (makers table.now) verb t x }
-{
-    (verb != RELEASE) & (table::session_maker(table, t) != table::item_maker(table, x))
-}
-
 // The first of the causes that lie in the step itself, but for room, or 0; k is the place of the entry that it delivers.
 fn step_refusal(verb: u64, t: u8, x: u8, k: usize, table: &[u8], mail: &[u8]) -> u8
     requires { Judged t x table.now mail.now × (k ≡ delivered verb t x (entries_of mail.now)) }
     ensures { result ≡ first (step_causes verb t x table.now (entries_of mail.now)) }
 {
-    let crossed = crosses(verb, t, x, table);
     let s = table::session(table, t);
     let staged = stage_forbids(verb, s.stage);
     let masked = mask_forbids(verb, x, s.held);
@@ -117,8 +107,7 @@ fn step_refusal(verb: u64, t: u8, x: u8, k: usize, table: &[u8], mail: &[u8]) ->
         & (k == mailbox::count(mail));
     let route = refusal::cause(none, refusal::NO_MESSAGE, 0);
     let mask = refusal::cause(masked, refusal::WRONG_ITEM, route);
-    let stage = refusal::cause(staged, refusal::WRONG_STAGE, mask);
-    refusal::cause(crossed, refusal::OTHER_MAKER, stage)
+    refusal::cause(staged, refusal::WRONG_STAGE, mask)
 }
 
 // What item x does on entry k.
@@ -149,16 +138,13 @@ fn session_acts(verb: u64, t: u8, x: u8, k: usize, table: &[u8], mail: &[u8]) ->
     }
 }
 
-// Whether n messages more of session t's maker, which has `own` entries, are within its share once entry k is out; past the end none goes.
-fn has_room(t: u8, k: usize, n: usize, own: usize, table: &[u8], mail: &[u8]) -> bool
-    requires { Formed table.now mail.now × HasSession table.now t × Counted t k own table.now mail.now × (n ≤ room) }
-    ensures { result ≡ fits t k n table.now mail.now }
+// How many entries are left without entry k; past the end none goes.
+fn left(mail: &[u8], k: usize) -> usize
+    requires { Kept mail.now }
+    ensures { result ≡ length (remove_at k (entries_of mail.now)) }
 {
-    let share = table::share(table, table::session_maker(table, t));
-    if k < mailbox::count(mail) {
-        return own - 1 + n <= share;
-    }
-    own + n <= share
+    let count = mailbox::count(mail);
+    if k < count { count - 1 } else { count }
 }
 
 // Takes out entry k; past the end none goes.
@@ -172,36 +158,56 @@ fn take(mail: &mut [u8], k: usize)
     mailbox::remove(mail, k);
 }
 
-// Session t has stepped: entry k goes out, the messages and the record are written.
-fn commit_session(t: u8, k: usize, r: SessionStep, table: &mut [u8], mail: &mut [u8]) -> Answer
-    requires { HasSession table.old t × Places k r.outbox.n mail.old }
-    ensures { (w : SessionRules.After) → r ≡ SessionRules.step_of w
-        → stepped result table.new mail.new ≡ committed t (capacity_of mail.old) (session_plan t table.old (remove_at k (entries_of mail.old)) w) }
+// If n entries more have room once entry k is out, takes it out.
+fn make_room(mail: &mut [u8], k: usize, n: usize) -> bool
+    requires { Kept mail.old × (n ≤ room) }
+    ensures { fitting result mail.new ≡ room_made mail.old (remove_at k (entries_of mail.old)) n }
 {
-    let sent = r.outbox.n;
+    if mailbox::capacity(mail) < left(mail, k) + n {
+        return false;
+    }
     take(mail, k);
-    mailbox::post(mail, mailbox::TO_ITEM, t, r.outbox);
-    table::put_session(table, t, r.session);
+    true
+}
+
+// Session t has stepped: the messages and the record are written, if there is room.
+fn commit_session(t: u8, k: usize, r: SessionStep, table: &mut [u8], mail: &mut [u8]) -> Answer
+    requires { HasSession table.old t × Kept mail.old × (r.outbox.n ≤ room) }
+    ensures { (w : SessionRules.After) → r ≡ SessionRules.step_of w
+        → stepped result table.new mail.new ≡ concluded t table.old mail.old (session_plan t table.old (remove_at k (entries_of mail.old)) w) }
+{
+    let outbox = r.outbox;
+    let session = r.session;
+    let sent = outbox.n;
+    if !make_room(mail, k, sent) {
+        return Answer::refused(refusal::MAIL_FULL);
+    }
+    mailbox::post(mail, mailbox::TO_ITEM, t, outbox);
+    table::put_session(table, t, session);
     Answer::accepted(sent as u8, 0, 0, 0)
 }
 
-// Item x has stepped on entry k, a message of session t: it goes out, the messages and the record are written.
+// Item x has stepped on a message of session t: the messages and the record are written, if there is room.
 fn commit_item(t: u8, x: u8, k: usize, r: ItemStep, table: &mut [u8], mail: &mut [u8]) -> Answer
-    requires { HasSession table.old t × HasItem table.old x × (well_formed (with_item table.old x r.item) ≡ true) × Places k r.outbox.n mail.old }
+    requires { HasSession table.old t × HasItem table.old x × (well_formed (with_item table.old x r.item) ≡ true) × Kept mail.old × (r.outbox.n ≤ room) }
     ensures { (w : ItemRules.After) → r ≡ ItemRules.step_of w
-        → stepped result table.new mail.new ≡ committed t (capacity_of mail.old) (item_plan x table.old (remove_at k (entries_of mail.old)) w) }
+        → stepped result table.new mail.new ≡ concluded t table.old mail.old (item_plan x table.old (remove_at k (entries_of mail.old)) w) }
 {
+    let outbox = r.outbox;
+    let item = r.item;
     let event = r.event;
-    let sent = r.outbox.n;
-    take(mail, k);
-    mailbox::post(mail, mailbox::TO_SESSION, x, r.outbox);
-    table::put_item(table, x, r.item);
+    let sent = outbox.n;
+    if !make_room(mail, k, sent) {
+        return Answer::refused(refusal::MAIL_FULL);
+    }
+    mailbox::post(mail, mailbox::TO_SESSION, x, outbox);
+    table::put_item(table, x, item);
     answer_of(t, sent as u8, event, table)
 }
 
 // The answer of an accepted step, by what happened at the item.
 fn answer_of(t: u8, sent: u8, event: Event, table: &[u8]) -> Answer
-    requires { Table.Formed table.now × (1 ≤ t) × (t ≤ sessions_of table.now) }
+    requires { Formed table.now × (1 ≤ t) × (t ≤ sessions_of table.now) }
     ensures { result ≡ answered t sent table.now event }
 {
     match event {
@@ -213,7 +219,7 @@ fn answer_of(t: u8, sent: u8, event: Event, table: &[u8]) -> Answer
 
 // 1 if session t lies on a cycle, else 0.
 fn closes(t: u8, table: &[u8]) -> u8
-    requires { Table.Formed table.now × (1 ≤ t) × (t ≤ sessions_of table.now) }
+    requires { Formed table.now × (1 ≤ t) × (t ≤ sessions_of table.now) }
     ensures { result ≡ cond (not (eqb (cycle_length table.now t) 0)) 1 0 }
 {
     if waits::cycle_length(table, t) == 0 {
@@ -223,9 +229,9 @@ fn closes(t: u8, table: &[u8]) -> u8
     }
 }
 
-// One step on buffers that were judged; the maker of session t has `own` entries.
-pub fn act(verb: u64, t: u8, x: u8, own: usize, table: &mut [u8], mail: &mut [u8]) -> Answer
-    requires { (1 ≤ verb) × (verb ≤ 4) × Judged t x table.old mail.old × (own ≡ length (entries_with t table.old (entries_of mail.old))) }
+// One step on buffers that were judged.
+pub fn act(verb: u64, t: u8, x: u8, table: &mut [u8], mail: &mut [u8]) -> Answer
+    requires { (1 ≤ verb) × (verb ≤ 4) × Judged t x table.old mail.old }
     ensures { stepped result table.new mail.new ≡ acted (senior table.old) verb t x table.old mail.old }
 {
     let k = delivered(verb, t, x, mail);
@@ -235,14 +241,8 @@ pub fn act(verb: u64, t: u8, x: u8, own: usize, table: &mut [u8], mail: &mut [u8
     }
     if verb == DELIVER_TO_ITEM {
         let r = item_receives(x, k, table, mail);
-        if !has_room(t, k, r.outbox.n, own, table, mail) {
-            return Answer::refused(refusal::MAIL_FULL);
-        }
         return commit_item(t, x, k, r, table, mail);
     }
     let r = session_acts(verb, t, x, k, table, mail);
-    if !has_room(t, k, r.outbox.n, own, table, mail) {
-        return Answer::refused(refusal::MAIL_FULL);
-    }
     commit_session(t, k, r, table, mail)
 }

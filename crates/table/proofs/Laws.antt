@@ -2,21 +2,18 @@
 use mathlib.Core.Path.{◌≡◌, refl, sym, ap, ◌∙◌}
 use mathlib.Core.Bool.{Bool, true, false, ◌&&◌, and-false}
 use mathlib.Core.List.{List}
-use Prim.Native.Nat.{ℕ, zero, suc, ◌+◌, ◌-◌, ◌*◌, ◌^◌, ◌≤◌, ◌<◌}
+use Prim.Native.Nat.{ℕ, suc, ◌+◌, ◌-◌, ◌*◌, ◌^◌, ◌≤◌, ◌<◌}
 use native.Mathlib.Omega.{arith}
 use borrow.Author.Tests.{eqb-true, eqb-false, ltb-true, ltb-false}
 use lib.Dec.{eqb, ltb}
 use lib.ListN.{length, get_or}
 use lib.Seq.{get_or-take}
-use Rattle.buffer.specs.Bytes.{slice, splice, from_bytes}
-use Rattle.lists.specs.Lists.{between, every, tabulate}
+use Rattle.buffer.specs.Bytes.{splice}
+use Rattle.lists.specs.Lists.{between, every}
 use Rattle.lists.proofs.Tests.{and_both, within}
 use Rattle.lists.proofs.Orders.{StrictTotal}
 use Rattle.lists.proofs.Searches.{every-at, every-false, every_intro}
-use Rattle.lists.proofs.Laws.{tabulate-same}
-use Rattle.buffer.proofs.Laws.{length-splice, slice-splice-before, slice-splice-after, length-slice, get_d_slice}
-use Rattle.makers.specs.Makers.{Owners, share_of}
-use Rattle.makers.proofs.MakerLaws.{owner-tabulate}
+use Rattle.buffer.proofs.Laws.{length-splice, slice-splice-before, slice-splice-after, length-slice}
 use Rattle.message.specs.Limits.{max_sessions, max_items}
 use Rattle.session.specs.declared.Session.{Session}
 use Rattle.session.specs.Record as SessionRecord
@@ -28,7 +25,7 @@ use Rattle.item.specs.declared.Item.{Item}
 use Rattle.item.specs.Record as ItemRecord
 use Rattle.item.proofs.Laws as ItemLaws
 use Rattle.item.proofs.WellFormed.{well_formed-packed}
-use Rattle.table.specs.Layout.{header, session_stride, session_place, item_place, ranks_place, share_size, share_place, size, sessions_of, items_of, sized, session, with_session, item, with_item, ranks, senior, session_maker, item_maker, share_at, owners, makers, well_formed, Config, config_of}
+use Rattle.table.specs.Layout.{header, session_stride, item_stride, session_place, items_start, item_place, ranks_place, size, sessions_of, items_of, sized, session, with_session, item, with_item, ranks, senior, well_formed, Config, config_of}
 
 -- what `sized` says: S and M are within their bounds, and the length is that of S and M
 pub record Sized (t : List ℕ) : Type 0 where
@@ -62,34 +59,15 @@ module _ (t : List ℕ) (e : sized t ≡ true) where
   pub item-fits : (x : ℕ) → 1 ≤ x → x ≤ items_of t → item_place (sessions_of t) x + ItemRecord.size ≤ length t
   item-fits x l h = let f = sized-facts t e in omega arith
 
-  pub ranks-fit : ranks_place (sessions_of t) (items_of t) + sessions_of t ≤ length t
-  ranks-fit = let f = sized-facts t e in omega arith
+  pub ranks_fit : ranks_place (sessions_of t) (items_of t) + sessions_of t ≤ length t
+  ranks_fit = let f = sized-facts t e in omega arith
 
   pub ranks-length : length (ranks t) ≡ sessions_of t
   unfolding ranks
-  ranks-length = length-slice t (ranks_place (sessions_of t) (items_of t)) (sessions_of t) ranks-fit
+  ranks-length = length-slice t (ranks_place (sessions_of t) (items_of t)) (sessions_of t) ranks_fit
 
   pub header-fits : header ≤ length t
   header-fits = let f = sized-facts t e in omega arith
-
--- the makers of a table, read by number, and the shares
-module _ (t : List ℕ) where
-  pub maker-session : (k : ℕ) → 1 ≤ k → k ≤ sessions_of t → (makers t).session k ≡ session_maker t k
-  unfolding owners
-  maker-session k l h =
-      let e : suc (k - 1) ≡ k = omega arith in owner-tabulate (sessions_of t) (λ k. session_maker t (suc k)) k l h ∙ ap (session_maker t) e
-
-  pub maker-item : (x : ℕ) → 1 ≤ x → x ≤ items_of t → (makers t).item x ≡ item_maker t x
-  unfolding owners
-  maker-item x l h =
-      let e : suc (x - 1) ≡ x = omega arith in owner-tabulate (items_of t) (λ x. item_maker t (suc x)) x l h ∙ ap (item_maker t) e
-
-  pub maker-share : (k : ℕ) → 1 ≤ k → k ≤ 2 → (makers t).share k ≡ share_at t k
-  unfolding owners share_of
-  maker-share zero l h = absurd (omega arith)
-  maker-share (suc zero) l h = refl
-  maker-share (suc (suc zero)) l h = refl
-  maker-share (suc (suc (suc k))) l h = absurd (omega arith)
 
 -- the record of session k is well-formed, and that of item x
 unfoldable pub session_ok : List ℕ → ℕ → Bool
@@ -116,6 +94,10 @@ module _ (t : List ℕ) (k : ℕ) (l : 1 ≤ k) where
 pub session-here : (t : List ℕ) (k : ℕ) {S M : ℕ} → S ≡ sessions_of t → M ≡ items_of t → SessionRecord.well_formed S M (SessionRecord.session_at t (header + session_stride * k)) ≡ session_ok t (suc k)
 unfolding session_ok session
 session-here t k p q = let e : suc k - 1 ≡ k = omega arith in rw (p, q, e) refl
+
+pub item-here : (t : List ℕ) (x : ℕ) {S from : ℕ} → S ≡ sessions_of t → from ≡ items_start S → ItemRecord.well_formed S (ItemRecord.item_at t (from + item_stride * x)) ≡ item_ok t (suc x)
+unfolding item_ok item
+item-here t x p q = let e : suc x - 1 ≡ x = omega arith in rw (q, p, e) refl
 
 -- from a well-formed table, each of its records and the ranks; and back
 module _ (t : List ℕ) where
@@ -156,11 +138,6 @@ module _ (t : List ℕ) where
   well_formed_intro f g r =
       in_form t ∙ rw (every_intro (sessions_of t) (session_ok t) f, every_intro (items_of t) (item_ok t) g, r) refl
 
--- makers and shares, part by part
-pub owners-same : {a b i j : List ℕ} {p q v w : ℕ} → a ≡ b → i ≡ j → p ≡ q → v ≡ w
-    → ◌≡◌ {A = Owners} (record { sessions = a; items = i; share1 = p; share2 = v }) (record { sessions = b; items = j; share1 = q; share2 = w })
-owners-same e f g h = λ n. record { sessions = e n; items = f n; share1 = g n; share2 = h n }
-
 -- a run of bytes behind the header leaves the header
 module _ (t : List ℕ) (at : ℕ) (l : List ℕ) (h : at + length l ≤ length t) (f : header ≤ at) where
   header-byte : (i : ℕ) → i < header → get_or (splice t at l) i 0 ≡ get_or t i 0
@@ -179,36 +156,8 @@ module _ (t : List ℕ) (at : ℕ) (l : List ℕ) (h : at + length l ≤ length 
   ranks-splice b =
       rw (sessions_of-splice, items_of-splice) (slice-splice-after t at l h (ranks_place (sessions_of t) (items_of t)) (sessions_of t) b)
 
-  -- a byte that is not in the run stays
-  byte-slice : (r : List ℕ) (p : ℕ) → get_or (slice r p 1) 0 0 ≡ get_or r p 0
-  byte-slice r p = let z : p + 0 ≡ p = omega arith in get_d_slice r p 1 0 (omega arith) ∙ ap (λ (n : ℕ). get_or r n 0) z
-
-  byte-splice : (p : ℕ) → (at ≤ p → at + length l ≤ p) → (b : Bool) → ltb p at ≡ b → get_or (splice t at l) p 0 ≡ get_or t p 0
-  byte-splice p g true q =
-      sym (byte-slice (splice t at l) p) ∙ ap (λ (r : List ℕ). get_or r 0 0) (slice-splice-before t at l h p 1 (omega (arith, ltb-true p at q))) ∙ byte-slice t p
-  byte-splice p g false q =
-      sym (byte-slice (splice t at l) p) ∙ ap (λ (r : List ℕ). get_or r 0 0) (slice-splice-after t at l h p 1 (g (ltb-false p at q))) ∙ byte-slice t p
-
-  -- and so do the makers and the shares, if no maker stands in the run
-  module _ (b : at + length l ≤ ranks_place (sessions_of t) (items_of t))
-      (own : (k : ℕ) → k < sessions_of t → at ≤ session_place (suc k) + SessionRecord.size → at + length l ≤ session_place (suc k) + SessionRecord.size)
-      (ownItem : (x : ℕ) → x < items_of t → at ≤ item_place (sessions_of t) (suc x) + ItemRecord.size → at + length l ≤ item_place (sessions_of t) (suc x) + ItemRecord.size) where
-    session-makers : tabulate (sessions_of t) (λ k. session_maker (splice t at l) (suc k)) ≡ tabulate (sessions_of t) (λ k. session_maker t (suc k))
-    session-makers = tabulate-same (sessions_of t) _ _ (λ k m. byte-splice (session_place (suc k) + SessionRecord.size) (own k m) _ refl)
-
-    item-makers : tabulate (items_of t) (λ x. item_maker (splice t at l) (suc x)) ≡ tabulate (items_of t) (λ x. item_maker t (suc x))
-    item-makers = rw (sessions_of-splice) (tabulate-same (items_of t) _ _ (λ x m. byte-splice (item_place (sessions_of t) (suc x) + ItemRecord.size) (ownItem x m) _ refl))
-
-    share-splice : (k : ℕ) → share_at (splice t at l) k ≡ share_at t k
-    share-splice k =
-        rw (sessions_of-splice, items_of-splice) (ap from_bytes (slice-splice-after t at l h (share_place (sessions_of t) (items_of t) k) share_size (omega arith)))
-
-    owners-splice : owners (splice t at l) ≡ owners t
-    unfolding owners
-    owners-splice = owners-same (ap (λ (n : ℕ). tabulate n (λ k. session_maker (splice t at l) (suc k))) sessions_of-splice ∙ session-makers) (ap (λ (n : ℕ). tabulate n (λ x. item_maker (splice t at l) (suc x))) items_of-splice ∙ item-makers) (share-splice 1) (share-splice 2)
-
-    config_of-splice : config_of (splice t at l) ≡ config_of t
-    config_of-splice = rw (sessions_of-splice, items_of-splice, ranks-splice b, owners-splice) refl
+  config_of-splice : at + length l ≤ ranks_place (sessions_of t) (items_of t) → config_of (splice t at l) ≡ config_of t
+  config_of-splice b = rw (sessions_of-splice, items_of-splice, ranks-splice b) refl
 
   sized-splice : sized (splice t at l) ≡ sized t
   unfolding sized
@@ -238,7 +187,7 @@ module _ (t : List ℕ) (e : sized t ≡ true) where
     unfolding with_session
     config_of-with_session =
         let len = SessionLaws.length-bytes s j in
-        config_of-splice t (session_place k) (SessionRecord.session_bytes s) session-written (omega arith) (omega arith) (λ i m n. omega arith) (λ x m n. omega arith)
+        config_of-splice t (session_place k) (SessionRecord.session_bytes s) session-written (omega arith) (omega arith)
 
     pub sessions_of-with_session : sessions_of (with_session t k s) ≡ sessions_of t
     sessions_of-with_session = ap (λ (c : Config). c.sessions) config_of-with_session
@@ -302,7 +251,7 @@ module _ (t : List ℕ) (e : sized t ≡ true) where
     unfolding with_item
     config_of-with_item =
         let len = ItemLaws.length-bytes i q in
-        config_of-splice t (item_place (sessions_of t) x) (ItemRecord.item_bytes i) item-written (omega arith) (omega arith) (λ k m n. omega arith) (λ y m n. omega arith)
+        config_of-splice t (item_place (sessions_of t) x) (ItemRecord.item_bytes i) item-written (omega arith) (omega arith)
 
     pub sessions_of-with_item : sessions_of (with_item t x i) ≡ sessions_of t
     sessions_of-with_item = ap (λ (c : Config). c.sessions) config_of-with_item

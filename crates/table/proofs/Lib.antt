@@ -1,4 +1,2 @@
 pub mod Laws
-pub mod Owned
 pub mod StartLaws
-pub mod WithinLaws

@@ -1,12 +1,8 @@
-// The table in a lent buffer: well-formedness, load and store of every record, the ranks, and who owns what.
+// The table in a lent buffer: well-formedness, load and store of every record, and the ranks.
 #![tactic(auto)]
 
-ghost use Rattle.std.specs.Prelude.{◌≡◌, true, ◌&&◌, ◌≤◌, length};
-ghost use Rattle.makers.specs.Makers as Makers;
-ghost use Rattle.makers.specs.Makers.{owners_of};
-ghost use Rattle.makers.specs.Masks.{Masked};
-ghost use Rattle.table.specs.Layout.{header, session_place, items_start, item_place, ranks_place, ranks_end, size, sessions_of, items_of, sized, session, with_session, item, with_item, ranks, owners, makers, well_formed, within, in_form, HasSession, HasItem, config, Bounded, started};
-ghost use Rattle.table.specs.Within.{sessions_in, items_in};
+ghost use Rattle.std.specs.Prelude.{◌≡◌, true, ◌≤◌, length};
+ghost use Rattle.table.specs.Layout.{header, session_place, items_start, item_place, ranks_place, ranks_end, size, sessions_of, items_of, sized, session, with_session, item, with_item, ranks, well_formed, HasSession, HasItem, config, Bounded, started};
 
 use item::Item;
 use message::{MAX_ITEMS, MAX_SESSIONS};
@@ -19,25 +15,21 @@ const SESSIONS_PLACE: usize = 0;
 
 const ITEMS_PLACE: usize = 1;
 
-// The tail of a record: the maker, a byte behind it that the rules do not own.
-const SESSION_TAIL: usize = 1;
+// The tail of a record: bytes behind it that the rules do not own.
+const SESSION_TAIL: usize = 0;
 
-const ITEM_TAIL: usize = 1;
+const ITEM_TAIL: usize = 0;
 
 // From one record to the next.
 const SESSION_STRIDE: usize = Session::SIZE + SESSION_TAIL;
 
 const ITEM_STRIDE: usize = Item::SIZE + ITEM_TAIL;
 
-// The bytes of a share; there are two.
-const SHARE_SIZE: usize = 2;
-
 // The bytes of the largest table.
 pub const MAX_SIZE: usize = HEADER
     + SESSION_STRIDE * MAX_SESSIONS
     + ITEM_STRIDE * MAX_ITEMS
-    + MAX_SESSIONS
-    + 2 * SHARE_SIZE;
+    + MAX_SESSIONS;
 
 // S and M.
 pub fn sessions(t: &[u8]) -> u8
@@ -78,7 +70,7 @@ fn ranks_end(s: u8, m: u8) -> usize
 pub fn size(s: u8, m: u8) -> usize
     ensures { result ≡ size s m }
 {
-    ranks_end(s, m) + 2 * SHARE_SIZE
+    ranks_end(s, m)
 }
 
 // Where the record of session k stands.
@@ -124,71 +116,18 @@ pub fn ranks(t: &[u8]) -> &[u8]
     &t[from..end]
 }
 
-// The maker of session k.
-pub fn session_maker(t: &[u8], k: u8) -> u8
-    requires { HasSession t.now k }
-    ensures { result ≡ (makers t.now).session k }
-{
-    t[session_place(k) + Session::SIZE]
-}
-
-// The maker of item x.
-pub fn item_maker(t: &[u8], x: u8) -> u8
-    requires { HasItem t.now x }
-    ensures { result ≡ (makers t.now).item x }
-{
-    t[item_place(sessions(t), x) + Item::SIZE]
-}
-
-// The share of a maker.
-pub fn share(t: &[u8], maker: u8) -> usize
-    requires { (sized t.now ≡ true) × (1 ≤ maker) × (maker ≤ 2) }
-    ensures { result ≡ (makers t.now).share maker }
-{
-    let s = sessions(t);
-    let m = items(t);
-    buffer::get16(t, ranks_end(s, m) + SHARE_SIZE * (maker - 1) as usize) as usize
-}
-
-// Whether a table is well-formed; and if so, its sessions and its items of maker 2.
-#[derive(Clone, Copy)]
-pub struct InForm {
-    pub formed: bool,
-    pub sessions: u64,
-    pub items: u64,
-}
-
-// Whether each maker is 1 or 2 and neither share is 0.
-fn makers_formed(t: &[u8]) -> InForm
+// Whether every record is well-formed, and the ranks.
+pub fn well_formed(t: &[u8]) -> bool
     requires { sized t.now ≡ true }
-    ensures { (result.formed ≡ Makers.well_formed (owners t.now))
-        × (result.formed ≡ true → Masked (makers t.now) (sessions_of t.now) (items_of t.now) result.sessions result.items) }
-{
-    let s = sessions(t);
-    let m = items(t);
-    let of_sessions = makers::read(t, HEADER + Session::SIZE, SESSION_STRIDE, s as usize);
-    let of_items = makers::read(t, items_start(s) + Item::SIZE, ITEM_STRIDE, m as usize);
-    let first = share(t, makers::FIRST);
-    let second = share(t, makers::SECOND);
-    InForm {
-        formed: of_sessions.known & of_items.known & (first >= 1) & (second >= 1),
-        sessions: of_sessions.second,
-        items: of_items.second,
-    }
-}
-
-// Whether every record is well-formed, and the ranks, and every item record names only sessions of the item's maker. Maker 2 has sessions2 and items2.
-fn formed(t: &[u8], sessions2: u64, items2: u64) -> bool
-    requires { (sized t.now ≡ true) × Masked (makers t.now) (sessions_of t.now) (items_of t.now) sessions2 items2 }
-    ensures { result ≡ well_formed t.now && items_in t.now }
+    ensures { result ≡ well_formed t.now }
 {
     let s = sessions(t);
     let m = items(t);
     let limits = form::limits(s);
     let top = bitset::full(m);
-    let n = s as usize;
+    let sessions = s as usize;
     let mut k: usize = 0;
-    while k < n {
+    while k < sessions {
         if form::session(t, HEADER + SESSION_STRIDE * k, s, m, top, &limits) {
             k += 1;
         } else {
@@ -196,82 +135,16 @@ fn formed(t: &[u8], sessions2: u64, items2: u64) -> bool
         }
     }
     let from = items_start(s);
-    let last = m as usize;
+    let items = m as usize;
     let mut x: usize = 0;
-    while x < last {
-        let maker = makers::maker(items2, (x + 1) as u8);
-        if form::item(t, from + ITEM_STRIDE * x, s, &limits, sessions2, maker) {
+    while x < items {
+        if form::item(t, from + ITEM_STRIDE * x, s, &limits) {
             x += 1;
         } else {
             return false;
         }
     }
     form::ranks(ranks(t))
-}
-
-// Whether every session record names only sessions and items of the session's maker.
-fn sessions_within(t: &[u8], sessions2: u64, items2: u64) -> bool
-    requires { (sized t.now ≡ true) × (well_formed t.now ≡ true) × Masked (makers t.now) (sessions_of t.now) (items_of t.now) sessions2 items2 }
-    ensures { result ≡ sessions_in t.now }
-{
-    let s = sessions(t);
-    let n = s as usize;
-    let makers = makers::row(sessions2, s);
-    let owners = makers::row(items2, items(t));
-    let mut k: usize = 0;
-    while k < n {
-        let maker = makers::maker(sessions2, (k + 1) as u8);
-        if form::session_within(
-            t,
-            HEADER + SESSION_STRIDE * k,
-            n,
-            maker,
-            sessions2,
-            items2,
-            &makers,
-            &owners,
-        ) {
-            k += 1;
-        } else {
-            return false;
-        }
-    }
-    true
-}
-
-// Whether every record is well-formed, and the ranks, and every record names only what belongs to its maker. Where all belong to maker 1 the sessions are not looked at again.
-fn records(t: &[u8], sessions2: u64, items2: u64) -> bool
-    requires { (sized t.now ≡ true) × Masked (makers t.now) (sessions_of t.now) (items_of t.now) sessions2 items2 }
-    ensures { result ≡ well_formed t.now && within (makers t.now) t.now }
-{
-    if formed(t, sessions2, items2) {
-        if sessions2 == 0 {
-            if items2 == 0 {
-                return true;
-            }
-        }
-        sessions_within(t, sessions2, items2)
-    } else {
-        false
-    }
-}
-
-// Whether the whole table is well-formed.
-pub fn in_form(t: &[u8]) -> InForm
-    requires { sized t.now ≡ true }
-    ensures { (result.formed ≡ in_form t.now)
-        × (result.formed ≡ true → Masked (makers t.now) (sessions_of t.now) (items_of t.now) result.sessions result.items) }
-{
-    let found = makers_formed(t);
-    if found.formed {
-        InForm {
-            formed: records(t, found.sessions, found.items),
-            sessions: found.sessions,
-            items: found.items,
-        }
-    } else {
-        found
-    }
 }
 
 // The record of session k.
@@ -323,19 +196,10 @@ pub fn put_item(t: &mut [u8], x: u8, i: Item)
     i.store(t, at);
 }
 
-// Writes the table of a lock manager that starts, with so many sessions and items, these ranks, makers and shares.
-pub fn clear(
-    t: &mut [u8],
-    sessions: u8,
-    items: u8,
-    ranks: &[u8],
-    session_makers: &[u8],
-    item_makers: &[u8],
-    share1: u64,
-    share2: u64,
-)
-    requires { Bounded (config sessions items ranks.now (owners_of session_makers.now item_makers.now share1 share2)) × (length t.old ≡ size sessions items) }
-    ensures { t.new ≡ started (config sessions items ranks.now (owners_of session_makers.now item_makers.now share1 share2)) }
+// Writes the table of a lock manager that starts, with so many sessions and items, and these ranks.
+pub fn clear(t: &mut [u8], sessions: u8, items: u8, ranks: &[u8])
+    requires { Bounded (config sessions items ranks.now) × (length t.old ≡ size sessions items) }
+    ensures { t.new ≡ started (config sessions items ranks.now) }
 {
     buffer::clear(t);
     t[SESSIONS_PLACE] = sessions;
@@ -343,19 +207,8 @@ pub fn clear(
     let n = sessions as usize;
     let mut k: usize = 0;
     while k < n {
-        let at = HEADER + SESSION_STRIDE * k;
-        t[at] = Session::GROWING;
-        t[at + Session::SIZE] = session_makers[k];
+        t[HEADER + SESSION_STRIDE * k] = Session::GROWING;
         k += 1;
     }
-    let from = items_start(sessions);
-    let m = items as usize;
-    let mut x: usize = 0;
-    while x < m {
-        t[from + ITEM_STRIDE * x + Item::SIZE] = item_makers[x];
-        x += 1;
-    }
-    let end = buffer::put_bytes(t, ranks_place(sessions, items), ranks);
-    buffer::put16(t, end, share1);
-    buffer::put16(t, end + SHARE_SIZE, share2);
+    buffer::put_bytes(t, ranks_place(sessions, items), ranks);
 }

@@ -49,7 +49,7 @@ module _ (verb t x : ℕ) (table mail : List ℕ) where
   closes-one : (step verb t x table mail).answer.closed ≤ 1
   closes-one =
       by_call verb t x table mail (λ (r : Stepped). r.answer.closed ≤ 1) (λ _ _. omega arith)
-      (λ _ _ _ _ _ _. let p = plan (Table.senior table) verb t x table (Mail.entries_of mail) in one-low (Item.joined p.event && not (eqb (cycle_length p.table t) 0)))
+      (λ _ _ _ _ _. let p = plan (Table.senior table) verb t x table (Mail.entries_of mail) in one-low (Item.joined p.event && not (eqb (cycle_length p.table t) 0)))
 
   -- a step that names a session that there is not is refused
   unnumbered : between 1 (sessions_of table) t ≡ false → (step verb t x table mail).table ≡ table

@@ -2,7 +2,7 @@
 use mathlib.Core.Path.{◌≡◌, refl, sym, ap, ◌∙◌}
 use mathlib.Core.Bool.{true, false, ◌&&◌}
 use mathlib.Core.List.{List, [], ◌∷◌, ◌++◌, append_assoc}
-use Prim.Native.Nat.{ℕ, suc, ◌+◌, ◌*◌, ◌≤◌, ◌<◌}
+use Prim.Native.Nat.{ℕ, suc, ◌+◌, ◌*◌, ◌≤◌, ◌<◌, zero-le}
 use native.Mathlib.Numerals.{add-one}
 use native.Mathlib.Omega.{arith}
 use borrow.Author.Tests.{leb-true, eqb-true}
@@ -10,24 +10,22 @@ use lib.Dec.{eqb, leb}
 use lib.ListN.{length, drop, replicate, length-append, length-replicate, drop_of_length-le}
 use lib.Seq.{drop-cons}
 use Rattle.buffer.specs.Bytes.{splice}
-use Rattle.lists.specs.Lists.{between, tabulate}
+use Rattle.lists.specs.Lists.{all_of, between, tabulate}
 use Rattle.lists.proofs.Laws.{get_d_tabulate, length-tabulate}
 use Rattle.lists.proofs.Tests.{and_both, within}
 use Rattle.message.specs.Limits.{max_sessions, max_items}
-use Rattle.makers.specs.Makers.{alone}
-use Rattle.makers.proofs.Owners.{alone-formed}
 use Rattle.mailbox.specs.Layout as Mail
-use Rattle.mailbox.proofs.Laws.{sized-facts, formed-facts}
+use Rattle.mailbox.proofs.Laws.{sized-mail, well_formed-mail, sized-facts, formed-facts}
 use Rattle.table.specs.Layout as Table
 use Rattle.session.specs.Seniority.{plain}
 use Rattle.session.proofs.Seniority.{plain-length, plain-formed}
+use Rattle.table.proofs.StartLaws.{config_of-started, sized-started, well_formed-started}
 use Rattle.step.specs.declared.Answer.{Answer}
 use Rattle.step.specs.Step.{Stepped, stepped, Formed}
 use Rattle.lockmgr.specs.Calls.{Config, Started, config, start, start_result, step}
 use Rattle.lockmgr.specs.Run as Run
 use Rattle.lockmgr.specs.Run.{counted}
 use Rattle.lockmgr.proofs.Judging.{Startable, start_none}
-use Rattle.lockmgr.proofs.Form.{started-formed}
 use Rattle.tally.specs.declared.Tally.{Tally}
 use Rattle.text.proofs.Laws.{splice_then, splice-none}
 use Rattle.tally.specs.declared.Step.{Step}
@@ -95,23 +93,24 @@ pub record Played (input out₀ table mail out : List ℕ) (t : Tally) (at k : �
 -- none is done
 module _ (input : List ℕ) (w : well_formed input ≡ true) where
   abbrev given : Config
-  given = config (sessions_in input) (items_in input) capacity (plain (sessions_in input)) (alone (sessions_in input) (items_in input) capacity)
+  given = config (sessions_in input) (items_in input) capacity (plain (sessions_in input))
+
+  bounded : Table.Bounded given.kept
+  bounded =
+      let k = known input w in
+      record {
+        some-sessions = k.some-sessions;
+        max-sessions = k.max-sessions;
+        some-items = k.some-items;
+        max-items = k.max-items;
+        ranks-whole = plain-length (sessions_in input);
+      }
 
   startable : (table mail : List ℕ) → length table ≡ Table.size (sessions_in input) (items_in input) → length mail ≡ Mail.size capacity → Startable given table mail
   startable table mail ht hm =
-      let k = known input w in
       record {
-        sizes = record {
-          bounds = record { sessions = (k.some-sessions, k.max-sessions); items = (k.some-items, k.max-items); capacity = (omega arith, omega arith) };
-          ranks-whole = plain-length (sessions_in input);
-          sessions-whole = length-replicate {A = ℕ} (sessions_in input) 1;
-          items-whole = length-replicate {A = ℕ} (items_in input) 1;
-          table-whole = ht;
-          mail-whole = hm;
-        };
+        sizes = record { bounded = bounded; some-room = omega arith; max-room = omega arith; table-whole = ht; mail-whole = hm };
         ranks = plain-formed (sessions_in input);
-        makers = alone-formed (sessions_in input) (items_in input) capacity (omega arith);
-        shares = refl;
       }
 
   -- its lock manager starts, in any buffers of the right sizes
@@ -129,6 +128,19 @@ module _ (input : List ℕ) (w : well_formed input ≡ true) where
       starts (replicate (Table.size (sessions_in input) (items_in input)) 0) (replicate (Mail.size capacity) 0)
       (length-replicate {A = ℕ} (Table.size (sessions_in input) (items_in input)) 0) (length-replicate {A = ℕ} (Mail.size capacity) 0)
 
+  formed-start : Formed begun (Mail.mail_bytes capacity [])
+  unfolding all_of
+  formed-start =
+      let S = sessions_in input in
+      let M = items_in input in
+      let stands = config_of-started given.kept bounded in
+      record {
+        records = record { sized = sized-started given.kept bounded; formed = well_formed-started given.kept bounded (plain-formed S) };
+        mail-sized = sized-mail capacity [] (omega arith) (omega arith) zero-le;
+        mail-formed =
+            rw (ap (λ (c : Table.Config). c.sessions) stands, ap (λ (c : Table.Config). c.items) stands) (well_formed-mail capacity [] (omega arith) (omega arith) zero-le S M refl);
+      }
+
   pub none_done : (out table mail : List ℕ) {table' mail' : List ℕ} {r : ℕ} → length table ≡ Table.size (sessions_in input) (items_in input) → length mail ≡ Mail.size capacity
       → start_result r table' mail' ≡ start given table mail → Played input out table' mail' out (record { closed = 0; declared = 0; rolled_back = 0 }) 0 0
   unfolding transcript replayed
@@ -138,7 +150,7 @@ module _ (input : List ℕ) (w : well_formed input ≡ true) where
       let m = ap (λ (r : Started). r.mail) q in
       record {
         reached = omega arith;
-        formed = rw (t, m) (started-formed given (startable table mail ht hm));
+        formed = rw (t, m) formed-start;
         same = refl;
         closed-few = omega arith;
         declared-few = omega arith;

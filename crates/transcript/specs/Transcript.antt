@@ -1,7 +1,6 @@
 -- The replay program as a function from the bytes of its input to the bytes of its output.
 use Rattle.std.specs.Prelude.{ℕ, suc, ◌+◌, ◌*◌, cond, List, [], ◌∷◌, ◌++◌, replicate}
 use Rattle.session.specs.Seniority.{plain}
-use Rattle.makers.specs.Makers.{alone}
 use Rattle.mailbox.specs.Layout as Mail
 use Rattle.table.specs.Layout as Table
 use Rattle.step.specs.declared.Answer.{Answer}
@@ -19,9 +18,9 @@ bad = ascii "bad" ++ (line_feed ∷ [])
 abbrev pub capacity : ℕ
 capacity = Mail.max_capacity
 
--- a lock manager that starts, with rank k for session k and maker 1 for all, in buffers of the sizes that S, M and C ask for
+-- a lock manager that starts, with rank k for session k, in buffers of the sizes that S, M and C ask for
 unfoldable pub replay_start : ℕ → ℕ → Started
-replay_start S M = start (config S M capacity (plain S) (alone S M capacity)) (replicate (Table.size S M) 0) (replicate (Mail.size capacity) 0)
+replay_start S M = start (config S M capacity (plain S)) (replicate (Table.size S M) 0) (replicate (Mail.size capacity) 0)
 
 -- the steps of an input, done in their order
 unfoldable pub replayed : List ℕ → Ran

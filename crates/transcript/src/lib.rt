@@ -3,9 +3,8 @@
 
 ghost use Rattle.std.specs.Prelude.{◌≡◌, true, ◌+◌, ◌≤◌, ◌<◌, length};
 ghost use Rattle.buffer.specs.Bytes.{splice};
-ghost use Rattle.message.specs.Limits.{max_sessions, max_items};
+ghost use Rattle.message.specs.Limits.{max_sessions};
 ghost use Rattle.session.specs.Seniority.{plain};
-ghost use Rattle.makers.specs.Makers.{alone};
 ghost use Rattle.mailbox.specs.Layout as Mail;
 ghost use Rattle.table.specs.Layout as Table;
 ghost use Rattle.lockmgr.specs.Calls.{config, start_result, start};
@@ -117,25 +116,18 @@ fn plain_ranks() -> [u8; MAX_SESSIONS]
     ranks
 }
 
-// Starts a lock manager of s sessions and m items, all of maker 1.
+// Starts a lock manager of s sessions and m items.
 fn begin(s: u8, m: u8, table: &mut [u8], mail: &mut [u8]) -> u8
-    requires { (s ≤ max_sessions) × (m ≤ max_items) }
-    ensures { start_result result table.new mail.new ≡ start (config s m capacity (plain s) (alone s m capacity)) table.old mail.old }
+    requires { s ≤ max_sessions }
+    ensures { start_result result table.new mail.new ≡ start (config s m capacity (plain s)) table.old mail.old }
 {
     let ranks = plain_ranks();
-    let session_makers = [makers::FIRST; MAX_SESSIONS];
-    let item_makers = [makers::FIRST; MAX_ITEMS];
     let n = s as usize;
-    let i = m as usize;
     lockmgr::lockmgr_start(
         s as u64,
         m as u64,
         CAPACITY as u64,
         &ranks[..n],
-        &session_makers[..n],
-        &item_makers[..i],
-        CAPACITY as u64 - 1,
-        1,
         table,
         mail,
     )

@@ -8,7 +8,7 @@ use lib.Dec.{eqb}
 use borrow.Author.Tests.{eqb-true, eqb-false}
 use Rattle.lists.proofs.Searches.{some_or_none}
 use Rattle.waits.specs.Waits.{reached, cycle_length, on_cycle}
-use Rattle.waits.proofs.Reached.{Graph, reached-sum, reached-suc, reached-swap, reached-past, within, returns, on-cycle_positive, cycle-returns, back_positive, back_inside, reached-inside, on-cycle-found, cycle-length_least}
+use Rattle.waits.proofs.Reached.{Graph, reached-sum, reached-suc, reached_swap, reached-past, within, returns, on-cycle_positive, cycle-returns, back_positive, back_inside, reached-inside, on-cycle-found, cycle-length_least}
 
 module _ {next : ℕ → ℕ} {S : ℕ} (g : Graph next S) where
   -- whoever waits for none lies on no cycle
@@ -46,7 +46,7 @@ module _ {next : ℕ → ℕ} {S : ℕ} (g : Graph next S) where
     member_back k = returns next t around-length once back k
 
     around : (k : ℕ) → reached next around-length (reached next k t) ≡ reached next k t
-    around k = reached-swap next around-length k t ∙ ap (reached next k) back
+    around k = reached_swap next around-length k t ∙ ap (reached next k) back
 
     pub member-on-cycle : (k : ℕ) → on_cycle next S (reached next k t) ≡ true
     member-on-cycle k = on-cycle-found g (reached next k t) (member_positive k) around-length once (around k)

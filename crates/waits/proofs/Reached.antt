@@ -35,8 +35,8 @@ module _ (next : ℕ → ℕ) where
   reached-suc (suc n) t = ap next (reached-suc n t)
 
   -- the two parts in the other order
-  pub reached-swap : (m n t : ℕ) → reached next m (reached next n t) ≡ reached next n (reached next m t)
-  reached-swap m n t = reached-sum m n (m + n) t refl ∙ sym (reached-sum n m (m + n) t (omega arith))
+  pub reached_swap : (m n t : ℕ) → reached next m (reached next n t) ≡ reached next n (reached next m t)
+  reached_swap m n t = reached-sum m n (m + n) t refl ∙ sym (reached-sum n m (m + n) t (omega arith))
 
   -- t is reached from itself by k waits, one or more: then what is reached from t is reached by 1 to k waits, and t is reached from it
   module _ (t k : ℕ) (once : 1 ≤ k) (back : reached next k t ≡ t) where

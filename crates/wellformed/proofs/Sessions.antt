@@ -1,277 +1,254 @@
--- A session's step, over any two tests, of sessions and of items: where the record and the entry that it takes name only what passes them, so do the record that it leaves and the entries that it sends.
--- With ranges for the tests: it leaves a well-formed record, and sends well-formed entries.
+-- A session's step leaves a well-formed record, and sends well-formed entries.
 use mathlib.Core.Path.{◌≡◌, refl, sym, ap, ◌∙◌}
-use mathlib.Core.Bool.{Bool, true, false, not, ◌||◌, true≢false}
+use mathlib.Core.Bool.{Bool, true, false, not, ◌||◌}
 use mathlib.Core.List.{List, [], ◌∷◌}
-use Prim.Native.Nat.{ℕ, zero, suc, ◌+◌, ◌-◌, ◌≤◌}
+use Prim.Native.Nat.{ℕ, zero, suc, ◌+◌, ◌-◌, ◌^◌, ◌≤◌, ◌<◌}
 use native.Mathlib.Nat.{add-zero}
 use native.Mathlib.Omega.{arith}
-use lib.Dec.{eqb, ltb}
-use lib.ListN.{length, get_or, set, length-set}
-use lib.Seq.{get_or-set_same, get_or-set_other, set_out}
-use borrow.Author.Tests.{eqb-true, eqb-false, ne_eqb, ltb-true, ltb-false}
+use lib.Dec.{eqb, leb, ltb}
+use lib.ListN.{length, get_or, take, drop, length-set, length-take}
+use lib.Seq.{take-set-lt, drop-set-lt, get_or-take, get_or-drop}
+use lib.Pow.{pow_pos}
+use borrow.Author.Tests.{eq-eqb, eqb-true, eqb-false, leb-true, le-leb, ltb-true, ltb-false}
 use Rattle.lists.specs.Lists.{between, all_of, filter}
-use Rattle.lists.proofs.Tests.{by_answer, by-test}
-use Rattle.lists.proofs.Laws.{all_cons, all_filter, all_join, all_map, all_none, all_one, all_weaken}
-use Rattle.bitset.specs.Bitset.{has, insert, remove, members}
-use Rattle.bitset.proofs.MemberLaws.{rising, those_in, members-rising, has-none, has-insert-other, has-remove-other}
+use Rattle.lists.proofs.Tests.{between_intro, by_answer, by-test, within}
+use Rattle.lists.proofs.Laws.{zeros_get_d, all_cons, all_filter, all_get_d, all_join, all_map, all_none, all_one, all_set, all_weaken}
+use Rattle.bitset.specs.Bitset.{has, members}
+use Rattle.bitset.proofs.MemberLaws.{rising, those_in, members-rising, has_above, insert-below, remove-below}
 use Rattle.message.specs.Kind
 use Rattle.message.specs.declared.Message.{Message}
 use Rattle.message.specs.Outbox.{message, plain}
 use Rattle.mailbox.specs.Entry as Entry
 use Rattle.mailbox.specs.Entry.{Entry, to_item, from_session, seen_by_session}
-use Rattle.mailbox.proofs.EntryLaws.{entry-facts}
 use Rattle.session.specs.Stage
 use Rattle.session.specs.declared.Session.{Session}
-use Rattle.session.specs.Record.{stored, with_stage, well_formed}
-use Rattle.session.proofs.WellFormed.{session-formed, none-length}
-use Rattle.session.proofs.Within.{SessionWithin, SessionShape, none-stored, shape-formed}
-use Rattle.wellformed.proofs.Entries.{formed, session-within, item-within, a-within, b-within, plain_entry, pair_entry}
-use Rattle.session.specs.Rules.{After, dropped, probes_from, stored_probes, to_held, requested, released, granted, resent, aborted, cleared, cleaned, cleaned_waiting, cleaned_victim, rolled_back, junior, kept_probe, probed, received}
+use Rattle.session.specs.Record.{well_formed}
+use Rattle.session.proofs.WellFormed.{SessionWellFormed, session-facts, session-formed, none-juniors, none-zeros, none-length}
+use Rattle.wellformed.proofs.Entries.{session-range, item-range, a-range, b-range, plain_entry, pair_entry}
+use Rattle.session.specs.Rules.{After, dropped, probes_from, stored_probes, stored, to_held, requested, released, granted, resent, aborted, cleared, cleaned, cleaned_waiting, cleaned_victim, rolled_back, junior, kept_probe, probed, received}
 
-module _ (own ownItem : ℕ → Bool) where
-  -- a record that names no more than another
-  module _ (s : Session) (w : SessionWithin own ownItem s) where
-    stage-within : (n : ℕ) → SessionWithin own ownItem (with_stage n s)
-    stage-within n = record { awaited = w.awaited; held = w.held; initiators = w.initiators; juniors = w.juniors }
-
-    cleared-within : SessionWithin own ownItem (cleared s)
-    cleared-within = record { awaited = w.awaited; held = w.held; initiators = λ i _ some. absurd (some (none-stored (i - 1))); juniors = λ i _ some. absurd (some (none-stored (i - 1))) }
-
-  module _ (t : ℕ) where
-    -- the test of a message that session t sends
-    abbrev is_formed : Message → Bool
-    is_formed m = formed own ownItem (from_session t m)
-
-    -- what a session's step leaves
-    pub record SessionStays (r : After) : Type 0 where
-      pub shape : SessionShape r.session
-      pub session : SessionWithin own ownItem r.session
-      pub sends : all_of is_formed r.sends ≡ true
-
-    module _ (t-own : own t ≡ true) where
-      plain-sent : (y kind : ℕ) → ownItem y ≡ true → Entry.carried to_item kind ≡ true → Kind.carries kind ≡ false → is_formed (plain y kind) ≡ true
-      plain-sent y kind r c d = plain_entry own ownItem (from_session t (plain y kind)) c t-own r d refl refl
-
-      probe-sent : (y a b : ℕ) → ownItem y ≡ true → own a ≡ true → own b ≡ true → is_formed (message y Kind.probe a b) ≡ true
-      probe-sent y a b r p q = pair_entry own ownItem (from_session t (message y Kind.probe a b)) refl t-own r refl p q refl
-
-      clean-sent : (y a b : ℕ) → ownItem y ≡ true → own a ≡ true → own b ≡ true → is_formed (message y Kind.clean a b) ≡ true
-      clean-sent y a b r p q = pair_entry own ownItem (from_session t (message y Kind.clean a b)) refl t-own r refl p q refl
-
-      -- stored probes
-      probes-sent : (x : ℕ) → ownItem x ≡ true → (i : ℕ) (js : List ℕ)
-          → ((n : ℕ) → (get_or js n 0 ≡ 0 → ⊥) → (own (i + n) ≡ true) × (own (get_or js n 0) ≡ true))
-          → all_of is_formed (probes_from x i js) ≡ true
-      unfolding probes_from
-      probes-sent x r i [] h = all_none is_formed
-      probes-sent x r i (j ∷ js) h =
-          let rest = probes-sent x r (suc i) js (λ n e. let p = h (suc n) e in let q : i + suc n ≡ suc i + n = omega arith in (rw (q) at p.0, p.1)) in
-          by-test (λ (l : List Message). all_of is_formed l ≡ true) (eqb j 0) (λ _. rest)
-          (λ e. let p = h 0 (eqb-false j 0 e) in all_cons is_formed (message x Kind.probe i j) _ (probe-sent x i j r (rw (add-zero i) at p.0) p.1) rest)
-
-      -- messages to held items
-      module _ (mask : ℕ) (items : (x : ℕ) → 1 ≤ x → has x mask ≡ true → ownItem x ≡ true) where
-        those_own : (n k : ℕ) → 1 ≤ k → all_of ownItem (those_in mask (rising n k)) ≡ true
-        unfolding those_in rising
-        those_own zero k l = all_none ownItem
-        those_own (suc n) k l =
-            let rest = those_own n (suc k) (omega arith) in
-            by-test (λ (l : List ℕ). all_of ownItem l ≡ true) (has k mask) (λ e. all_cons ownItem k _ (items k l e) rest) (λ _. rest)
-
-        held-sent : (kind x : ℕ) → Entry.carried to_item kind ≡ true → Kind.carries kind ≡ false → all_of is_formed (to_held kind x mask) ≡ true
-        unfolding to_held
-        held-sent kind x c d =
-            let all : all_of ownItem (members mask) ≡ true = rw (members-rising mask) (those_own 64 1 (omega arith)) in
-            all_map is_formed (λ y. plain y kind) (filter (λ y. not (eqb y x)) (members mask))
-            (all_filter _ (λ y. not (eqb y x)) (members mask) (all_weaken ownItem _ (λ y r. plain-sent y kind r c d) (members mask) all))
-
-      module _ (s : Session) (f : SessionShape s) (w : SessionWithin own ownItem s) where
-        dropped-stays : SessionStays (dropped s)
-        dropped-stays = record { shape = f; session = w; sends = all_none is_formed }
-
-        -- whether an item is awaited, by stage
-        awaited-at : (stage : ℕ) → eqb s.stage stage ≡ true → eqb s.awaited 0 ≡ not (Stage.awaits stage)
-        awaited-at stage e = f.awaited ∙ ap (λ (n : ℕ). not (Stage.awaits n)) (eqb-true s.stage stage e)
-
-        awaited-own : eqb s.awaited 0 ≡ false → ownItem s.awaited ≡ true
-        awaited-own some = w.awaited (eqb-false s.awaited 0 some)
-
-        stored-sent : (x : ℕ) → ownItem x ≡ true → all_of is_formed (stored_probes s x) ≡ true
-        stored-sent x r =
-            probes-sent x r 1 s.juniors (λ n e. let p : 1 + n - 1 ≡ n = omega arith in let some : stored s (1 + n) ≡ 0 → ⊥ = rw (p) e in (w.initiators (1 + n) (omega arith) some, rw (p) at (w.juniors (1 + n) (omega arith) some)))
-
-        module _ (x : ℕ) (low : 1 ≤ x) (x-own : ownItem x ≡ true) where
-          -- a mask that differs from that of the held items at x alone
-          held-own : (mask : ℕ) → ((y : ℕ) → 1 ≤ y → (y ≡ x → ⊥) → has y mask ≡ has y s.held) → (y : ℕ) → 1 ≤ y → has y mask ≡ true → ownItem y ≡ true
-          held-own mask same y l e = by_answer (eqb y x) (λ q. rw (eqb-true y x q) x-own) (λ q. w.held y l (sym (same y l (eqb-false y x q)) ∙ e))
-
-          requested-stays : SessionStays (requested x s)
-          unfolding requested
-          requested-stays = record {
-            shape = record { stage = refl; awaited = ne_eqb x 0 (λ e. omega arith); places = f.places };
-            session = record { awaited = λ _. x-own; held = w.held; initiators = w.initiators; juniors = w.juniors };
-            sends = all_cons is_formed _ _ (plain-sent x Kind.request x-own refl refl) (stored-sent x x-own);
-          }
-
-          released-stays : eqb s.awaited 0 ≡ true → SessionStays (released x s)
-          unfolding released
-          released-stays free =
-              let c = cleared-within s w in
-              record {
-                shape = record { stage = refl; awaited = free; places = none-length };
-                session = record { awaited = w.awaited; held = held-own (remove x s.held) (λ y. has-remove-other x s.held y low); initiators = c.initiators; juniors = c.juniors };
-                sends = all_one is_formed _ (plain-sent x Kind.release x-own refl refl);
-              }
-
-          granted-stays : SessionStays (granted x s)
-          unfolding granted
-          granted-stays =
-              by-test SessionStays (eqb x s.awaited)
-              (λ _. record {
-                shape = record { stage = refl; awaited = refl; places = f.places };
-                session = record { awaited = λ some. absurd (some refl); held = held-own (insert x s.held) (λ y. has-insert-other x s.held y low); initiators = w.initiators; juniors = w.juniors };
-                sends = all_none is_formed;
-              })
-              (λ _. dropped-stays)
-
-        cleared-shape : SessionShape (cleared s)
-        cleared-shape = record { stage = f.stage; awaited = f.awaited; places = none-length }
-
-        cleaned-stays : (x : ℕ) → SessionStays (cleaned x s)
-        unfolding cleaned
-        cleaned-stays x = record { shape = cleared-shape; session = cleared-within s w; sends = held-sent s.held w.held Kind.rebroadcast x refl refl }
-
-        rolled_back-stays : SessionStays (rolled_back s)
-        unfolding rolled_back
-        rolled_back-stays = record {
-          shape = record { stage = refl; awaited = refl; places = f.places };
-          session = record { awaited = λ some. absurd (some refl); held = λ x _ e. absurd (true≢false (sym e ∙ has-none x)); initiators = w.initiators; juniors = w.juniors };
-          sends = held-sent s.held w.held Kind.release 0 refl refl;
-        }
-
-        -- where an item is awaited
-        module _ (some : eqb s.awaited 0 ≡ false) where
-          resent-stays : (x : ℕ) → SessionStays (resent x s)
-          unfolding resent
-          resent-stays x =
-              by-test SessionStays (eqb x s.awaited) (λ _. record { shape = f; session = w; sends = stored-sent s.awaited (awaited-own some) }) (λ _. dropped-stays)
-
-          cleaned_victim-stays : (a : ℕ) → SessionStays (cleaned_victim t a s)
-          unfolding cleaned_victim
-          cleaned_victim-stays a =
-              by-test SessionStays (eqb a t)
-              (λ _. record {
-                shape = record { stage = refl; awaited = some; places = f.places };
-                session = stage-within s w Stage.withdrawing;
-                sends = all_one is_formed _ (plain-sent s.awaited Kind.withdraw (awaited-own some) refl refl);
-              })
-              (λ _. dropped-stays)
-
-          module _ (a b : ℕ) (a_own : own a ≡ true) (b-own : own b ≡ true) where
-            aborted-stays : SessionStays (aborted a b s)
-            unfolding aborted
-            aborted-stays = record {
-              shape = record { stage = refl; awaited = some; places = none-length };
-              session = stage-within (cleared s) (cleared-within s w) Stage.cleaning;
-              sends = all_one is_formed _ (clean-sent s.awaited a b (awaited-own some) a_own b-own);
-            }
-
-            cleaned_waiting-stays : (x : ℕ) → SessionStays (cleaned_waiting x a b s)
-            unfolding cleaned_waiting
-            cleaned_waiting-stays x = record {
-              shape = cleared-shape;
-              session = cleared-within s w;
-              sends = all_join is_formed (to_held Kind.rebroadcast x s.held) _ (held-sent s.held w.held Kind.rebroadcast x refl refl) (all_one is_formed _ (clean-sent s.awaited a b (awaited-own some) a_own b-own));
-            }
-
-        -- a probe is stored
-        module _ (senior : ℕ → ℕ → Bool) (a b : ℕ) (low : 1 ≤ a) (a_own : own a ≡ true) (b-own : own b ≡ true) where
-          abbrev changed : List ℕ
-          changed = set s.juniors (a - 1) b
-
-          stored-after : (P : ℕ → ℕ → Type 0) → P a b → ((i : ℕ) → 1 ≤ i → (stored s i ≡ 0 → ⊥) → P i (stored s i))
-              → (i : ℕ) → 1 ≤ i → (get_or changed (i - 1) 0 ≡ 0 → ⊥) → P i (get_or changed (i - 1) 0)
-          stored-after P here there i l e = by_answer (eqb i a)
-              (λ q. let same = eqb-true i a q in
-              by_answer (ltb (a - 1) (length s.juniors))
-              (λ h. rw (same, get_or-set_same s.juniors (a - 1) b 0 (ltb-true (a - 1) (length s.juniors) h)) here)
-              (λ h. before (ap (λ (js : List ℕ). get_or js (i - 1) 0) (set_out s.juniors (a - 1) b (ltb-false (a - 1) (length s.juniors) h)))))
-              (λ q. before (get_or-set_other s.juniors (a - 1) (i - 1) b 0 (λ z. eqb-false i a q (omega arith))))
-            where
-              before : get_or changed (i - 1) 0 ≡ stored s i → P i (get_or changed (i - 1) 0)
-              before g = rw (g) (there i l (λ z. e (g ∙ z)))
-
-          kept_probe-stays : SessionStays (kept_probe senior a b s)
-          unfolding kept_probe
-          kept_probe-stays =
-              by-test SessionStays (eqb (stored s a) 0 || senior (stored s a) b)
-              (λ _. record {
-                shape = record { stage = f.stage; awaited = f.awaited; places = length-set s.juniors (a - 1) b ∙ f.places };
-                session = record { awaited = w.awaited; held = w.held; initiators = stored-after (λ i j. own i ≡ true) a_own w.initiators; juniors = stored-after (λ i j. own j ≡ true) b-own w.juniors };
-                sends = by-test (λ (l : List Message). all_of is_formed l ≡ true) (eqb s.stage Stage.waiting) (λ e. all_one is_formed _ (probe-sent s.awaited a b (awaited-own (awaited-at Stage.waiting e)) a_own b-own)) (λ _. all_none is_formed);
-              })
-              (λ _. dropped-stays)
-
-          probed-stays : (j : ℕ) → b ≡ junior senior j t → SessionStays (probed senior t a j s)
-          unfolding probed
-          probed-stays j e = rw (← e) kept_probe-stays
-
-        junior-own : (senior : ℕ → ℕ → Bool) (j : ℕ) → own j ≡ true → own (junior senior j t) ≡ true
-        unfolding junior
-        junior-own senior j r = by-test (λ (n : ℕ). own n ≡ true) (senior j t) (λ _. t-own) (λ _. r)
-
-  -- the session of an entry that an item sent takes it: any seniority
-  module _ (senior : ℕ → ℕ → Bool) (S M : ℕ) (e : Entry) (form : Entry.well_formed S M e ≡ true) (names : Entry.within own ownItem e ≡ true) where
-    pub session-stays : (s : Session) → SessionShape s → SessionWithin own ownItem s → SessionStays e.session (received senior e.session s (seen_by_session e))
-    unfolding received
-    session-stays s f w =
-        let numbers = entry-facts S M e form in
-        let item = item-within own ownItem e names in
-        let first = a-within own ownItem e names in
-        let second = b-within own ownItem e names in
-        let t = e.session in
-        let stays = SessionStays t in
-        let r = session-within own ownItem e names in
-        let kind = e.kind in
-        let carries : (n : ℕ) → eqb kind n ≡ true → Kind.carries n ≡ true → Kind.carries kind ≡ true = λ n q c. ap Kind.carries (eqb-true kind n q) ∙ c in
-        let out : stays (dropped s) = dropped-stays t r s f w in
-        let awaited : (n : ℕ) → eqb s.stage n ≡ true → eqb s.awaited 0 ≡ not (Stage.awaits n) = awaited-at t r s f w in
-        by-test stays (eqb kind Kind.grant) (λ _. by-test stays (eqb s.stage Stage.waiting) (λ _. granted-stays t r s f w e.item numbers.item-low item) (λ _. out))
-        (λ _. by-test stays (eqb kind Kind.probe)
-        (λ q. by-test stays (eqb s.stage Stage.growing || eqb s.stage Stage.waiting)
-        (λ _. let c = carries Kind.probe q refl in probed-stays t r s f w senior e.a (junior senior e.b t) (numbers.a-low c) (first c) (junior-own t r s f w senior e.b (second c)) e.b refl) (λ _. out))
-        (λ _. by-test stays (eqb kind Kind.resend) (λ _. by-test stays (eqb s.stage Stage.waiting) (λ at. resent-stays t r s f w (awaited Stage.waiting at) e.item) (λ _. out))
-        (λ _. by-test stays (eqb kind Kind.abort)
-        (λ q. by-test stays (eqb s.stage Stage.waiting) (λ at. aborted-stays t r s f w (awaited Stage.waiting at) e.a e.b (first (carries Kind.abort q refl)) (second (carries Kind.abort q refl))) (λ _. out))
-        (λ _. by-test stays (eqb kind Kind.clean)
-        (λ q. by-test stays (eqb s.stage Stage.growing) (λ _. cleaned-stays t r s f w e.item)
-        (λ _. by-test stays (eqb s.stage Stage.waiting) (λ at. cleaned_waiting-stays t r s f w (awaited Stage.waiting at) e.a e.b (first (carries Kind.clean q refl)) (second (carries Kind.clean q refl)) e.item)
-        (λ _. by-test stays (eqb s.stage Stage.cleaning) (λ at. cleaned_victim-stays t r s f w (awaited Stage.cleaning at) e.a) (λ _. out))))
-        (λ _. by-test stays (eqb kind Kind.withdrawn) (λ _. by-test stays (eqb s.stage Stage.withdrawing) (λ _. rolled_back-stays t r s f w) (λ _. out)) (λ _. out))))))
-
-  -- the two calls of session t for item x, where they are allowed
-  module _ (t x : ℕ) (t-own : own t ≡ true) (low : 1 ≤ x) (x-own : ownItem x ≡ true) (s : Session) (f : SessionShape s) (w : SessionWithin own ownItem s) where
-    pub request-stays : SessionStays t (requested x s)
-    request-stays = requested-stays t t-own s f w x low x-own
-
-    pub release-stays : eqb s.stage Stage.growing || eqb s.stage Stage.shrinking ≡ true → SessionStays t (released x s)
-    release-stays e =
-        let free : (n : ℕ) → eqb s.stage n ≡ true → eqb s.awaited 0 ≡ not (Stage.awaits n) = awaited-at t t-own s f w in
-        released-stays t t-own s f w x low x-own (by_answer (eqb s.stage Stage.growing) (λ a. free Stage.growing a) (λ b. free Stage.shrinking (rw (b) at e)))
-
--- where the tests are the ranges of S sessions and M items
 module _ (S M : ℕ) where
   module _ (t : ℕ) where
     -- the test of a message that session t sends
     abbrev pub is_entry : Message → Bool
     is_entry m = Entry.well_formed S M (from_session t m)
 
+    -- what a session's step leaves
     pub record SessionKept (r : After) : Type 0 where
       pub session : well_formed S M r.session ≡ true
       pub juniors : length r.session.juniors ≡ 64
       pub sends : all_of is_entry r.sends ≡ true
 
-    pub session_ranges : (r : After) → SessionStays (between 1 S) (between 1 M) t r → SessionKept r
-    unfolding Entry.well_formed formed
-    session_ranges r k = record { session = session-formed S M r.session (shape-formed S M r.session k.shape k.session); juniors = k.shape.places; sends = k.sends }
+    module _ (t-range : between 1 S t ≡ true) where
+      plain-sent : (y kind : ℕ) → between 1 M y ≡ true → Entry.carried to_item kind ≡ true → Kind.carries kind ≡ false → is_entry (plain y kind) ≡ true
+      plain-sent y kind r c d = plain_entry S M (from_session t (plain y kind)) c t-range r d refl refl
+
+      probe-sent : (y a b : ℕ) → between 1 M y ≡ true → between 1 S a ≡ true → between 1 S b ≡ true → is_entry (message y Kind.probe a b) ≡ true
+      probe-sent y a b r p q = pair_entry S M (from_session t (message y Kind.probe a b)) refl t-range r refl p q refl
+
+      clean-sent : (y a b : ℕ) → between 1 M y ≡ true → between 1 S a ≡ true → between 1 S b ≡ true → is_entry (message y Kind.clean a b) ≡ true
+      clean-sent y a b r p q = pair_entry S M (from_session t (message y Kind.clean a b)) refl t-range r refl p q refl
+
+      -- stored probes
+      probes-sent : (x : ℕ) → between 1 M x ≡ true → (i : ℕ) (js : List ℕ)
+          → ((n : ℕ) → n < length js → eqb (get_or js n 0) 0 ≡ false → (between 1 S (i + n) ≡ true) × (between 1 S (get_or js n 0) ≡ true))
+          → all_of is_entry (probes_from x i js) ≡ true
+      unfolding probes_from
+      probes-sent x r i [] h = all_none is_entry
+      probes-sent x r i (j ∷ js) h =
+          let rest = probes-sent x r (suc i) js (λ n l e. let p = h (suc n) (omega arith) e in let q : i + suc n ≡ suc i + n = omega arith in (rw (q) at p.0, p.1)) in
+          by-test (λ (l : List Message). all_of is_entry l ≡ true) (eqb j 0) (λ _. rest)
+          (λ e. let p = h 0 (omega arith) e in all_cons is_entry (message x Kind.probe i j) _ (probe-sent x i j r (rw (add-zero i) at p.0) p.1) rest)
+
+      -- messages to held items
+      those_range : (mask : ℕ) → mask < 2 ^ M → (n k : ℕ) → 1 ≤ k → all_of (between 1 M) (those_in mask (rising n k)) ≡ true
+      unfolding those_in rising
+      those_range mask low zero k l = all_none (between 1 M)
+      those_range mask low (suc n) k l =
+          let rest = those_range mask low n (suc k) (omega arith) in
+          by-test (λ (l : List ℕ). all_of (between 1 M) l ≡ true) (has k mask) (λ e. all_cons (between 1 M) k _ (between_intro 1 M k l (bound e)) rest) (λ _. rest)
+        where
+          bound : has k mask ≡ true → k ≤ M
+          bound e = by_answer (ltb M k) (λ above. let z : true ≡ false = sym e ∙ has_above M k mask low (ltb-true M k above) in let y : ◌≡◌ {A = ℕ} 0 1 = cc in absurd (omega arith)) (ltb-false M k)
+
+      held-sent : (kind x mask : ℕ) → mask < 2 ^ M → Entry.carried to_item kind ≡ true → Kind.carries kind ≡ false → all_of is_entry (to_held kind x mask) ≡ true
+      unfolding to_held
+      held-sent kind x mask low c d =
+          let range : all_of (between 1 M) (members mask) ≡ true = rw (members-rising mask) (those_range mask low 64 1 (omega arith)) in
+          all_map is_entry (λ y. plain y kind) (filter (λ y. not (eqb y x)) (members mask))
+          (all_filter _ (λ y. not (eqb y x)) (members mask) (all_weaken (between 1 M) _ (λ y r. plain-sent y kind r c d) (members mask) range))
+
+      module _ (s : Session) (f : SessionWellFormed S M s) (len : length s.juniors ≡ 64) where
+        dropped-kept : SessionKept (dropped s)
+        dropped-kept = record { session = session-formed S M s f; juniors = len; sends = all_none is_entry }
+
+        -- the awaited item, in the stages that have one
+        awaited-range : (stage : ℕ) → eqb s.stage stage ≡ true → Stage.awaits stage ≡ true → between 1 M s.awaited ≡ true
+        awaited-range stage e a = let b : Stage.awaits s.stage ≡ true = ap Stage.awaits (eqb-true s.stage stage e) ∙ a in rw (b) at f.awaited
+
+        awaited-none : (stage : ℕ) → eqb s.stage stage ≡ true → Stage.awaits stage ≡ false → s.awaited ≡ 0
+        awaited-none stage e a =
+            let b : Stage.awaits s.stage ≡ false = ap Stage.awaits (eqb-true s.stage stage e) ∙ a in eqb-true s.awaited 0 (rw (b) at f.awaited)
+
+        stored-range : (n : ℕ) → n < length s.juniors → eqb (get_or s.juniors n 0) 0 ≡ false → (between 1 S (1 + n) ≡ true) × (between 1 S (get_or s.juniors n 0) ≡ true)
+        stored-range n h e = by_answer (ltb n S) below above
+          where
+            below : ltb n S ≡ true → (between 1 S (1 + n) ≡ true) × (between 1 S (get_or s.juniors n 0) ≡ true)
+            below b =
+                let l = ltb-true n S b in
+                let inside : n < length (take S s.juniors) = omega (arith, length-take S s.juniors) in
+                let small = leb-true _ S (all_get_d (λ j. leb j S) (take S s.juniors) n 0 f.juniors inside) in
+                (between_intro 1 S (1 + n) (omega arith) (omega arith), between_intro 1 S (get_or s.juniors n 0) (omega (arith, eqb-false (get_or s.juniors n 0) 0 e)) (rw (get_or-take S s.juniors n 0 l) at small))
+
+            above : ltb n S ≡ false → (between 1 S (1 + n) ≡ true) × (between 1 S (get_or s.juniors n 0) ≡ true)
+            above b =
+                let l = ltb-false n S b in
+                let same : S + (n - S) ≡ n = omega arith in
+                let zero : get_or s.juniors n 0 ≡ 0 = ap (λ (m : ℕ). get_or s.juniors m 0) (sym same) ∙ sym (get_or-drop S s.juniors (n - S) 0) ∙ zeros_get_d (drop S s.juniors) (n - S) f.zeros in
+                absurd (eqb-false (get_or s.juniors n 0) 0 e zero)
+
+        stored-sent : (x : ℕ) → between 1 M x ≡ true → all_of is_entry (stored_probes s x) ≡ true
+        stored-sent x r = probes-sent x r 1 s.juniors stored-range
+
+        pub requested-kept : (x : ℕ) → between 1 M x ≡ true → SessionKept (requested x s)
+        unfolding requested
+        requested-kept x r = record {
+          session = session-formed S M _ (record { stage-low = omega arith; stage-high = omega arith; awaited = r; held = f.held; juniors = f.juniors; zeros = f.zeros });
+          juniors = len;
+          sends = all_cons is_entry _ _ (plain-sent x Kind.request r refl refl) (stored-sent x r);
+        }
+
+        pub released-kept : (x : ℕ) → between 1 M x ≡ true → s.awaited ≡ 0 → SessionKept (released x s)
+        unfolding released
+        released-kept x r a = record {
+          session = session-formed S M _ (record { stage-low = omega arith; stage-high = omega arith; awaited = eq-eqb s.awaited 0 a; held = remove-below M x s.held f.held; juniors = none-juniors S M; zeros = none-zeros S M });
+          juniors = none-length;
+          sends = all_one is_entry _ (plain-sent x Kind.release r refl refl);
+        }
+
+        granted-kept : (x : ℕ) → between 1 M x ≡ true → SessionKept (granted x s)
+        unfolding granted
+        granted-kept x r =
+            by-test SessionKept (eqb x s.awaited)
+            (λ _. record {
+              session = session-formed S M _ (record { stage-low = omega arith; stage-high = omega arith; awaited = refl; held = insert-below M x s.held f.held (within 1 M x r).0 (within 1 M x r).1; juniors = f.juniors; zeros = f.zeros });
+              juniors = len;
+              sends = all_none is_entry;
+            })
+            (λ _. dropped-kept)
+
+        resent-kept : (x : ℕ) → between 1 M s.awaited ≡ true → SessionKept (resent x s)
+        unfolding resent
+        resent-kept x r =
+            by-test SessionKept (eqb x s.awaited) (λ _. record { session = session-formed S M s f; juniors = len; sends = stored-sent s.awaited r }) (λ _. dropped-kept)
+
+        cleared-formed : well_formed S M (cleared s) ≡ true
+        cleared-formed = session-formed S M (cleared s) (record { stage-low = f.stage-low; stage-high = f.stage-high; awaited = f.awaited; held = f.held; juniors = none-juniors S M; zeros = none-zeros S M })
+
+        cleaned-kept : (x : ℕ) → SessionKept (cleaned x s)
+        unfolding cleaned
+        cleaned-kept x = record { session = cleared-formed; juniors = none-length; sends = held-sent Kind.rebroadcast x s.held f.held refl refl }
+
+        rolled_back-kept : SessionKept (rolled_back s)
+        unfolding rolled_back
+        rolled_back-kept = record {
+          session = session-formed S M _ (record { stage-low = omega arith; stage-high = omega arith; awaited = refl; held = pow_pos M; juniors = f.juniors; zeros = f.zeros });
+          juniors = len;
+          sends = held-sent Kind.release 0 s.held f.held refl refl;
+        }
+
+        cleaned_victim-kept : (a : ℕ) → between 1 M s.awaited ≡ true → SessionKept (cleaned_victim t a s)
+        unfolding cleaned_victim
+        cleaned_victim-kept a r =
+            by-test SessionKept (eqb a t)
+            (λ _. record {
+              session = session-formed S M _ (record { stage-low = omega arith; stage-high = omega arith; awaited = r; held = f.held; juniors = f.juniors; zeros = f.zeros });
+              juniors = len;
+              sends = all_one is_entry _ (plain-sent s.awaited Kind.withdraw r refl refl);
+            })
+            (λ _. dropped-kept)
+
+        module _ (a b : ℕ) (a-range : between 1 S a ≡ true) (b-range : between 1 S b ≡ true) where
+          aborted-kept : between 1 M s.awaited ≡ true → SessionKept (aborted a b s)
+          unfolding aborted
+          aborted-kept r = record {
+            session = session-formed S M _ (record { stage-low = omega arith; stage-high = omega arith; awaited = r; held = f.held; juniors = none-juniors S M; zeros = none-zeros S M });
+            juniors = none-length;
+            sends = all_one is_entry _ (clean-sent s.awaited a b r a-range b-range);
+          }
+
+          cleaned_waiting-kept : (x : ℕ) → between 1 M s.awaited ≡ true → SessionKept (cleaned_waiting x a b s)
+          unfolding cleaned_waiting
+          cleaned_waiting-kept x r = record {
+            session = cleared-formed;
+            juniors = none-length;
+            sends = all_join is_entry (to_held Kind.rebroadcast x s.held) _ (held-sent Kind.rebroadcast x s.held f.held refl refl) (all_one is_entry _ (clean-sent s.awaited a b r a-range b-range));
+          }
+
+          kept_probe-kept : (senior : ℕ → ℕ → Bool) → SessionKept (kept_probe senior a b s)
+          unfolding kept_probe
+          kept_probe-kept senior =
+              let place : a - 1 < S = omega (arith, (within 1 S a a-range).0, (within 1 S a a-range).1) in
+              let front = take-set-lt S s.juniors (a - 1) b place in
+              let back = drop-set-lt S s.juniors (a - 1) b place in
+              by-test SessionKept (eqb (stored s a) 0 || senior (stored s a) b)
+              (λ _. record {
+                session = session-formed S M _ (record {
+                  stage-low = f.stage-low;
+                  stage-high = f.stage-high;
+                  awaited = f.awaited;
+                  held = f.held;
+                  juniors = rw (front) (all_set (λ j. leb j S) (take S s.juniors) (a - 1) b f.juniors (le-leb b S (within 1 S b b-range).1));
+                  zeros = rw (back) f.zeros;
+                });
+                juniors = length-set s.juniors (a - 1) b ∙ len;
+                sends = by-test (λ (l : List Message). all_of is_entry l ≡ true) (eqb s.stage Stage.waiting) (λ e. all_one is_entry _ (probe-sent s.awaited a b (awaited-range Stage.waiting e refl) a-range b-range)) (λ _. all_none is_entry);
+              })
+              (λ _. dropped-kept)
+
+          probed-kept : (senior : ℕ → ℕ → Bool) → (j : ℕ) → b ≡ junior senior j t → SessionKept (probed senior t a j s)
+          unfolding probed
+          probed-kept senior j e = rw (← e) (kept_probe-kept senior)
+
+        junior-range : (senior : ℕ → ℕ → Bool) (j : ℕ) → between 1 S j ≡ true → between 1 S (junior senior j t) ≡ true
+        unfolding junior
+        junior-range senior j r = by-test (λ (n : ℕ). between 1 S n ≡ true) (senior j t) (λ _. t-range) (λ _. r)
+
+-- session e .session takes an entry that an item sent to it: any seniority
+module _ (senior : ℕ → ℕ → Bool) (S M : ℕ) (e : Entry) (form : Entry.well_formed S M e ≡ true) where
+  pub session-kept : (s : Session) → well_formed S M s ≡ true → length s.juniors ≡ 64 → SessionKept S M e.session (received senior e.session s (seen_by_session e))
+  unfolding received
+  session-kept s w len =
+      let item = item-range S M e form in
+      let first = a-range S M e form in
+      let second = b-range S M e form in
+      let f = session-facts S M s w in
+      let t = e.session in
+      let kept = SessionKept S M t in
+      let r = session-range S M e form in
+      let kind = e.kind in
+      let carries : (n : ℕ) → eqb kind n ≡ true → Kind.carries n ≡ true → Kind.carries kind ≡ true = λ n q c. ap Kind.carries (eqb-true kind n q) ∙ c in
+      let out : kept (dropped s) = dropped-kept S M t r s f len in
+      let awaited : (n : ℕ) → eqb s.stage n ≡ true → Stage.awaits n ≡ true → between 1 M s.awaited ≡ true = awaited-range S M t r s f len in
+      by-test kept (eqb kind Kind.grant) (λ _. by-test kept (eqb s.stage Stage.waiting) (λ _. granted-kept S M t r s f len e.item item) (λ _. out))
+      (λ _. by-test kept (eqb kind Kind.probe)
+      (λ q. by-test kept (eqb s.stage Stage.growing || eqb s.stage Stage.waiting) (λ _. probed-kept S M t r s f len e.a (junior senior e.b t) (first (carries Kind.probe q refl)) (junior-range S M t r s f len senior e.b (second (carries Kind.probe q refl))) senior e.b refl) (λ _. out))
+      (λ _. by-test kept (eqb kind Kind.resend) (λ _. by-test kept (eqb s.stage Stage.waiting) (λ at. resent-kept S M t r s f len e.item (awaited Stage.waiting at refl)) (λ _. out))
+      (λ _. by-test kept (eqb kind Kind.abort)
+      (λ q. by-test kept (eqb s.stage Stage.waiting) (λ at. aborted-kept S M t r s f len e.a e.b (first (carries Kind.abort q refl)) (second (carries Kind.abort q refl)) (awaited Stage.waiting at refl)) (λ _. out))
+      (λ _. by-test kept (eqb kind Kind.clean)
+      (λ q. by-test kept (eqb s.stage Stage.growing) (λ _. cleaned-kept S M t r s f len e.item)
+      (λ _. by-test kept (eqb s.stage Stage.waiting) (λ at. cleaned_waiting-kept S M t r s f len e.a e.b (first (carries Kind.clean q refl)) (second (carries Kind.clean q refl)) e.item (awaited Stage.waiting at refl))
+      (λ _. by-test kept (eqb s.stage Stage.cleaning) (λ at. cleaned_victim-kept S M t r s f len e.a (awaited Stage.cleaning at refl)) (λ _. out))))
+      (λ _. by-test kept (eqb kind Kind.withdrawn) (λ _. by-test kept (eqb s.stage Stage.withdrawing) (λ _. rolled_back-kept S M t r s f len) (λ _. out)) (λ _. out))))))
+
+-- the two calls of session t for item x, where they are allowed
+module _ (S M t x : ℕ) (t-range : between 1 S t ≡ true) (x-range : between 1 M x ≡ true) (s : Session) (w : well_formed S M s ≡ true) (len : length s.juniors ≡ 64) where
+  pub request-kept : SessionKept S M t (requested x s)
+  request-kept = requested-kept S M t t-range s (session-facts S M s w) len x x-range
+
+  pub release-kept : eqb s.stage Stage.growing || eqb s.stage Stage.shrinking ≡ true → SessionKept S M t (released x s)
+  release-kept e =
+      let f = session-facts S M s w in
+      let free : (n : ℕ) → eqb s.stage n ≡ true → Stage.awaits n ≡ false → s.awaited ≡ 0 = awaited-none S M t t-range s f len in
+      released-kept S M t t-range s f len x x-range (by_answer (eqb s.stage Stage.growing) (λ a. free Stage.growing a refl) (λ b. free Stage.shrinking (rw (b) at e) refl))

@@ -20,7 +20,7 @@ use Rattle.yearly.specs.Input.{days_in, taken_part, rolled_back, max_days, size,
 use Rattle.yearly.specs.Rate.{rate}
 use Rattle.yearly.specs.Printed.{sums, refusal, day_line, last_line, day_lines, statement, longest_line, longest_last}
 use Rattle.yearly.specs.Parts.{Days, max_value}
-use Rattle.yearly.proofs.Rounding.{rate-small}
+use Rattle.yearly.proofs.Rounding.{rate_small}
 
 -- ---- judging
 pub days : (input : List ℕ) (n : ℕ) → n ≡ days_in input → sized input ≡ true → Days input n
@@ -42,9 +42,9 @@ module _ (input : List ℕ) where
   not-consistent e f = rw (e, f) refl
 
   module _ (e : sized input ≡ true) (f : consistent input ≡ true) where
-    pub no-sessions : (sums input).sessions ≡ 0 → refusal input ≡ Refusal.nobody
+    pub no_sessions : (sums input).sessions ≡ 0 → refusal input ≡ Refusal.nobody
     unfolding first
-    no-sessions z = rw (e, f, eq-eqb (sums input).sessions 0 z) refl
+    no_sessions z = rw (e, f, eq-eqb (sums input).sessions 0 z) refl
 
     pub some-sessions : ((sums input).sessions ≡ 0 → ⊥) → refusal input ≡ 0
     unfolding first
@@ -93,7 +93,7 @@ unfolding last_line
 last_short r some few most =
     let q = rate r.rollbacks r.sessions in
     line_short 7 r.sessions (r.rollbacks ∷ q ∷ []) 14 (omega arith)
-    (spaced-longer 7 r.rollbacks (q ∷ []) 5 (omega arith) (spaced-longer 3 q [] 0 (omega (arith, rate-small r.rollbacks r.sessions some few)) spaced-none))
+    (spaced-longer 7 r.rollbacks (q ∷ []) 5 (omega arith) (spaced-longer 3 q [] 0 (omega (arith, rate_small r.rollbacks r.sessions some few)) spaced-none))
 
 pub refusal_short : (n : ℕ) → n < 256 → length (line n []) ≤ 4
 refusal_short n h = line_short 2 n [] 0 (omega arith) spaced-none

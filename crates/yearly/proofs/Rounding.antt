@@ -79,7 +79,7 @@ pub one-rounded : OneRounded
 one-rounded a b k l h u v =
     by_order k l (λ f. absurd (none_greater a b k l h u v f)) (λ f. by_order l k (λ g. absurd (none_greater a b l k h v u g)) (λ g. omega (arith, f, g)))
 
-pub rate-small : (rollbacks sessions : ℕ) → 1 ≤ sessions → rollbacks ≤ sessions → rate rollbacks sessions < 1001
-rate-small rollbacks sessions h f =
+pub rate_small : (rollbacks sessions : ℕ) → 1 ≤ sessions → rollbacks ≤ sessions → rate rollbacks sessions < 1001
+rate_small rollbacks sessions h f =
     by_order (rate rollbacks sessions) 1001 (λ l. l)
     (λ l. absurd (omega (arith, h, f, (rounded rollbacks sessions h).nearest 1000, mul-le-mul_right sessions l)))

@@ -16,9 +16,9 @@ pub struct Desk {
 }
 
 impl Desk {
-    /// A plain one, all of maker 1, which may have so many messages.
-    pub fn new(sessions: u64, items: u64, room: u64) -> Desk {
-        Desk::started(&Config::with_room(sessions, items, room))
+    /// A plain one.
+    pub fn new(sessions: u64, items: u64, capacity: u64) -> Desk {
+        Desk::started(&Config::plain(sessions, items, capacity))
     }
 
     pub fn started(config: &Config) -> Desk {
@@ -35,9 +35,8 @@ impl Desk {
         step(verb, session, item, &mut self.table, &mut self.mail)
     }
 
-    /// A drain for maker 1.
     pub fn drain(&mut self, limit: u64) -> Drained {
-        drain(1, limit, &mut self.table, &mut self.mail)
+        drain(limit, &mut self.table, &mut self.mail)
     }
 
     pub fn reopen(&mut self, session: u64) -> u8 {
@@ -65,7 +64,7 @@ impl Desk {
         self.judges_buffers(refusal);
     }
 
-    /// A drain is refused for the same buffers as a step, and for its maker. A
+    /// A drain is refused for the same buffers as a step, and for nothing else. A
     /// reopening is refused for them before it looks at the session.
     fn judges_buffers(&mut self, refusal: Refusal) {
         match refusal {

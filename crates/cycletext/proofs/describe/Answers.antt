@@ -9,14 +9,14 @@ use Rattle.cycletext.specs.OnTable.{text}
 use Rattle.cycletext.specs.Parts.{OnCycle, waits_from}
 use Rattle.cycletext.specs.Statement.{longest}
 use Rattle.cycletext.proofs.Longest.{fits}
-use Rattle.cycletext.proofs.Round.{from-leader, text-lines, refused-no-cycle, refused_short, not-refused}
+use Rattle.cycletext.proofs.Round.{from-leader, text-lines, refused_no_cycle, refused_short, not-refused}
 use Rattle.cycletext.proofs.describe.Goals as goal
 use Rattle.cycletext.proofs.describe.Goals.{then-out-lt-LONGEST+else-out-lines_length, else-out-lt-LONGEST}
 
 pub returns-then-n-eq0 : goal.returns-then-n-eq0
 returns-then-n-eq0 c =
     let a = c.args in
-    let e = refused-no-cycle a.me a.t.now a.out.now (sym c.cycle_length_at-n.ensures ∙ c.if-n-eq0.true) in
+    let e = refused_no_cycle a.me a.t.now a.out.now (sym c.cycle_length_at-n.ensures ∙ c.if-n-eq0.true) in
     rw (e, c.refused.ensures) refl
 
 pub lines_length-requires : goal.lines_length-requires

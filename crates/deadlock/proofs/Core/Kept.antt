@@ -111,7 +111,7 @@ module _ (R : Rules) (L : Laws R) (s : State) (k : Core R s) where
     both-item (up release) ar ts = release-item L known_of t x lo hi mail ar ts k.probes
     both-item (up rebroadcast) ar ts = (rebroadcast-probes L known_of t x lo hi mail ar k.probes, rebroadcast-victims L known_of t x lo hi mail ar ts)
     both-item (up withdraw) ar ts = (withdraw-probes known_of lo hi ar k.probes, withdraw-victims L known_of lo hi ar ts)
-    both-item (down m) ar ts = both-dropped (down m) (down-kinds m).no-request (λ _. refl) ar ts
+    both-item (down m) ar ts = both-dropped (down m) (down-kinds m).no_request (λ _. refl) ar ts
     both-item (probe i j) ar ts = (probe-probes L known_of t x lo hi mail i j ar k.probes, probe-victims L known_of t x lo hi mail i j ar k.probes ts)
     both-item (clean v i) ar ts = (clean-probes L known_of t x lo hi mail v i ar k.probes, clean-victims L known_of t x lo hi mail v i ar ts)
     both-item (abort v i) ar ts = both-dropped (abort v i) refl (λ _. refl) ar ts
@@ -230,7 +230,7 @@ module _ (R : Rules) (L : Laws R) where
       clean-up-on-cycle = λ v t x p. absurd (omega arith);
       clean-down-on-cycle = λ v t x p. absurd (omega arith);
       aborts = λ t x. every-nil;
-      no-request = λ v x lo hi s. absurd (omega arith);
+      no_request = λ v x lo hi s. absurd (omega arith);
       clean-behind-probes = λ v x lo hi s. absurd (omega arith);
     };
     probes = record { stored-true = λ t l i ne. absurd (ne refl); up-true = λ t x lo hi p. absurd (omega arith); up-true-behind-request = λ t x lo hi. behind-nil; down-true = λ t x l. behind-nil };

@@ -66,7 +66,7 @@ module _ {R : Rules} (L : Laws R) {w : World} (known : Known R w) (t x : ℕ) (l
       where
         cases : (is_victim (stage_of w t) ≡ 0) ⊎ VictimIn w t → 1 ≤ is_waiting (stage_of w t)
         cases (inl z) = omega (arith, request-awaits, seen-facts (stage_of w t) x)
-        cases (inr z) = absurd (omega (arith, known.victims.no-request t x lo hi z, ap (count_kind Kind.request) hd))
+        cases (inr z) = absurd (omega (arith, known.victims.no_request t x lo hi z, ap (count_kind Kind.request) hd))
 
     request-not-queued : occurs t (w.item x).queue ≡ 0
     unfolding count_kind

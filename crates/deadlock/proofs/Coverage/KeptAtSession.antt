@@ -402,7 +402,7 @@ module _ {R : Rules} (L : Laws R) {w : World} (known : Known R w) (tr : Probes R
     cover-probe : (i j : ℕ) (s : Stage) → (w.session t).stage ≡ s → CoverHeard (probe i j) (on_probe R t (w.session t) i j s)
     unfolding on_probe
     cover-probe i j s e = by-test (CoverHeard (probe i j)) (is_live s)
-        (λ l. cover-storeProbe i j _ (ap is_live e ∙ l) (λ v. cleansSent-toAwaited v s i (junior R j t)) (λ z. ((neutral-toAwaited s i (junior R j t)).neutral-at z).no-request)
+        (λ l. cover-storeProbe i j _ (ap is_live e ∙ l) (λ v. cleansSent-toAwaited v s i (junior R j t)) (λ z. ((neutral-toAwaited s i (junior R j t)).neutral-at z).no_request)
         (λ z h. probe-passed-on s i (junior R j t) z (rw e at h)))
         (λ l acts hr. drop-covered x lo hi (probe i j) hr acts (inl refl) refl refl (λ k. absurd (true≢false (sym k ∙ (ap is_live e ∙ l)))))
 

@@ -52,28 +52,28 @@ cleansOf-append v (b ∷ l) m = omega (arith, cleansOf-append v l m)
 -- the kinds that a message with no session named is not of
 pub record UpKinds (m : Upward) : Type 0 where
   pub no-clean : eqb (kind_of (up m)) Kind.clean ≡ false
-  pub no-grant : eqb (kind_of (up m)) Kind.grant ≡ false
+  pub no_grant : eqb (kind_of (up m)) Kind.grant ≡ false
   pub no-resend : eqb (kind_of (up m)) Kind.resend ≡ false
   pub no_abort : eqb (kind_of (up m)) Kind.abort ≡ false
   pub no-withdrawn : eqb (kind_of (up m)) Kind.withdrawn ≡ false
 
 pub up-kinds : (m : Upward) → UpKinds m
-up-kinds request = record { no-clean = refl; no-grant = refl; no-resend = refl; no_abort = refl; no-withdrawn = refl }
-up-kinds release = record { no-clean = refl; no-grant = refl; no-resend = refl; no_abort = refl; no-withdrawn = refl }
-up-kinds rebroadcast = record { no-clean = refl; no-grant = refl; no-resend = refl; no_abort = refl; no-withdrawn = refl }
-up-kinds withdraw = record { no-clean = refl; no-grant = refl; no-resend = refl; no_abort = refl; no-withdrawn = refl }
+up-kinds request = record { no-clean = refl; no_grant = refl; no-resend = refl; no_abort = refl; no-withdrawn = refl }
+up-kinds release = record { no-clean = refl; no_grant = refl; no-resend = refl; no_abort = refl; no-withdrawn = refl }
+up-kinds rebroadcast = record { no-clean = refl; no_grant = refl; no-resend = refl; no_abort = refl; no-withdrawn = refl }
+up-kinds withdraw = record { no-clean = refl; no_grant = refl; no-resend = refl; no_abort = refl; no-withdrawn = refl }
 
 pub record DownKinds (m : Downward) : Type 0 where
-  pub no-request : eqb (kind_of (down m)) Kind.request ≡ false
+  pub no_request : eqb (kind_of (down m)) Kind.request ≡ false
   pub no-release : eqb (kind_of (down m)) Kind.release ≡ false
   pub no-clean : eqb (kind_of (down m)) Kind.clean ≡ false
   pub no-rebroadcast : eqb (kind_of (down m)) Kind.rebroadcast ≡ false
   pub no-withdraw : eqb (kind_of (down m)) Kind.withdraw ≡ false
 
 pub down-kinds : (m : Downward) → DownKinds m
-down-kinds grant = record { no-request = refl; no-release = refl; no-clean = refl; no-rebroadcast = refl; no-withdraw = refl }
-down-kinds resend = record { no-request = refl; no-release = refl; no-clean = refl; no-rebroadcast = refl; no-withdraw = refl }
-down-kinds withdrawn = record { no-request = refl; no-release = refl; no-clean = refl; no-rebroadcast = refl; no-withdraw = refl }
+down-kinds grant = record { no_request = refl; no-release = refl; no-clean = refl; no-rebroadcast = refl; no-withdraw = refl }
+down-kinds resend = record { no_request = refl; no-release = refl; no-clean = refl; no-rebroadcast = refl; no-withdraw = refl }
+down-kinds withdrawn = record { no_request = refl; no-release = refl; no-clean = refl; no-rebroadcast = refl; no-withdraw = refl }
 
 cleanOf-le : (v : ℕ) (m : Message) → clean_of v m ≤ bit (eqb (kind_of m) Kind.clean)
 cleanOf-le v (up m) = omega arith

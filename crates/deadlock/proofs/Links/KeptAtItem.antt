@@ -99,7 +99,7 @@ module _ (R : Rules) (L : Laws R) (t x : ℕ) (r : Session) (u d : List Message)
       linked-down t x r i u d _ (all-neutral-nil.neutral-at t)
       (omega (
         arith,
-        ap bit k.no-request,
+        ap bit k.no_request,
         ap bit k.no-release,
         ap bit k.no-withdraw,
         ap (λ (b : Bool). cond b (count_kind Kind.request u) (count_behind Kind.withdraw Kind.request u)) k.no-withdraw,

@@ -35,7 +35,7 @@ module _ (R : Rules) (t z : ℕ) (i : Item) (u d : List Message) where
   -- and a message that is not for a session
   drop-upward : (m : Upward) (r : Session) → Linked (view_of t z r i u (up m ∷ d)) → LinkedNow r
   unfolding count_kind count_behind
-  drop-upward m r h = let k = up-kinds m in omega (arith, ap bit k.no-grant, ap bit k.no-withdrawn, ap (λ (b : Bool). cond b (count_kind Kind.grant d) (count_behind Kind.withdrawn Kind.grant d)) k.no-withdrawn)
+  drop-upward m r h = let k = up-kinds m in omega (arith, ap bit k.no_grant, ap bit k.no-withdrawn, ap (λ (b : Bool). cond b (count_kind Kind.grant d) (count_behind Kind.withdrawn Kind.grant d)) k.no-withdrawn)
 
   same-stage : (r : Session) (out : Sends) → AllNeutral out → LinkedNow r → LinkedNext (record { after = r; sends = out })
   same-stage r out k h = linked_up t z r i u d (sent_to z out) (k.neutral-at z) h

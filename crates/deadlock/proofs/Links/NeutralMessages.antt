@@ -17,10 +17,10 @@ use Rattle.deadlock.proofs.Laws.Routes.{countBehind-none, countKind-append, sent
 
 -- messages of kinds of which the link invariant does not speak
 pub record Neutral (q : List Message) : Type 0 where
-  pub no-request : count_kind Kind.request q ≡ 0
+  pub no_request : count_kind Kind.request q ≡ 0
   pub no-release : count_kind Kind.release q ≡ 0
   pub no-withdraw : count_kind Kind.withdraw q ≡ 0
-  pub no-grant : count_kind Kind.grant q ≡ 0
+  pub no_grant : count_kind Kind.grant q ≡ 0
   pub no-withdrawn : count_kind Kind.withdrawn q ≡ 0
 
 pub neutral-nil : Neutral []
@@ -29,10 +29,10 @@ neutral-nil = omega arith
 
 module _ (t x : ℕ) (r : Session) (i : Item) where
   pub linked_up : (u d q : List Message) → Neutral q → Linked (view_of t x r i u d) → Linked (view_of t x r i (u ++ q) d)
-  linked_up u d q m h = omega (arith, countKind-append Kind.request u q, countKind-append Kind.release u q, countKind-append Kind.withdraw u q, countBehind-none Kind.withdraw Kind.request u q m.no-request)
+  linked_up u d q m h = omega (arith, countKind-append Kind.request u q, countKind-append Kind.release u q, countKind-append Kind.withdraw u q, countBehind-none Kind.withdraw Kind.request u q m.no_request)
 
   pub linked-down : (u d q : List Message) → Neutral q → Linked (view_of t x r i u d) → Linked (view_of t x r i u (d ++ q))
-  linked-down u d q m h = omega (arith, countKind-append Kind.grant d q, countKind-append Kind.withdrawn d q, countBehind-none Kind.withdrawn Kind.grant d q m.no-grant)
+  linked-down u d q m h = omega (arith, countKind-append Kind.grant d q, countKind-append Kind.withdrawn d q, countBehind-none Kind.withdrawn Kind.grant d q m.no_grant)
 
 -- what is sent is neutral, whoever it is sent to
 pub record AllNeutral (l : Sends) : Type 0 where

@@ -20,8 +20,8 @@ use Rattle.deadlock.proofs.Links.KeptAtSession.{LinkedAnswer}
 
 pub record Unnamed (R : Rules) (w : World) (t : ℕ) : Type 0 where
   pub over : (p : ReleasePhase) × (stage_of w t ≡ releasing p)
-  pub no-up : (z : ℕ) → w.up t z ≡ []
-  pub no-down : (z : ℕ) → w.down t z ≡ []
+  pub no_up : (z : ℕ) → w.up t z ≡ []
+  pub no_down : (z : ℕ) → w.down t z ≡ []
   pub not-queued : (z : ℕ) → 1 ≤ z → z ≤ R.M → occurs t (w.item z).queue ≡ 0
   pub not-holder : (z : ℕ) → 1 ≤ z → z ≤ R.M → held_by (w.item z).holder t ≡ false
 
@@ -51,8 +51,8 @@ unnamed R s t e =
     let items = every-at R.M (λ (x : ℕ). not (item_names t (s.item x))) rest.1 in
     record {
       over = over-stage (s.session t).stage stage.0;
-      no-up = λ z. route-none true t z s.mailbox rest.0;
-      no-down = λ z. route-none false t z s.mailbox rest.0;
+      no_up = λ z. route-none true t z s.mailbox rest.0;
+      no_down = λ z. route-none false t z s.mailbox rest.0;
       not-queued = λ z lo hi. not-member-occurs t (s.item z).queue (not_named t (s.item z) (items z lo hi)).1;
       not-holder = λ z lo hi. (not_named t (s.item z) (items z lo hi)).0;
     }
@@ -63,4 +63,4 @@ pub reopen-linked : (R : Rules) (s : State) (t z : ℕ) → 1 ≤ z → z ≤ R.
 unfolding on_reopen_call sent_to count_kind count_behind
 reopen-linked R s t z lo hi h =
     by-test (LinkedAnswer R t z (s.item z) (up_route s t z) (down_route s t z) (s.session t)) (may_reopen R s t)
-    (λ e. let u = unnamed R s t e in rw (u.no-up z, u.no-down z) (omega (arith, u.not-queued z lo hi, ap bit (u.not-holder z lo hi)))) (λ _. h)
+    (λ e. let u = unnamed R s t e in rw (u.no_up z, u.no_down z) (omega (arith, u.not-queued z lo hi, ap bit (u.not-holder z lo hi)))) (λ _. h)

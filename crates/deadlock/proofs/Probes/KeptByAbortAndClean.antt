@@ -343,6 +343,6 @@ module _ {R : Rules} (L : Laws R) {w : World} (known : Known R w) (t x : ℕ) (m
       own-up = λ z lo hi s. behind-map (count_kind Kind.clean (w.up t z)) (sent_to z returnStep.sends)
           (λ m r b. ofProbe-map (λ i j k. absurd (omega (arith, b, k, return-no-clean-up z))) m)
           (no-probe-behind (λ m r. ofProbe-map (λ i j. absurd) m) z return-no-probe) (omega arith) (known.victims.clean-behind-probes t z lo hi return-victim s);
-      own-behind-request = λ z lo hi. own-behindRequest returnStep return-no-probe z (known.victims.no-request t z lo hi return-victim);
+      own-behind-request = λ z lo hi. own-behindRequest returnStep return-no-probe z (known.victims.no_request t z lo hi return-victim);
       own-down = λ l. absurd (false≢true l);
     }) h

@@ -113,6 +113,6 @@ module _ {R : Rules} {w : World} (known : Known R w)
       clean-up-on-cycle = clean-up-kept;
       clean-down-on-cycle = λ v a z. clean-down-kept v a z (same? x z);
       aborts = λ a z. aborts-kept a z (same? x z);
-      no-request = λ v z lo' hi' s. omega (arith, known.victims.no-request v z lo' hi' s, up_le R i lo hi ar Kind.request v z (same? t v) (same? x z));
+      no_request = λ v z lo' hi' s. omega (arith, known.victims.no_request v z lo' hi' s, up_le R i lo hi ar Kind.request v z (same? t v) (same? x z));
       clean-behind-probes = λ v z lo' hi' s p. up-behind R i lo hi ar v z (same? t v) (same? x z) (known.victims.clean-behind-probes v z lo' hi' s (linev v z s p));
     }

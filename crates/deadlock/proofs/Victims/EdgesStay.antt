@@ -63,7 +63,7 @@ module _ {R : Rules} (L : Laws R) {w : World} (known : Known R w) {t : ℕ} (o :
     clean-up-on-cycle = λ v a z p. clean-up-of v a z p (same? t a);
     clean-down-on-cycle = λ v a z p. clean-down-of v a z p (same? t a);
     aborts = λ a z. aborts-of a z (same? t a);
-    no-request = λ v z lo hi s. no-request-of v z lo hi s (same? t v);
+    no_request = λ v z lo hi s. no-request-of v z lo hi s (same? t v);
     clean-behind-probes = λ v z lo hi s p. clean-behind-of v z lo hi s p (same? t v);
   }
     where
@@ -126,7 +126,7 @@ module _ {R : Rules} (L : Laws R) {w : World} (known : Known R w) {t : ℕ} (o :
 
       no-request-of : (v z : ℕ) → 1 ≤ z → z ≤ R.M → VictimIn after v → Dec (t ≡ v) → count_kind Kind.request (mail.up v z) ≡ 0
       no-request-of v z lo hi s (yes q) = rw (← q) (omega (arith, ap (count_kind Kind.request) (acts.up_at z), k.own-no-request (omega (arith, s, stage_at is_victim v q)) z lo hi))
-      no-request-of v z lo hi s (no q) = omega (arith, ap (count_kind Kind.request) (acts.up-off v z q), known.victims.no-request v z lo hi (omega (arith, s, off is_victim v q)))
+      no-request-of v z lo hi s (no q) = omega (arith, ap (count_kind Kind.request) (acts.up-off v z q), known.victims.no_request v z lo hi (omega (arith, s, off is_victim v q)))
 
       clean-behind-of : (v z : ℕ) → 1 ≤ z → z ≤ R.M → VictimIn after v → Queued w v z → Dec (t ≡ v)
           → EachBehind CleanBehind (mail.up v z)
@@ -154,6 +154,6 @@ module _ {R : Rules} (L : Laws R) {w : World} (known : Known R w) {t : ℕ} (o :
     new-clean = λ v y p. absurd (omega (arith, p, cleansOf-sentTo v y o.sends, z v));
     down_le = λ v y. omega (arith, cvd v y);
     own-aborts = own-aborts-kept L known o acts ab de;
-    own-no-request = λ s y lo hi. rw (nil s, append-nil) (known.victims.no-request t y lo hi (omega (arith, s, vc)));
+    own-no-request = λ s y lo hi. rw (nil s, append-nil) (known.victims.no_request t y lo hi (omega (arith, s, vc)));
     own-clean-behind = λ s y lo hi p. rw (nil s, append-nil) (known.victims.clean-behind-probes t y lo hi (omega (arith, s, vc)) p);
   })

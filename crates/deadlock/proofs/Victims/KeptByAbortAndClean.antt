@@ -96,8 +96,8 @@ module _ {R : Rules} (L : Laws R) {w : World} (known : Known R w) (t x : ℕ) (m
         unit : AbortTo R w t (victim cleaning y)
         unit = unfold AbortTo in tt
 
-        no-probe : NoProbe abortStep.sends
-        no-probe = every-cons tt every-nil
+        no_probe : NoProbe abortStep.sends
+        no_probe = every-cons tt every-nil
 
         last : 1 ≤ count_kind Kind.clean (sent_to y abortStep.sends)
         last = rw eqb_self (omega arith)
@@ -112,7 +112,7 @@ module _ {R : Rules} (L : Laws R) {w : World} (known : Known R w) (t x : ℕ) (m
             let b : 1 ≤ count_kind Kind.clean (sent_to z abortStep.sends) = rw q last in
             behind-map (count_kind Kind.clean (w.up t z)) (sent_to z abortStep.sends)
             (λ m r _ _. ofProbe-all (λ i j. omega (arith, b, countKind-append Kind.clean r (sent_to z abortStep.sends))) m)
-            (no-probe-behind (λ m r. ofProbe-map (λ i j. absurd) m) z no-probe) (omega arith) (behind-any (w.up t z))
+            (no-probe-behind (λ m r. ofProbe-map (λ i j. absurd) m) z no_probe) (omega arith) (behind-any (w.up t z))
 
   -- ---- clean, at another member of the cycle
   module _ (v i0 y : ℕ) (g : ℕ → Bool) (e : (w.session t).stage ≡ waiting y) (reb : Sends) (cr : (u : ℕ) → cleans_sent u reb ≡ 0)
@@ -202,7 +202,7 @@ module _ {R : Rules} (L : Laws R) {w : World} (known : Known R w) (t x : ℕ) (m
       new-clean = λ v z p. absurd (omega (arith, p, cleansOf-sentTo v z returnStep.sends));
       down_le = cleansOf-taken hr;
       own-aborts = own-aborts-kept L known returnStep acts (λ _. return-abort) (every-taken hr);
-      own-no-request = λ _ z lo hi. omega (arith, countKind-append Kind.request (w.up t z) (sent_to z returnStep.sends), return-no-request z, known.victims.no-request t z lo hi return-is-victim);
+      own-no-request = λ _ z lo hi. omega (arith, countKind-append Kind.request (w.up t z) (sent_to z returnStep.sends), return-no-request z, known.victims.no_request t z lo hi return-is-victim);
       own-clean-behind = λ _ z lo hi s. behind-map (count_kind Kind.clean (w.up t z)) (sent_to z returnStep.sends)
           (λ m r _. ofProbe-map (λ i j k. omega (arith, k, countKind-append Kind.clean r (sent_to z returnStep.sends))) m)
           (no-probe-behind (λ m r. ofProbe-map (λ i j. absurd) m) z return-no-probe) (omega arith) (known.victims.clean-behind-probes t z lo hi return-is-victim s);

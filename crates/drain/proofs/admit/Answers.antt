@@ -1,10 +1,8 @@
 -- The two tests, and the places.
-use mathlib.Core.Path.{◌≡◌, refl, ap, ◌∙◌}
+use mathlib.Core.Path.{◌≡◌, refl}
 use mathlib.Core.Bool.{Bool, true, false, not, ◌&&◌, ◌||◌, true≢false, false≢true}
-use Prim.Native.Nat.{ℕ, ◌+◌, ◌-◌}
-use lib.Dec.{eqb, leb}
-use Rattle.table.specs.Layout.{makers}
-use Rattle.drain.specs.Parts.{refusal_of}
+use lib.Dec.{eqb}
+use Rattle.drain.specs.Parts.{longer, fits, refusal_of}
 use Rattle.drain.proofs.admit.Goals as goal
 
 stops : (fit allowed : Bool) → not (eqb (refusal_of fit) 0) || not allowed ≡ true → false ≡ fit && allowed
@@ -19,34 +17,27 @@ goes_on false allowed h = absurd (true≢false h)
 
 pub returns-then-refusal-allowed : goal.returns-then-refusal-allowed
 returns-then-refusal-allowed c =
-    let Fit : Bool = leb (c.args.own - 1 + c.args.n) ((makers c.args.table.now).share c.args.maker) in
-    let judged : c.room_refusal-refusal.result ≡ refusal_of (Fit) = c.room_refusal-refusal.ensures ∙ ap (λ (share : ℕ). refusal_of (leb (c.args.own - 1 + c.args.n) share)) c.share.ensures in
     let s = c in
+    let e = c.room_refusal-refusal.ensures in
     record {
-      refusal = judged;
-      made = stops (Fit) s.args.allowed (rw (judged) at c.if-refusal-allowed.true);
-      counted = refl;
+      refusal = e;
+      made = stops (fits (longer s.args.gap) s.args.n s.args.mail.now) s.args.allowed (rw (e) at c.if-refusal-allowed.true);
       stays = λ _. (refl, refl);
       placed = λ q. absurd (false≢true q);
     }
 
-pub make_places-after-requires : goal.make_places-after-requires
-make_places-after-requires c =
-    let Fit : Bool = leb (c.args.own - 1 + c.args.n) ((makers c.args.table.now).share c.args.maker) in
-    let judged : c.room_refusal-refusal.result ≡ refusal_of (Fit) = c.room_refusal-refusal.ensures ∙ ap (λ (share : ℕ). refusal_of (leb (c.args.own - 1 + c.args.n) share)) c.share.ensures in
-    let passed : (Fit ≡ true) × (c.args.allowed ≡ true) = let s = c in goes_on (Fit) s.args.allowed (rw (judged) at c.if-refusal-allowed.false) in
-    let s = c in (s.requires.spent, s.requires.few, s.requires.places (passed).0)
+pub make_places-places-requires : goal.make_places-places-requires
+make_places-places-requires c =
+    let passed : (fits (longer c.args.gap) c.args.n c.args.mail.now ≡ true) × (c.args.allowed ≡ true) = let s = c in goes_on (fits (longer s.args.gap) s.args.n s.args.mail.now) s.args.allowed (rw c.room_refusal-refusal.ensures at c.if-refusal-allowed.false) in
+    let s = c in (s.requires.0, s.requires.1, (passed).0)
 
 pub returns : goal.returns
 returns c =
-    let Fit : Bool = leb (c.args.own - 1 + c.args.n) ((makers c.args.table.now).share c.args.maker) in
-    let judged : c.room_refusal-refusal.result ≡ refusal_of (Fit) = c.room_refusal-refusal.ensures ∙ ap (λ (share : ℕ). refusal_of (leb (c.args.own - 1 + c.args.n) share)) c.share.ensures in
-    let passed : (Fit ≡ true) × (c.args.allowed ≡ true) = let s = c in goes_on (Fit) s.args.allowed (rw (judged) at c.if-refusal-allowed.false) in
+    let passed : (fits (longer c.args.gap) c.args.n c.args.mail.now ≡ true) × (c.args.allowed ≡ true) = let s = c in goes_on (fits (longer s.args.gap) s.args.n s.args.mail.now) s.args.allowed (rw c.room_refusal-refusal.ensures at c.if-refusal-allowed.false) in
     let p = passed in
     record {
       refusal = rw p.0 refl;
       made = rw (p.0, p.1) refl;
-      counted = refl;
       stays = λ q. absurd (true≢false q);
-      placed = λ _. c.make_places-after.ensures;
+      placed = λ _. c.make_places-places.ensures;
     }

@@ -1,24 +1,29 @@
 -- The route says who receives the entry.
 use mathlib.Core.Path.{sym, ap, ◌∙◌}
-use mathlib.Core.Logic.{⊎_elim}
+use borrow.Author.Tests.{eq-eqb, ne_eqb}
 use Rattle.mailbox.specs.declared.Route.{Route}
-use Rattle.drain.proofs.Delivering.{due_direction}
+use Rattle.mailbox.specs.Entry.{to_item}
+use Rattle.mailbox.specs.Layout.{entry_at}
+use Rattle.drain.proofs.Oldest.{due_acts}
 use Rattle.drain.proofs.deliver.Goals as goal
 
 pub deliver_to_item-requires : goal.deliver_to_item-requires
-deliver_to_item-requires c =
-    let s = c in
-    let route = c.route_of-route.ensures in
-    (s.requires.0, s.requires.1, ap (λ (r : Route). r.item) route, sym (ap (λ (r : Route). r.direction) route) ∙ c.if-route-eq-TO_ITEM.true)
+deliver_to_item-requires c = (c.requires, ap (λ (r : Route). r.item) c.route_of-route.ensures)
 
 pub returns-then-route-eq-TO_ITEM : goal.returns-then-route-eq-TO_ITEM
-returns-then-route-eq-TO_ITEM c = c.deliver_to_item.ensures
-
-pub deliver_to_session-requires : goal.deliver_to_session-requires
-deliver_to_session-requires c =
+returns-then-route-eq-TO_ITEM c =
     let s = c in
     let route = c.route_of-route.ensures in
-    (s.requires.0, s.requires.1, ap (λ (r : Route). r.session) route, ⊎_elim (λ h. absurd (c.if-route-eq-TO_ITEM.false (ap (λ (r : Route). r.direction) route ∙ h))) (λ h. h) (due_direction s.args.maker s.args.gap s.args.table.now s.args.mail.now s.requires.0))
+    let to = sym (ap (λ (r : Route). r.direction) route) ∙ c.if-route-eq-TO_ITEM.true in
+    rw (due_acts s.args.gap s.args.table.now s.args.mail.now s.requires, eq-eqb (entry_at s.args.mail.now s.args.gap.to).direction to_item to)
+    (rw (ap (λ (r : Route). r.item) route) at c.deliver_to_item.ensures)
+
+pub deliver_to_session-requires : goal.deliver_to_session-requires
+deliver_to_session-requires c = (c.requires, ap (λ (r : Route). r.session) c.route_of-route.ensures)
 
 pub returns : goal.returns
-returns c = c.deliver_to_session.ensures
+returns c =
+    let s = c in
+    let route = c.route_of-route.ensures in
+    rw (due_acts s.args.gap s.args.table.now s.args.mail.now s.requires, ne_eqb (entry_at s.args.mail.now s.args.gap.to).direction to_item (λ q. c.if-route-eq-TO_ITEM.false (ap (λ (r : Route). r.direction) route ∙ q)))
+    (rw (ap (λ (r : Route). r.session) route) at c.deliver_to_session.ensures)

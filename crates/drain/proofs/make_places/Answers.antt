@@ -1,24 +1,35 @@
 -- There are places enough, or the gap is closed.
 use mathlib.Core.Path.{refl, ◌∙◌}
 use native.Mathlib.Omega.{arith}
+use Prim.Native.Nat.{◌+◌}
+use lib.ListN.{length}
+use borrow.Author.Tests.{leb-true}
+use Rattle.mailbox.specs.Layout.{capacity_of}
 use Rattle.mailbox.proofs.Laws.{kept-length}
 use Rattle.lists.proofs.Laws.{without-none}
+use Rattle.drain.specs.Parts.{in_use}
 use Rattle.drain.proofs.Gaps.{left, length-left}
 use Rattle.drain.proofs.make_places.Goals as goal
 
 pub count-requires : goal.count-requires
-count-requires c = let s = c in omega (arith, kept-length s.args.mail.now s.requires.0.kept)
+count-requires c =
+    let s = c in
+    omega (arith, kept-length s.args.mail.now s.requires.0.kept)
 
 pub overflow_add-count : goal.overflow_add-count
-overflow_add-count c = let s = c in omega (arith, c.count.ensures, s.requires.0.kept.fits, s.requires.0.kept.high, s.requires.1)
+overflow_add-count c =
+    let s = c in
+    omega (arith, c.count.ensures, s.requires.0.kept.fits, s.requires.0.kept.high, s.requires.1)
 
 pub capacity-requires : goal.capacity-requires
-capacity-requires c = let s = c in omega (arith, kept-length s.args.mail.now s.requires.0.kept)
+capacity-requires c =
+    let s = c in
+    omega (arith, kept-length s.args.mail.now s.requires.0.kept)
 
 pub returns-then-count-n : goal.returns-then-count-n
 returns-then-count-n c =
     let s = c in
-    record { spent = s.requires.0; front = refl; moved = record { capacity = refl; entries = refl }; free = omega (arith, c.if-count-n.true, c.count.ensures, c.capacity.ensures) }
+    record { spent = s.requires.0; front = refl; capacity = refl; entries = refl; free = omega (arith, c.if-count-n.true, c.count.ensures, c.capacity.ensures) }
 
 pub returns : goal.returns
 returns c =
@@ -30,6 +41,7 @@ returns c =
     (record {
       spent = record { kept = l.kept; order = omega arith; inside = omega (arith, l.count, s.requires.0.order, s.requires.0.inside) };
       front = refl;
-      moved = record { capacity = l.capacity; entries = without-none g.from _ ∙ l.entries };
-      free = omega (arith, l.count, l.capacity, s.requires.2, length-left g m s.requires.0);
+      capacity = l.capacity;
+      entries = without-none g.from _ ∙ l.entries;
+      free = omega (arith, l.count, l.capacity, leb-true (length (in_use g m) + s.args.n) (capacity_of m) s.requires.2, length-left g m s.requires.0);
     })

@@ -1,10 +1,29 @@
--- The test, by what it says.
+-- Without the gap there are so many less.
 use mathlib.Core.Path.{refl}
+use native.Mathlib.Omega.{arith}
+use Prim.Native.Nat.{◌+◌}
+use lib.ListN.{length}
 use borrow.Author.Tests.{le-leb, lt-leb}
+use Rattle.mailbox.specs.Layout.{capacity_of}
+use Rattle.mailbox.proofs.Laws.{kept-length}
+use Rattle.drain.specs.Parts.{in_use}
+use Rattle.drain.proofs.Gaps.{length-left}
 use Rattle.drain.proofs.room_refusal.Goals as goal
 
-pub returns-then-own-n : goal.returns-then-own-n
-returns-then-own-n c = rw (le-leb _ _ c.if-own-n.true) refl
+pub count-requires : goal.count-requires
+count-requires c = let s = c in omega (arith, kept-length s.args.mail.now s.requires.0.kept)
+
+pub capacity-requires : goal.capacity-requires
+capacity-requires c = let s = c in omega (arith, kept-length s.args.mail.now s.requires.0.kept)
+
+pub returns-then-count-gap : goal.returns-then-count-gap
+returns-then-count-gap c =
+    let s = c in
+    let m = s.args.mail.now in
+    rw (le-leb (length (in_use s.args.gap m) + s.args.n) (capacity_of m) (omega (arith, c.if-count-gap.true, c.capacity.ensures, c.count.ensures, length-left s.args.gap m s.requires.0))) refl
 
 pub returns : goal.returns
-returns c = rw (lt-leb _ _ c.if-own-n.false) refl
+returns c =
+    let s = c in
+    let m = s.args.mail.now in
+    rw (lt-leb (length (in_use s.args.gap m) + s.args.n) (capacity_of m) (omega (arith, c.if-count-gap.false, c.capacity.ensures, c.count.ensures, length-left s.args.gap m s.requires.0))) refl

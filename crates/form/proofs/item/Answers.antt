@@ -1,15 +1,12 @@
 -- `item` meets its contract, by what `row` and `queue` ensure.
-use mathlib.Core.Path.{◌≡◌, refl, sym, ◌∙◌}
-use mathlib.Core.Bool.{false}
+use mathlib.Core.Path.{refl, sym, ◌∙◌}
 use Prim.Native.Nat.{◌+◌}
 use native.Mathlib.Omega.{arith}
 use borrow.Author.Tests.{lt-leb, le-leb}
 use lib.ListN.{get_or}
-use Rattle.buffer.specs.Bytes.{slice}
 use Rattle.message.specs.Limits.{max_sessions}
-use Rattle.item.specs.Record.{waiting_place, queue_place, item_at, well_formed}
-use Rattle.form.proofs.FormLaws.{in_line, item_form, row_low}
-use Rattle.form.proofs.WithinLaws.{item-within}
+use Rattle.item.specs.Record.{waiting_place, queue_place, well_formed}
+use Rattle.form.proofs.FormLaws.{item_form, row_low}
 use Rattle.form.proofs.item.Goals as goal
 
 pub overflow_cast-n : goal.overflow_cast-n
@@ -34,8 +31,6 @@ queue-requires c =
       omega arith,
       omega arith,
       λ k l. omega (arith, row_low t (a.at + queue_place) a.s (get_or t (a.at + waiting_place) 0) (omega arith) (omega arith) (sym c.row.ensures ∙ c.if-row.true) k l),
-      omega (arith, c.requires),
-      omega (arith, c.requires),
     )
 
 pub returns-then-row : goal.returns-then-row
@@ -43,18 +38,14 @@ returns-then-row c =
     let b = c in
     let a = b.args in
     let t = a.t.now in
-    let n = get_or t (a.at + waiting_place) 0 in
-    let form : well_formed a.s (item_at t a.at) ≡ in_line (get_or t a.at 0) (slice t (a.at + queue_place) n) =
-    item_form t a.at a.s b.if-n-gt-MAX_SESSIONS.false
-    ∙ rw (le-leb (get_or t a.at 0) a.s b.if-h-s.false, le-leb n max_sessions b.if-n-gt-MAX_SESSIONS.false, ← c.row.ensures, c.if-row.true) refl in
-    c.queue.ensures ∙ rw (form, item-within t a.at a.second a.maker b.if-n-gt-MAX_SESSIONS.false) refl
+    c.queue.ensures
+    ∙ sym (item_form t a.at a.s b.if-n-gt-MAX_SESSIONS.false
+    ∙ rw (le-leb (get_or t a.at 0) a.s b.if-h-s.false, le-leb (get_or t (a.at + waiting_place) 0) max_sessions b.if-n-gt-MAX_SESSIONS.false, ← c.row.ensures, c.if-row.true) refl)
 
 pub returns-else-row : goal.returns-else-row
 returns-else-row c =
     let b = c in
     let a = b.args in
     let t = a.t.now in
-    let form : well_formed a.s (item_at t a.at) ≡ false =
-    item_form t a.at a.s b.if-n-gt-MAX_SESSIONS.false
-    ∙ rw (le-leb (get_or t a.at 0) a.s b.if-h-s.false, le-leb (get_or t (a.at + waiting_place) 0) max_sessions b.if-n-gt-MAX_SESSIONS.false, ← c.row.ensures, c.if-row.false) refl in
-    rw (form) refl
+    sym (item_form t a.at a.s b.if-n-gt-MAX_SESSIONS.false
+    ∙ rw (le-leb (get_or t a.at 0) a.s b.if-h-s.false, le-leb (get_or t (a.at + waiting_place) 0) max_sessions b.if-n-gt-MAX_SESSIONS.false, ← c.row.ensures, c.if-row.false) refl)

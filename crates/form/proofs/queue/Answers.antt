@@ -1,16 +1,12 @@
 -- `queue` meets its contract. The loop's invariant: the sessions passed pass the test, and the mask has their bits and that of the holder.
 use mathlib.Core.Path.{◌≡◌, refl, sym, ◌∙◌}
-use mathlib.Core.Bool.{true, false, not, ◌&&◌}
-use Prim.Native.Nat.{◌+◌, ◌≤◌, ◌<◌}
+use Prim.Native.Nat.{◌+◌, ◌≤◌}
 use native.Mathlib.Omega.{arith}
-use lib.Dec.{leb}
 use lib.ListN.{get_or}
 use Rattle.buffer.specs.Bytes.{slice}
 use Rattle.lists.specs.Lists.{all_of, distinct, member}
-use Rattle.lists.proofs.Tests.{and_both}
-use Rattle.buffer.proofs.Laws.{slice-more, get_d_slice, length-slice}
-use Rattle.form.proofs.FormLaws.{in_line, none_seen, line-zero, line-seen, line-new, seen_more, line-stop}
-use Rattle.form.proofs.WithinLaws.{mask-within}
+use Rattle.buffer.proofs.Laws.{slice-more}
+use Rattle.form.proofs.FormLaws.{none_seen, line-zero, line_seen, line_new, seen_more, line-stop}
 use Rattle.form.proofs.queue.Goals as goal
 
 pub loop-i-init : goal.loop-i-init
@@ -23,10 +19,8 @@ returns-then-v-eq0 c =
     let start = c in
     let a = start.args in
     let t = a.t.now in
-    let stop : in_line a.h (slice t a.at a.n) ≡ false =
-    line-stop t a.at a.n a.h i (omega arith) (omega arith)
-    (line-zero a.h (slice t a.at i) (get_or t (a.at + i) 0) c.if-v-eq0.true) in
-    rw (stop) refl
+    sym (line-stop t a.at a.n a.h i (omega arith) (omega arith)
+    (line-zero a.h (slice t a.at i) (get_or t (a.at + i) 0) c.if-v-eq0.true))
 
 pub contains-requires : goal.contains-requires
 contains-requires c = omega (arith, c.if-v-eq0.false, c.requires.2 c.loop-i.i c.loop-i-test.true)
@@ -37,10 +31,8 @@ returns-then-contains c =
     let i = l.i in
     let a = c.args in
     let t = a.t.now in
-    let stop : in_line a.h (slice t a.at a.n) ≡ false =
-    line-stop t a.at a.n a.h i (omega arith) (omega arith)
-    (line-seen a.h (slice t a.at i) (get_or t (a.at + i) 0) l.seen l.invariant.2 (omega (arith, c.if-v-eq0.false)) (sym c.contains.ensures ∙ c.if-contains.true)) in
-    rw (stop) refl
+    sym (line-stop t a.at a.n a.h i (omega arith) (omega arith)
+    (line_seen a.h (slice t a.at i) (get_or t (a.at + i) 0) l.seen l.invariant.2 (omega (arith, c.if-v-eq0.false)) (sym c.contains.ensures ∙ c.if-contains.true)))
 
 pub insert-seen-requires : goal.insert-seen-requires
 insert-seen-requires c = omega (arith, c.if-v-eq0.false, c.requires.2 c.loop-i.i c.loop-i-test.true)
@@ -56,24 +48,11 @@ loop-i-preserved c =
     let new = slice-more t a.at i (omega arith) in
     let low : 1 ≤ v = omega (arith, c.if-v-eq0.false) in (
       omega arith,
-      rw (new) (line-new a.h old v l.seen l.invariant.2 low (sym c.contains.ensures ∙ c.if-contains.false) l.invariant.1),
+      rw (new) (line_new a.h old v l.seen l.invariant.2 low (sym c.contains.ensures ∙ c.if-contains.false) l.invariant.1),
       rw (new, c.insert-seen.ensures) (seen_more a.h old v l.seen l.invariant.2 low),
     )
 
-pub mask_of-requires : goal.mask_of-requires
-mask_of-requires c = omega (arith, c.requires)
-
 pub returns : goal.returns
 returns c =
-    let l = c.loop-i in
-    let start = c in
-    let a = start.args in
-    let t = a.t.now in
-    let q = slice t a.at a.n in
-    let whole : l.i ≡ a.n = omega arith in
-    let line : in_line a.h q ≡ true = rw (whole) at l.invariant.1 in
-    let low = (and_both (all_of (leb 1) q) (distinct q) (and_both (all_of (leb 1) q && distinct q) (not (member a.h q)) line).0).0 in
-    c.mask_of.ensures
-    ∙ mask-within a.second a.maker a.h q l.seen (rw (whole) at l.invariant.2) low start.requires.1
-    (λ i g. let h : i < a.n = omega (arith, length-slice t a.at a.n start.requires.0) in rw (get_d_slice t a.at a.n i h) (start.requires.2 i h))
-    ∙ rw (line) refl
+    let all_of : c.loop-i.i ≡ c.args.n = omega arith in
+    rw (← all_of) (sym c.loop-i.invariant.1)

@@ -2,16 +2,17 @@
 use mathlib.Core.Path.{◌≡◌}
 use Prim.Native.Nat.{◌+◌, ◌-◌, ◌≤◌}
 use lib.ListN.{length}
-use Rattle.drain.specs.Parts.{closed_up, own_in_use, Draining}
+use Rattle.step.specs.Step.{Formed}
+use Rattle.drain.specs.Parts.{closed_up, GapIn}
 use Rattle.lockmgr.specs.Run.{buffers}
 use Rattle.lockmgr.specs.Parts.{Ahead, Ended}
 use Rattle.lockmgr.proofs.deliver_all.Given as goal
 
 abbrev pub invariant-loop-ending : goal.invariant-loop-ending
 invariant-loop-ending l =
-    (length l.table ≡ length l.initial.table) × (length l.mail ≡ length l.initial.mail) × Draining l.maker l.gap l.table l.mail × (l.own ≡ own_in_use l.maker l.gap l.table l.mail)
-    × (l.ending ≡ 0 → Ahead l.maker l.limit l.made (buffers l.initial.table l.initial.mail) (buffers l.table (closed_up l.gap l.mail)))
-    × ((l.ending ≡ 0 → ⊥) → Ended l.maker l.limit l.made l.ending (buffers l.initial.table l.initial.mail) (buffers l.table (closed_up l.gap l.mail)))
+    (length l.table ≡ length l.initial.table) × (length l.mail ≡ length l.initial.mail) × (l.gap.from ≡ 0) × GapIn l.gap l.mail × Formed l.table (closed_up l.gap l.mail)
+    × (l.ending ≡ 0 → Ahead l.limit l.made (buffers l.initial.table l.initial.mail) (buffers l.table (closed_up l.gap l.mail)))
+    × ((l.ending ≡ 0 → ⊥) → Ended l.limit l.made l.ending (buffers l.initial.table l.initial.mail) (buffers l.table (closed_up l.gap l.mail)))
     × (l.made ≤ l.limit)
 
 -- one more while the drain goes on

@@ -4,7 +4,7 @@ use Prim.Native.Nat.{ℕ}
 use native.Mathlib.Omega.{arith}
 use Rattle.cycletext.specs.OnTable.{text_answer, described}
 use Rattle.lockmgr.specs.Calls.{report_refusal}
-use Rattle.lockmgr.proofs.Judging.{report-zero, report-small, text-refused, text-judged}
+use Rattle.lockmgr.proofs.Judging.{report-zero, report_small, text-refused, text-judged}
 use Rattle.lockmgr.proofs.lockmgr_cycle_text.Goals as goal
 
 pub returns-then-cause-ne0 : goal.returns-then-cause-ne0
@@ -17,7 +17,7 @@ returns-then-cause-ne0 c =
 pub overflow_cast-session : goal.overflow_cast-session
 overflow_cast-session c =
     let admitted : report_refusal c.args.session c.args.table.now ≡ 0 = sym c.report_refusal-cause.ensures ∙ c.if-cause-ne0.false in
-    let a = c.args in omega (arith, report-small a.session a.table.now (admitted))
+    let a = c.args in omega (arith, report_small a.session a.table.now (admitted))
 
 pub describe-requires : goal.describe-requires
 describe-requires c =

@@ -3,7 +3,7 @@ use mathlib.Core.Path.{◌≡◌, refl, sym, ◌∙◌}
 use native.Mathlib.Omega.{arith}
 use borrow.Author.Tests.{ne_eqb}
 use Rattle.lockmgr.specs.Calls.{report_refusal, report}
-use Rattle.lockmgr.proofs.Judging.{report-zero, report-small}
+use Rattle.lockmgr.proofs.Judging.{report-zero, report_small}
 use Rattle.lockmgr.proofs.lockmgr_report.Goals as goal
 
 pub returns-then-cause-ne0 : goal.returns-then-cause-ne0
@@ -16,7 +16,7 @@ returns-then-cause-ne0 c =
 pub overflow_cast-session : goal.overflow_cast-session
 overflow_cast-session c =
     let admitted : report_refusal c.args.session c.args.table.now ≡ 0 = sym c.report_refusal-cause.ensures ∙ c.if-cause-ne0.false in
-    let a = c.args in omega (arith, report-small a.session a.table.now (admitted))
+    let a = c.args in omega (arith, report_small a.session a.table.now (admitted))
 
 pub cycle_length-requires : goal.cycle_length-requires
 cycle_length-requires c =

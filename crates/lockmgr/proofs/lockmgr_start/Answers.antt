@@ -3,15 +3,14 @@ use mathlib.Core.Path.{◌≡◌, refl, sym, ◌∙◌}
 use Prim.Native.Nat.{ℕ}
 use native.Mathlib.Omega.{arith}
 use borrow.Author.Tests.{ne_eqb}
-use Rattle.makers.specs.Makers.{owners_of}
 use Rattle.lockmgr.specs.Calls.{Config, config, start_refusal, start}
-use Rattle.lockmgr.proofs.Judging.{Startable, start-zero, start-bounded}
+use Rattle.lockmgr.proofs.Judging.{Startable, start-zero}
 use Rattle.lockmgr.proofs.lockmgr_start.Goals as goal
 
 pub returns-then-cause-ne0 : goal.returns-then-cause-ne0
 unfolding start
 returns-then-cause-ne0 c =
-    let given : Config = config c.args.sessions c.args.items c.args.capacity c.args.ranks.now (owners_of c.args.session_makers.now c.args.item_makers.now c.args.share1 c.args.share2) in
+    let given : Config = config c.args.sessions c.args.items c.args.capacity c.args.ranks.now in
     let refusal : ℕ = start_refusal (given) c.args.table.now c.args.mail.now in
     let refused : refusal ≡ 0 → ⊥ = λ z. c.if-cause-ne0.true (c.start_refusal-cause.ensures ∙ z) in
     let s = c in
@@ -19,44 +18,44 @@ returns-then-cause-ne0 c =
 
 pub overflow_cast-sessions : goal.overflow_cast-sessions
 overflow_cast-sessions c =
-    let given : Config = config c.args.sessions c.args.items c.args.capacity c.args.ranks.now (owners_of c.args.session_makers.now c.args.item_makers.now c.args.share1 c.args.share2) in
+    let given : Config = config c.args.sessions c.args.items c.args.capacity c.args.ranks.now in
     let refusal : ℕ = start_refusal (given) c.args.table.now c.args.mail.now in
     let admitted : refusal ≡ 0 = sym c.start_refusal-cause.ensures ∙ c.if-cause-ne0.false in
     let Known : Type 0 = Startable (given) c.args.table.now c.args.mail.now in
     let known : Known = start-zero _ _ _ (admitted) in
-    omega (arith, (known).sizes.bounds.sessions)
+    omega (arith, (known).sizes.bounded)
 
 pub overflow_cast-items : goal.overflow_cast-items
 overflow_cast-items c =
-    let given : Config = config c.args.sessions c.args.items c.args.capacity c.args.ranks.now (owners_of c.args.session_makers.now c.args.item_makers.now c.args.share1 c.args.share2) in
+    let given : Config = config c.args.sessions c.args.items c.args.capacity c.args.ranks.now in
     let refusal : ℕ = start_refusal (given) c.args.table.now c.args.mail.now in
     let admitted : refusal ≡ 0 = sym c.start_refusal-cause.ensures ∙ c.if-cause-ne0.false in
     let Known : Type 0 = Startable (given) c.args.table.now c.args.mail.now in
     let known : Known = start-zero _ _ _ (admitted) in
-    omega (arith, (known).sizes.bounds.items)
+    omega (arith, (known).sizes.bounded)
 
 pub clear-requires : goal.clear-requires
 clear-requires c =
-    let given : Config = config c.args.sessions c.args.items c.args.capacity c.args.ranks.now (owners_of c.args.session_makers.now c.args.item_makers.now c.args.share1 c.args.share2) in
+    let given : Config = config c.args.sessions c.args.items c.args.capacity c.args.ranks.now in
     let refusal : ℕ = start_refusal (given) c.args.table.now c.args.mail.now in
     let admitted : refusal ≡ 0 = sym c.start_refusal-cause.ensures ∙ c.if-cause-ne0.false in
     let Known : Type 0 = Startable (given) c.args.table.now c.args.mail.now in
     let known : Known = start-zero _ _ _ (admitted) in
-    let f = known in (start-bounded _ _ _ f, f.sizes.table-whole)
+    let f = (known).sizes in (f.bounded, f.table-whole)
 
 pub clear-requires-2 : goal.clear-requires-2
 clear-requires-2 c =
-    let given : Config = config c.args.sessions c.args.items c.args.capacity c.args.ranks.now (owners_of c.args.session_makers.now c.args.item_makers.now c.args.share1 c.args.share2) in
+    let given : Config = config c.args.sessions c.args.items c.args.capacity c.args.ranks.now in
     let refusal : ℕ = start_refusal (given) c.args.table.now c.args.mail.now in
     let admitted : refusal ≡ 0 = sym c.start_refusal-cause.ensures ∙ c.if-cause-ne0.false in
     let Known : Type 0 = Startable (given) c.args.table.now c.args.mail.now in
     let known : Known = start-zero _ _ _ (admitted) in
-    let f = (known).sizes in (f.bounds.capacity.0, f.bounds.capacity.1, f.mail-whole)
+    let f = (known).sizes in (f.some-room, f.max-room, f.mail-whole)
 
 pub returns : goal.returns
 unfolding start
 returns c =
-    let given : Config = config c.args.sessions c.args.items c.args.capacity c.args.ranks.now (owners_of c.args.session_makers.now c.args.item_makers.now c.args.share1 c.args.share2) in
+    let given : Config = config c.args.sessions c.args.items c.args.capacity c.args.ranks.now in
     let refusal : ℕ = start_refusal (given) c.args.table.now c.args.mail.now in
     let admitted : refusal ≡ 0 = sym c.start_refusal-cause.ensures ∙ c.if-cause-ne0.false in
     rw (admitted, c.clear.ensures, c.clear-2.ensures) refl

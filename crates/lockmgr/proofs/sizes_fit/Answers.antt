@@ -2,20 +2,20 @@
 use mathlib.Core.Path.{◌≡◌, refl}
 use mathlib.Core.Bool.{Bool, true}
 use native.Mathlib.Omega.{arith}
-use Rattle.lockmgr.proofs.Judging.{in_bounds, InBounds, bounds-known}
+use Rattle.lockmgr.proofs.Judging.{in_bounds, InBounds, bounds_known}
 use Rattle.lockmgr.proofs.sizes_fit.Goals as goal
 
 pub returns-then-not-bounded : goal.returns-then-not-bounded
-returns-then-not-bounded c a b =
+returns-then-not-bounded c =
     let bounds : Bool = in_bounds c.args.sessions c.args.items c.args.capacity in
-    rw c.if-not-bounded.true refl
+    let b = bounds in rw c.if-not-bounded.true refl
 
 pub overflow_cast-sessions : goal.overflow_cast-sessions
 overflow_cast-sessions c =
     let bounds : Bool = in_bounds c.args.sessions c.args.items c.args.capacity in
     let bounded : bounds ≡ true = c.if-not-bounded.false in
     let Known : Type 0 = InBounds c.args.sessions c.args.items c.args.capacity in
-    let known : Known = bounds-known _ _ _ (bounded) in
+    let known : Known = bounds_known _ _ _ (bounded) in
     omega (arith, (known).sessions)
 
 pub overflow_cast-items : goal.overflow_cast-items
@@ -23,7 +23,7 @@ overflow_cast-items c =
     let bounds : Bool = in_bounds c.args.sessions c.args.items c.args.capacity in
     let bounded : bounds ≡ true = c.if-not-bounded.false in
     let Known : Type 0 = InBounds c.args.sessions c.args.items c.args.capacity in
-    let known : Known = bounds-known _ _ _ (bounded) in
+    let known : Known = bounds_known _ _ _ (bounded) in
     omega (arith, (known).items)
 
 pub size-requires-2 : goal.size-requires-2
@@ -31,11 +31,11 @@ size-requires-2 c =
     let bounds : Bool = in_bounds c.args.sessions c.args.items c.args.capacity in
     let bounded : bounds ≡ true = c.if-not-bounded.false in
     let Known : Type 0 = InBounds c.args.sessions c.args.items c.args.capacity in
-    let known : Known = bounds-known _ _ _ (bounded) in
+    let known : Known = bounds_known _ _ _ (bounded) in
     omega (arith, (known).capacity)
 
 pub returns : goal.returns
-returns c a b =
+returns c =
     let bounds : Bool = in_bounds c.args.sessions c.args.items c.args.capacity in
     let bounded : bounds ≡ true = c.if-not-bounded.false in
     rw (bounded, c.size-2.ensures, c.size.ensures) refl

@@ -1,18 +1,17 @@
 -- The tail of a step of an item.
 use mathlib.Core.Path.{◌≡◌, refl, ap}
-use mathlib.Core.List.{map}
-use native.Mathlib.Omega.{arith}
 use lib.ListN.{length}
 use Rattle.table.proofs.Laws.{sized-with_item, sessions_of-with_item}
 use Rattle.item.specs.declared.ItemStep.{ItemStep}
 use Rattle.mailbox.specs.Entry.{from_item}
-use Rattle.step.proofs.Room.{has-places, places-filled}
+use Rattle.step.proofs.Acting.{has_room, room-filled}
+use native.Mathlib.Omega.{arith}
 use Rattle.step.proofs.commit_item.Goals as goal
 
 pub post-requires : goal.post-requires
 post-requires c =
     let s = c in
-    has-places s.args.mail.now s.args.k _ s.requires.3 c.take.ensures _ refl
+    has_room s.args.mail.now s.args.k _ c.make_room.ensures s.requires.3 c.if-not-make_room.false _ refl s.requires.4
 
 pub answer_of-requires : goal.answer_of-requires
 answer_of-requires c =
@@ -27,5 +26,5 @@ answer_of-requires c =
 pub returns : goal.returns
 returns c w e =
     let s = c in
-    let q = places-filled s.args.mail.now s.args.k _ s.requires.3 c.take.ensures (map (from_item s.args.x) w.sends) (c.post.ensures w.sends (ap (λ (r : ItemStep). r.outbox) e)) in
-    rw (c.answer_of.ensures, c.put_item.ensures, q, e) refl
+    let p = room-filled s.args.mail.now s.args.k _ c.make_room.ensures s.requires.3 c.if-not-make_room.false (from_item s.args.x) w.sends (ap (λ (r : ItemStep). r.outbox.n) e) (c.post.ensures w.sends (ap (λ (r : ItemStep). r.outbox) e)) in
+    rw (c.answer_of.ensures, c.put_item.ensures, p.0, p.1, e) refl

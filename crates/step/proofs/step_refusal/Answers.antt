@@ -19,4 +19,4 @@ pub returns : goal.returns
 unfolding first
 returns c =
     let s = c in
-    rw (c.cause.ensures, c.cause-stage.ensures, c.cause-mask.ensures, c.cause-route.ensures, c.crosses-crossed.ensures, c.stage_forbids-staged.ensures, c.mask_forbids-masked.ensures, c.session-s.ensures, c.count.ensures, ← length-entries s.args.mail.now, s.requires.1) refl
+    rw (c.cause.ensures, c.cause-mask.ensures, c.cause-route.ensures, c.stage_forbids-staged.ensures, c.mask_forbids-masked.ensures, c.session-s.ensures, c.count.ensures, ← length-entries s.args.mail.now, s.requires.1) refl

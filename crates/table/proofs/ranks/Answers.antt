@@ -3,7 +3,7 @@ use mathlib.Core.Path.{◌≡◌, refl, ◌∙◌}
 use Prim.Native.Nat.{◌-◌}
 use native.Mathlib.Omega.{arith}
 use Rattle.table.specs.Layout.{ranks, ranks_place, sessions_of, items_of}
-use Rattle.table.proofs.Laws.{header-fits, ranks-fit}
+use Rattle.table.proofs.Laws.{header-fits, ranks_fit}
 use Rattle.table.proofs.ranks.Goals as goal
 
 pub sessions-s-requires : goal.sessions-s-requires
@@ -15,7 +15,7 @@ items-m-requires c = header-fits c.args.t.now c.requires
 pub slice_bounds-result-end : goal.slice_bounds-result-end
 slice_bounds-result-end c =
     let s = c in
-    omega (arith, c.ranks_end-end.ensures, c.sessions-s.ensures, c.items-m.ensures, ranks-fit s.args.t.now s.requires)
+    omega (arith, c.ranks_end-end.ensures, c.sessions-s.ensures, c.items-m.ensures, ranks_fit s.args.t.now s.requires)
 
 pub returns : goal.returns
 unfolding ranks

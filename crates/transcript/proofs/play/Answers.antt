@@ -21,7 +21,7 @@ bounds-input-1 c =
 pub begin-requires : goal.begin-requires
 begin-requires c =
     let input : Known c.args.input.now = known c.args.input.now c.requires.0 in
-    (input.max-sessions, input.max-items)
+    (input).max-sessions
 
 pub get16-n-requires : goal.get16-n-requires
 get16-n-requires c =

@@ -4,7 +4,7 @@ use mathlib.Core.Bool.{true, false}
 use native.Mathlib.Omega.{arith}
 use Rattle.yearly.specs.declared.Record.{Record}
 use Rattle.yearly.specs.Input.{days_in, sized, consistent}
-use Rattle.yearly.proofs.Laws.{days, not-sized, not-consistent, no-sessions, some-sessions}
+use Rattle.yearly.proofs.Laws.{days, not-sized, not-consistent, no_sessions, some-sessions}
 use Rattle.yearly.proofs.judge.Goals as goal
 
 pub returns-then-not-sized : goal.returns-then-not-sized
@@ -36,7 +36,7 @@ returns-then-nobody c =
     let k = c.consistent-inconsistent in
     let allowed : consistent c.args.input.now ≡ true = sym k.ensures ∙ c.if-inconsistent.false in
     let r = c.sums-nobody in
-    sym (no-sessions c.args.input.now whole allowed (sym (ap (λ (q : Record). q.sessions) r.ensures.0) ∙ c.if-nobody.true))
+    sym (no_sessions c.args.input.now whole allowed (sym (ap (λ (q : Record). q.sessions) r.ensures.0) ∙ c.if-nobody.true))
 
 pub returns : goal.returns
 returns c =

@@ -11,7 +11,7 @@ use Rattle.session.specs.Seniority.{senior}
 use Rattle.item.specs.Record.{unpacked}
 use Rattle.item.specs.Rules.{probes, resends, without, on_clean}
 use Rattle.lists.proofs.Laws.{remove_at_le}
-use Rattle.item.proofs.Laws.{step_eq, queue-length, holds-queue, holds-waiting, probes-fit}
+use Rattle.item.proofs.Laws.{step_eq, queue-length, holds-queue, holds-waiting, probes_fit}
 use Rattle.item.proofs.Item.on_clean.Goals as goal
 
 pub returns-then-holder-eq0 : goal.returns-then-holder-eq0
@@ -31,7 +31,7 @@ resends-outbox-requires c =
     let n = queue-length i s.requires in
     let first = message i.holder Kind.clean s.args.a s.args.b in (
       omega (arith, holds-waiting c.without-others.result i.holder (remove_at p q) c.without-others.ensures, remove_at_le p q),
-      probes-fit (senior s.args.ranks.now) i.holder q (first ∷ []) c.probes.result (omega arith) (omega arith) (c.probes.ensures _ c.single-first.ensures),
+      probes_fit (senior s.args.ranks.now) i.holder q (first ∷ []) c.probes.result (omega arith) (omega arith) (c.probes.ensures _ c.single-first.ensures),
     )
 
 pub returns : goal.returns

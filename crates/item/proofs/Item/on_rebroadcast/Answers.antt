@@ -5,7 +5,7 @@ use borrow.Author.Tests.{eq-eqb, ne_eqb}
 use Rattle.session.specs.Seniority.{senior}
 use Rattle.item.specs.Record.{unpacked}
 use Rattle.item.specs.Rules.{probes, resends, on_rebroadcast}
-use Rattle.item.proofs.Laws.{step_eq, queue-length, probes-fit}
+use Rattle.item.proofs.Laws.{step_eq, queue-length, probes_fit}
 use Rattle.item.proofs.Item.on_rebroadcast.Goals as goal
 
 pub returns-then-self-eq0 : goal.returns-then-self-eq0
@@ -19,7 +19,7 @@ pub resends-outbox-requires : goal.resends-outbox-requires
 resends-outbox-requires c =
     let s = c in
     let i = s.args.self in
-    (s.requires.fits, probes-fit (senior s.args.ranks.now) i.holder (unpacked i).queue [] c.probes.result (omega arith) (omega (arith, queue-length i s.requires)) (c.probes.ensures _ c.empty.ensures))
+    (s.requires.fits, probes_fit (senior s.args.ranks.now) i.holder (unpacked i).queue [] c.probes.result (omega arith) (omega (arith, queue-length i s.requires)) (c.probes.ensures _ c.empty.ensures))
 
 pub returns : goal.returns
 unfolding on_rebroadcast

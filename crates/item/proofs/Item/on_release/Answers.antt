@@ -13,7 +13,7 @@ use Rattle.item.specs.Record.{unpacked}
 use Rattle.item.specs.Rules.{handed_over, on_release}
 use Rattle.session.proofs.Seniority.{senior-weak}
 use Rattle.session.proofs.MostSenior.{most-senior-passes}
-use Rattle.item.proofs.NextHolder.{no-probes}
+use Rattle.item.proofs.NextHolder.{no_probes}
 use Rattle.item.proofs.Laws.{queue-length, holds-queue, holds-other, holds-packed, vacated-none, vacated-more}
 use Rattle.item.proofs.Item.on_release.Goals as goal
 
@@ -53,5 +53,5 @@ returns c =
     let left = holds-queue rest.result i.holder (remove_at next.result q) rest.ensures in
     let r = s.args.ranks.now in
     let by = next_holder (senior r) in
-    let none = no-probes (senior r) q (get_or q (by q) 0) (by q) (most-senior-passes (senior-weak r) q some) in
+    let none = no_probes (senior r) q (get_or q (by q) 0) (by q) (most-senior-passes (senior-weak r) q some) in
     rw (eq-eqb _ _ c.if-self-t.false, vacated-more (senior r) by q some, none, ← next.ensures.0, first, ← left) c.handed_over.ensures

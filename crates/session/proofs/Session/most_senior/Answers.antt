@@ -6,7 +6,7 @@ use borrow.Author.Tests.{lt-ltb, le-ltb}
 use lib.ListN.{length, get_or}
 use Rattle.session.specs.Seniority.{rank, senior}
 use Rattle.session.proofs.Seniority.{senior-weak}
-use Rattle.session.proofs.MostSenior.{Leads, leads_one, leads-new, leads-still, leads-place}
+use Rattle.session.proofs.MostSenior.{Leads, leads_one, leads_new, leads-still, leads-place}
 use Rattle.session.proofs.Session.most_senior.Goals as goal
 use Rattle.session.proofs.Session.most_senior.Goals.{then-rank-best, else-rank-best}
 
@@ -27,7 +27,7 @@ loop-i-preserved c =
       omega arith,
       rw (add-one)
           (elim c.if-rank-best.branch [
-            | then-rank-best w ↦ rw w.place-is (leads-new (senior-weak r) q l.i l.place l.invariant.1 (lt-ltb new old (omega (arith, here, best, w.if-rank-best.true))))
+            | then-rank-best w ↦ rw w.place-is (leads_new (senior-weak r) q l.i l.place l.invariant.1 (lt-ltb new old (omega (arith, here, best, w.if-rank-best.true))))
             | else-rank-best w ↦ rw w.place-is (leads-still (senior-weak r) q l.i l.place l.invariant.1 (le-ltb new old (omega (arith, here, best, w.if-rank-best.false))))
           ]),
       elim c.if-rank-best.branch [ then-rank-best w ↦ rw (w.place-is, w.best-is) here | else-rank-best w ↦ rw (w.place-is, w.best-is) best ],

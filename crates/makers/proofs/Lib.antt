@@ -1,2 +1,0 @@
-pub mod MakerLaws
-pub mod Owners

@@ -1,4 +1,0 @@
-pub mod Secrecy
-pub mod OneMaker
-pub mod Drains
-pub mod Progress
