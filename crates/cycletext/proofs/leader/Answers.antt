@@ -21,19 +21,18 @@ next-w-requires c = let l = c.loop-i in readable c.requires (l.i - 1) l.invarian
 pub loop-i-preserved : goal.loop-i-preserved
 loop-i-preserved c =
     let l = c.loop-i in
-    let b = c in
     let back : l.i - 1 + 1 ≡ l.i = omega arith in
     let last : l.i + 1 - 1 ≡ l.i = omega arith in
     let w = c.next-w in
-    let held : w.result.holder ≡ waits_for b.args.t.now l.s = rw w.ensures refl in
-    let here = rw (back) at (one-ahead b.args.t.now b.args.me (l.i - 1) l.invariant.2 held) in
+    let held : w.result.holder ≡ waits_for c.args.t.now l.s = rw w.ensures refl in
+    let here = rw (back) at (one-ahead c.args.t.now c.args.me (l.i - 1) l.invariant.2 held) in
     let e = rw l.invariant.4 at c.senior.ensures in (
       omega arith,
       omega arith,
       rw (last) here,
       elim c.if-senior.branch [
-        | then-senior w ↦ rw w.first-is (best_new b.requires l.invariant.3 (omega arith) here (sym e ∙ w.if-senior.true))
-        | else-senior w ↦ rw w.first-is (best_still b.requires l.invariant.3 (omega arith) here (sym e ∙ w.if-senior.false))
+        | then-senior w ↦ rw w.first-is (best_new c.requires l.invariant.3 (omega arith) here (sym e ∙ w.if-senior.true))
+        | else-senior w ↦ rw w.first-is (best_still c.requires l.invariant.3 (omega arith) here (sym e ∙ w.if-senior.false))
       ],
       l.invariant.4,
     )

@@ -28,9 +28,7 @@ returns c =
     let session-digits : c.decimal_length.result ≤ 3 = omega (arith, c.decimal_length.ensures, length-decimal 2 c.args.w.session (omega (arith, c.struct_known-1.given))) in
     let item-digits : c.decimal_length-2.result ≤ 3 = omega (arith, c.decimal_length-2.ensures, length-decimal 2 c.args.w.item (omega (arith, c.struct_known-2-1.given))) in
     let holder-digits : c.decimal_length-3.result ≤ 3 = omega (arith, c.decimal_length-3.ensures, length-decimal 2 c.args.w.holder (omega (arith, c.struct_known-3-1.given))) in
-    let s = c in
-    let x = c in
-    let len = length-line s.args.w in (
-      omega (arith, s.decimal_length.ensures, x.decimal_length-2.ensures, c.decimal_length-3.ensures),
+    let len = length-line c.args.w in (
+      omega (arith, c.decimal_length.ensures, c.decimal_length-2.ensures, c.decimal_length-3.ensures),
       omega (arith, session-digits, item-digits, holder-digits),
     )

@@ -24,22 +24,19 @@ next-w-requires c = let l = c.loop-written in readable c.requires.0 l.written l.
 pub slice_bounds-put_line-count : goal.slice_bounds-put_line-count
 slice_bounds-put_line-count c =
     let room : c.loop-written.free + length (line c.next-w.result) ≤ length c.loop-written.out = let l = c.loop-written in
-    let s = c in
-    omega (arith, room-ahead s.args.t.now s.args.me l.written l.invariant.1 c.next-w.ensures s.args.n (omega arith), s.requires.1, l.invariant.2, l.invariant.4) in
+    omega (arith, room-ahead c.args.t.now c.args.me l.written l.invariant.1 c.next-w.ensures c.args.n (omega arith), c.requires.1, l.invariant.2, l.invariant.4) in
     omega (arith, room)
 
 pub slice_bounds-put_line-start : goal.slice_bounds-put_line-start
 slice_bounds-put_line-start c =
     let room : c.loop-written.free + length (line c.next-w.result) ≤ length c.loop-written.out = let l = c.loop-written in
-    let s = c in
-    omega (arith, room-ahead s.args.t.now s.args.me l.written l.invariant.1 c.next-w.ensures s.args.n (omega arith), s.requires.1, l.invariant.2, l.invariant.4) in
+    omega (arith, room-ahead c.args.t.now c.args.me l.written l.invariant.1 c.next-w.ensures c.args.n (omega arith), c.requires.1, l.invariant.2, l.invariant.4) in
     omega (arith, room)
 
 pub put_line-free-requires : goal.put_line-free-requires
 put_line-free-requires c =
     let room : c.loop-written.free + length (line c.next-w.result) ≤ length c.loop-written.out = let l = c.loop-written in
-    let s = c in
-    omega (arith, room-ahead s.args.t.now s.args.me l.written l.invariant.1 c.next-w.ensures s.args.n (omega arith), s.requires.1, l.invariant.2, l.invariant.4) in
+    omega (arith, room-ahead c.args.t.now c.args.me l.written l.invariant.1 c.next-w.ensures c.args.n (omega arith), c.requires.1, l.invariant.2, l.invariant.4) in
     let l = c.loop-written in
     let r = room in
     omega (arith, r, length-slice l.out l.free (length l.out - l.free) (omega (arith, r)))
@@ -47,15 +44,13 @@ put_line-free-requires c =
 pub overflow_add-free : goal.overflow_add-free
 overflow_add-free c =
     let room : c.loop-written.free + length (line c.next-w.result) ≤ length c.loop-written.out = let l = c.loop-written in
-    let s = c in
-    omega (arith, room-ahead s.args.t.now s.args.me l.written l.invariant.1 c.next-w.ensures s.args.n (omega arith), s.requires.1, l.invariant.2, l.invariant.4) in
+    omega (arith, room-ahead c.args.t.now c.args.me l.written l.invariant.1 c.next-w.ensures c.args.n (omega arith), c.requires.1, l.invariant.2, l.invariant.4) in
     omega (arith, room, c.put_line-free.ensures.1)
 
 pub loop-written-preserved : goal.loop-written-preserved
 loop-written-preserved c =
     let room : c.loop-written.free + length (line c.next-w.result) ≤ length c.loop-written.out = let l = c.loop-written in
-    let s = c in
-    omega (arith, room-ahead s.args.t.now s.args.me l.written l.invariant.1 c.next-w.ensures s.args.n (omega arith), s.requires.1, l.invariant.2, l.invariant.4) in
+    omega (arith, room-ahead c.args.t.now c.args.me l.written l.invariant.1 c.next-w.ensures c.args.n (omega arith), c.requires.1, l.invariant.2, l.invariant.4) in
     let l = c.loop-written in
     let a = c.args in
     let w = c.next-w in

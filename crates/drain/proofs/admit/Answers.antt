@@ -17,23 +17,22 @@ goes_on false allowed h = absurd (true≢false h)
 
 pub returns-then-refusal-allowed : goal.returns-then-refusal-allowed
 returns-then-refusal-allowed c =
-    let s = c in
     let e = c.room_refusal-refusal.ensures in
     record {
       refusal = e;
-      made = stops (fits (longer s.args.gap) s.args.n s.args.mail.now) s.args.allowed (rw (e) at c.if-refusal-allowed.true);
+      made = stops (fits (longer c.args.gap) c.args.n c.args.mail.now) c.args.allowed (rw (e) at c.if-refusal-allowed.true);
       stays = λ _. (refl, refl);
       placed = λ q. absurd (false≢true q);
     }
 
 pub make_places-places-requires : goal.make_places-places-requires
 make_places-places-requires c =
-    let passed : (fits (longer c.args.gap) c.args.n c.args.mail.now ≡ true) × (c.args.allowed ≡ true) = let s = c in goes_on (fits (longer s.args.gap) s.args.n s.args.mail.now) s.args.allowed (rw c.room_refusal-refusal.ensures at c.if-refusal-allowed.false) in
-    let s = c in (s.requires.0, s.requires.1, (passed).0)
+    let passed : (fits (longer c.args.gap) c.args.n c.args.mail.now ≡ true) × (c.args.allowed ≡ true) = goes_on (fits (longer c.args.gap) c.args.n c.args.mail.now) c.args.allowed (rw c.room_refusal-refusal.ensures at c.if-refusal-allowed.false) in
+    (c.requires.0, c.requires.1, (passed).0)
 
 pub returns : goal.returns
 returns c =
-    let passed : (fits (longer c.args.gap) c.args.n c.args.mail.now ≡ true) × (c.args.allowed ≡ true) = let s = c in goes_on (fits (longer s.args.gap) s.args.n s.args.mail.now) s.args.allowed (rw c.room_refusal-refusal.ensures at c.if-refusal-allowed.false) in
+    let passed : (fits (longer c.args.gap) c.args.n c.args.mail.now ≡ true) × (c.args.allowed ≡ true) = goes_on (fits (longer c.args.gap) c.args.n c.args.mail.now) c.args.allowed (rw c.room_refusal-refusal.ensures at c.if-refusal-allowed.false) in
     let p = passed in
     record {
       refusal = rw p.0 refl;

@@ -4,4 +4,4 @@ use Rattle.drain.proofs.Gaps.{none-spent}
 use Rattle.drain.proofs.close_gap.Goals as goal
 
 pub returns-then-gap : goal.returns-then-gap
-returns-then-gap c = let s = c in sym (none-spent s.args.gap s.args.mail.now c.if-gap.true s.requires.kept)
+returns-then-gap c = sym (none-spent c.args.gap c.args.mail.now c.if-gap.true c.requires.kept)

@@ -12,10 +12,9 @@ deliver_to_item-requires c = (c.requires, ap (λ (r : Route). r.item) c.route_of
 
 pub returns-then-route-eq-TO_ITEM : goal.returns-then-route-eq-TO_ITEM
 returns-then-route-eq-TO_ITEM c =
-    let s = c in
     let route = c.route_of-route.ensures in
     let to = sym (ap (λ (r : Route). r.direction) route) ∙ c.if-route-eq-TO_ITEM.true in
-    rw (due_acts s.args.gap s.args.table.now s.args.mail.now s.requires, eq-eqb (entry_at s.args.mail.now s.args.gap.to).direction to_item to)
+    rw (due_acts c.args.gap c.args.table.now c.args.mail.now c.requires, eq-eqb (entry_at c.args.mail.now c.args.gap.to).direction to_item to)
     (rw (ap (λ (r : Route). r.item) route) at c.deliver_to_item.ensures)
 
 pub deliver_to_session-requires : goal.deliver_to_session-requires
@@ -23,7 +22,6 @@ deliver_to_session-requires c = (c.requires, ap (λ (r : Route). r.session) c.ro
 
 pub returns : goal.returns
 returns c =
-    let s = c in
     let route = c.route_of-route.ensures in
-    rw (due_acts s.args.gap s.args.table.now s.args.mail.now s.requires, ne_eqb (entry_at s.args.mail.now s.args.gap.to).direction to_item (λ q. c.if-route-eq-TO_ITEM.false (ap (λ (r : Route). r.direction) route ∙ q)))
+    rw (due_acts c.args.gap c.args.table.now c.args.mail.now c.requires, ne_eqb (entry_at c.args.mail.now c.args.gap.to).direction to_item (λ q. c.if-route-eq-TO_ITEM.false (ap (λ (r : Route). r.direction) route ∙ q)))
     (rw (ap (λ (r : Route). r.session) route) at c.deliver_to_session.ensures)

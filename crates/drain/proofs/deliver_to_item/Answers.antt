@@ -13,28 +13,26 @@ use Rattle.drain.proofs.Oldest.{has-item, due_for-item, told_stopped, told-made}
 use Rattle.drain.proofs.deliver_to_item.Goals as goal
 
 pub item_receives-r-requires : goal.item_receives-r-requires
-item_receives-r-requires c = let s = c in rw s.requires.1 (due_for-item s.args.gap s.args.table.now s.args.mail.now s.requires.0)
+item_receives-r-requires c = rw c.requires.1 (due_for-item c.args.gap c.args.table.now c.args.mail.now c.requires.0)
 
 pub returns-then-not-d : goal.returns-then-not-d
 returns-then-not-d c =
     let Did : Item.After = item_receives (Table.senior c.args.table.now) (locks c.args.table.now (entry_at c.args.mail.now c.args.gap.to).item) (entry_at c.args.mail.now c.args.gap.to) in
     let received : c.item_receives-r.result ≡ Item.step_of (Did) = rw (← c.requires.1) c.item_receives-r.ensures.0 in
-    let s = c in
     let w = Did in
-    rw s.requires.1 (told_stopped s.args.gap s.args.table.now s.args.mail.now s.requires.0 (Table.with_item s.args.table.now (entry_at s.args.mail.now s.args.gap.to).item (packed w.lock)) (from_item (entry_at s.args.mail.now s.args.gap.to).item) w.sends w.event _ (ap (λ (r : ItemStep). r.outbox.n) (received)) s.args.allowed _ _ c.admit-d.ensures (not-true _ c.if-not-d.true))
+    rw c.requires.1 (told_stopped c.args.gap c.args.table.now c.args.mail.now c.requires.0 (Table.with_item c.args.table.now (entry_at c.args.mail.now c.args.gap.to).item (packed w.lock)) (from_item (entry_at c.args.mail.now c.args.gap.to).item) w.sends w.event _ (ap (λ (r : ItemStep). r.outbox.n) (received)) c.args.allowed _ _ c.admit-d.ensures (not-true _ c.if-not-d.true))
 
 pub post-requires : goal.post-requires
 post-requires c = let p = c.admit-d.ensures.placed (not-false _ c.if-not-d.false) in record { kept = p.spent.kept; few = c.item_receives-r.ensures.1; fits = p.free }
 
 pub put_item-requires : goal.put_item-requires
-put_item-requires c = let s = c in rw s.requires.1 (has-item s.args.gap s.args.table.now s.args.mail.now s.requires.0)
+put_item-requires c = rw c.requires.1 (has-item c.args.gap c.args.table.now c.args.mail.now c.requires.0)
 
 pub returns : goal.returns
 returns c =
     let Did : Item.After = item_receives (Table.senior c.args.table.now) (locks c.args.table.now (entry_at c.args.mail.now c.args.gap.to).item) (entry_at c.args.mail.now c.args.gap.to) in
     let received : c.item_receives-r.result ≡ Item.step_of (Did) = rw (← c.requires.1) c.item_receives-r.ensures.0 in
-    let s = c in
     let w = Did in
     let does = received in
-    rw (c.put_item.ensures, does, s.requires.1)
-    (told-made s.args.gap s.args.table.now s.args.mail.now s.requires.0 (Table.with_item s.args.table.now (entry_at s.args.mail.now s.args.gap.to).item (packed w.lock)) (from_item (entry_at s.args.mail.now s.args.gap.to).item) w.sends w.event _ (ap (λ (r : ItemStep). r.outbox.n) does) s.args.allowed _ _ c.admit-d.ensures (not-false _ c.if-not-d.false) (rw s.requires.1 at (c.post.ensures w.sends (ap (λ (r : ItemStep). r.outbox) does))))
+    rw (c.put_item.ensures, does, c.requires.1)
+    (told-made c.args.gap c.args.table.now c.args.mail.now c.requires.0 (Table.with_item c.args.table.now (entry_at c.args.mail.now c.args.gap.to).item (packed w.lock)) (from_item (entry_at c.args.mail.now c.args.gap.to).item) w.sends w.event _ (ap (λ (r : ItemStep). r.outbox.n) does) c.args.allowed _ _ c.admit-d.ensures (not-false _ c.if-not-d.false) (rw c.requires.1 at (c.post.ensures w.sends (ap (λ (r : ItemStep). r.outbox) does))))

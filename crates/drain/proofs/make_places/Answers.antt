@@ -13,35 +13,30 @@ use Rattle.drain.proofs.make_places.Goals as goal
 
 pub count-requires : goal.count-requires
 count-requires c =
-    let s = c in
-    omega (arith, kept-length s.args.mail.now s.requires.0.kept)
+    omega (arith, kept-length c.args.mail.now c.requires.0.kept)
 
 pub overflow_add-count : goal.overflow_add-count
 overflow_add-count c =
-    let s = c in
-    omega (arith, c.count.ensures, s.requires.0.kept.fits, s.requires.0.kept.high, s.requires.1)
+    omega (arith, c.count.ensures, c.requires.0.kept.fits, c.requires.0.kept.high, c.requires.1)
 
 pub capacity-requires : goal.capacity-requires
 capacity-requires c =
-    let s = c in
-    omega (arith, kept-length s.args.mail.now s.requires.0.kept)
+    omega (arith, kept-length c.args.mail.now c.requires.0.kept)
 
 pub returns-then-count-n : goal.returns-then-count-n
 returns-then-count-n c =
-    let s = c in
-    record { spent = s.requires.0; front = refl; capacity = refl; entries = refl; free = omega (arith, c.if-count-n.true, c.count.ensures, c.capacity.ensures) }
+    record { spent = c.requires.0; front = refl; capacity = refl; entries = refl; free = omega (arith, c.if-count-n.true, c.count.ensures, c.capacity.ensures) }
 
 pub returns : goal.returns
 returns c =
-    let s = c in
-    let m = s.args.mail.now in
-    let g = s.args.gap in
-    let l = left g m s.requires.0 in
+    let m = c.args.mail.now in
+    let g = c.args.gap in
+    let l = left g m c.requires.0 in
     rw c.cut.ensures
     (record {
-      spent = record { kept = l.kept; order = omega arith; inside = omega (arith, l.count, s.requires.0.order, s.requires.0.inside) };
+      spent = record { kept = l.kept; order = omega arith; inside = omega (arith, l.count, c.requires.0.order, c.requires.0.inside) };
       front = refl;
       capacity = l.capacity;
       entries = without-none g.from _ ∙ l.entries;
-      free = omega (arith, l.count, l.capacity, leb-true (length (in_use g m) + s.args.n) (capacity_of m) s.requires.2, length-left g m s.requires.0);
+      free = omega (arith, l.count, l.capacity, leb-true (length (in_use g m) + c.args.n) (capacity_of m) c.requires.2, length-left g m c.requires.0);
     })

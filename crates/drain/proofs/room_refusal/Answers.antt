@@ -11,19 +11,17 @@ use Rattle.drain.proofs.Gaps.{length-left}
 use Rattle.drain.proofs.room_refusal.Goals as goal
 
 pub count-requires : goal.count-requires
-count-requires c = let s = c in omega (arith, kept-length s.args.mail.now s.requires.0.kept)
+count-requires c = omega (arith, kept-length c.args.mail.now c.requires.0.kept)
 
 pub capacity-requires : goal.capacity-requires
-capacity-requires c = let s = c in omega (arith, kept-length s.args.mail.now s.requires.0.kept)
+capacity-requires c = omega (arith, kept-length c.args.mail.now c.requires.0.kept)
 
 pub returns-then-count-gap : goal.returns-then-count-gap
 returns-then-count-gap c =
-    let s = c in
-    let m = s.args.mail.now in
-    rw (le-leb (length (in_use s.args.gap m) + s.args.n) (capacity_of m) (omega (arith, c.if-count-gap.true, c.capacity.ensures, c.count.ensures, length-left s.args.gap m s.requires.0))) refl
+    let m = c.args.mail.now in
+    rw (le-leb (length (in_use c.args.gap m) + c.args.n) (capacity_of m) (omega (arith, c.if-count-gap.true, c.capacity.ensures, c.count.ensures, length-left c.args.gap m c.requires.0))) refl
 
 pub returns : goal.returns
 returns c =
-    let s = c in
-    let m = s.args.mail.now in
-    rw (lt-leb (length (in_use s.args.gap m) + s.args.n) (capacity_of m) (omega (arith, c.if-count-gap.false, c.capacity.ensures, c.count.ensures, length-left s.args.gap m s.requires.0))) refl
+    let m = c.args.mail.now in
+    rw (lt-leb (length (in_use c.args.gap m) + c.args.n) (capacity_of m) (omega (arith, c.if-count-gap.false, c.capacity.ensures, c.count.ensures, length-left c.args.gap m c.requires.0))) refl

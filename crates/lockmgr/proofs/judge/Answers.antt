@@ -29,8 +29,8 @@ returns-then-session-lt1 c =
 pub sessions-requires : goal.sessions-requires
 sessions-requires c =
     let unhindered : first (buffer_causes c.args.table.now c.args.mail.now) ≡ 0 = sym c.buffers_refusal-cause.ensures ∙ c.if-cause-ne0.false in
-    let head : header ≤ length c.args.table.now = let s = c in
-    TableLaws.header-fits s.args.table.now (buffers-zero s.args.table.now s.args.mail.now (unhindered)).records.sized in
+    let head : header ≤ length c.args.table.now =
+    TableLaws.header-fits c.args.table.now (buffers-zero c.args.table.now c.args.mail.now (unhindered)).records.sized in
     head
 
 pub returns-then-sessions-session : goal.returns-then-sessions-session
@@ -46,8 +46,8 @@ returns-then-item-lt1 c =
 pub items-requires : goal.items-requires
 items-requires c =
     let unhindered : first (buffer_causes c.args.table.now c.args.mail.now) ≡ 0 = sym c.buffers_refusal-cause.ensures ∙ c.if-cause-ne0.false in
-    let head : header ≤ length c.args.table.now = let s = c in
-    TableLaws.header-fits s.args.table.now (buffers-zero s.args.table.now s.args.mail.now (unhindered)).records.sized in
+    let head : header ≤ length c.args.table.now =
+    TableLaws.header-fits c.args.table.now (buffers-zero c.args.table.now c.args.mail.now (unhindered)).records.sized in
     head
 
 pub returns-then-items-item : goal.returns-then-items-item

@@ -27,6 +27,5 @@ describe-requires c =
 pub returns : goal.returns
 returns c =
     let admitted : report_refusal c.args.session c.args.table.now ≡ 0 = sym c.report_refusal-cause.ensures ∙ c.if-cause-ne0.false in
-    let e = c in
     let a = c.args in
     c.describe.ensures ∙ sym (text-judged a.session a.table.now a.text.now (admitted))

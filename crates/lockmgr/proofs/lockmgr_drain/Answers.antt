@@ -7,11 +7,10 @@ use Rattle.lockmgr.proofs.lockmgr_drain.Goals as goal
 
 pub returns-then-cause-ne0 : goal.returns-then-cause-ne0
 returns-then-cause-ne0 c =
-    let s = c in
     let e = c.buffers_refusal-cause.ensures in
     rw c.refused.ensures
-    (ap (λ (n : ℕ). drain_result (drain_answer n 0 0) s.args.table.now s.args.mail.now) e
-    ∙ sym (drain-refused s.args.limit s.args.table.now s.args.mail.now (λ z. c.if-cause-ne0.true (e ∙ z))))
+    (ap (λ (n : ℕ). drain_result (drain_answer n 0 0) c.args.table.now c.args.mail.now) e
+    ∙ sym (drain-refused c.args.limit c.args.table.now c.args.mail.now (λ z. c.if-cause-ne0.true (e ∙ z))))
 
 pub deliver_all-requires : goal.deliver_all-requires
 deliver_all-requires c = sym c.buffers_refusal-cause.ensures ∙ c.if-cause-ne0.false

@@ -42,8 +42,6 @@ reopen-requires c =
 pub returns : goal.returns
 returns c =
     let judged : first (buffer_causes c.args.table.now c.args.mail.now) ≡ 0 = sym c.buffers_refusal-cause.ensures ∙ c.if-cause-ne0.false in
-    let e = c in
-    let d = e in
     let a = c.args in
     c.reopen.ensures
-    ∙ sym (reopen-judged a.session a.table.now a.mail.now (judged) (omega arith) (omega (arith, e.sessions.ensures)))
+    ∙ sym (reopen-judged a.session a.table.now a.mail.now (judged) (omega arith) (omega (arith, c.sessions.ensures)))

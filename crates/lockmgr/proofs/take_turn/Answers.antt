@@ -13,26 +13,24 @@ use Rattle.lockmgr.proofs.Draining.{turn-empty, turn-full, turn-made, turn-judge
 use Rattle.lockmgr.proofs.take_turn.Goals as goal
 
 pub count-requires : goal.count-requires
-count-requires c = let s = c in omega (arith, kept-length s.args.mail.now s.requires.1.kept)
+count-requires c = omega (arith, kept-length c.args.mail.now c.requires.1.kept)
 
 pub returns-then-count-gap : goal.returns-then-count-gap
 returns-then-count-gap c =
-    let s = c in
-    let l = left s.args.gap s.args.mail.now s.requires.1 in
-    (s.requires.0, s.requires.1, turn-empty s.args.limit s.args.made s.args.table.now (closed_up s.args.gap s.args.mail.now) (omega (arith, l.count, c.if-count-gap.true, c.count.ensures, s.requires.0)))
+    let l = left c.args.gap c.args.mail.now c.requires.1 in
+    (c.requires.0, c.requires.1, turn-empty c.args.limit c.args.made c.args.table.now (closed_up c.args.gap c.args.mail.now) (omega (arith, l.count, c.if-count-gap.true, c.count.ensures, c.requires.0)))
 
 pub deliver-d-requires : goal.deliver-d-requires
 deliver-d-requires c =
     let behind : c.args.gap.to < count_of c.args.mail.now = omega (arith, c.if-count-gap.false, c.count.ensures) in
-    let s = c in oldest_due s.args.gap s.args.table.now s.args.mail.now s.requires.0 s.requires.1 (behind) s.requires.2
+    oldest_due c.args.gap c.args.table.now c.args.mail.now c.requires.0 c.requires.1 (behind) c.requires.2
 
 pub returns-then-d-ne0 : goal.returns-then-d-ne0
 returns-then-d-ne0 c =
     let behind : c.args.gap.to < count_of c.args.mail.now = omega (arith, c.if-count-gap.false, c.count.ensures) in
-    let some : c.args.gap.from < count_of (closed_up c.args.gap c.args.mail.now) = let s = c in some_left s.args.gap s.args.mail.now s.requires.1 (behind) in
-    let s = c in
+    let some : c.args.gap.from < count_of (closed_up c.args.gap c.args.mail.now) = some_left c.args.gap c.args.mail.now c.requires.1 (behind) in
     let d = c.deliver-d.ensures in
-    (d.1 ∙ s.requires.0, d.0, turn-full s.args.table.now (closed_up s.args.gap s.args.mail.now) s.requires.2 s.args.gap.from s.requires.0 (some) s.args.limit s.args.made _ _ _ (ltb s.args.made s.args.limit) d.2 c.if-d-ne0.true)
+    (d.1 ∙ c.requires.0, d.0, turn-full c.args.table.now (closed_up c.args.gap c.args.mail.now) c.requires.2 c.args.gap.from c.requires.0 (some) c.args.limit c.args.made _ _ _ (ltb c.args.made c.args.limit) d.2 c.if-d-ne0.true)
 
 pub overflow_add-result : goal.overflow_add-result
 overflow_add-result c = omega arith
@@ -40,15 +38,13 @@ overflow_add-result c = omega arith
 pub returns-then-allowed : goal.returns-then-allowed
 returns-then-allowed c =
     let behind : c.args.gap.to < count_of c.args.mail.now = omega (arith, c.if-count-gap.false, c.count.ensures) in
-    let some : c.args.gap.from < count_of (closed_up c.args.gap c.args.mail.now) = let s = c in some_left s.args.gap s.args.mail.now s.requires.1 (behind) in
-    let s = c in
+    let some : c.args.gap.from < count_of (closed_up c.args.gap c.args.mail.now) = some_left c.args.gap c.args.mail.now c.requires.1 (behind) in
     let d = c.deliver-d.ensures in
-    (d.1 ∙ s.requires.0, d.0, turn-made s.args.table.now (closed_up s.args.gap s.args.mail.now) s.requires.2 s.args.gap.from s.requires.0 (some) s.args.limit s.args.made _ _ _ (rw (lt-ltb s.args.made s.args.limit c.if-allowed.true) at d.2) c.if-d-ne0.false (lt-ltb s.args.made s.args.limit c.if-allowed.true))
+    (d.1 ∙ c.requires.0, d.0, turn-made c.args.table.now (closed_up c.args.gap c.args.mail.now) c.requires.2 c.args.gap.from c.requires.0 (some) c.args.limit c.args.made _ _ _ (rw (lt-ltb c.args.made c.args.limit c.if-allowed.true) at d.2) c.if-d-ne0.false (lt-ltb c.args.made c.args.limit c.if-allowed.true))
 
 pub returns : goal.returns
 returns c =
     let behind : c.args.gap.to < count_of c.args.mail.now = omega (arith, c.if-count-gap.false, c.count.ensures) in
-    let some : c.args.gap.from < count_of (closed_up c.args.gap c.args.mail.now) = let s = c in some_left s.args.gap s.args.mail.now s.requires.1 (behind) in
-    let s = c in
+    let some : c.args.gap.from < count_of (closed_up c.args.gap c.args.mail.now) = some_left c.args.gap c.args.mail.now c.requires.1 (behind) in
     let d = c.deliver-d.ensures in
-    (d.1 ∙ s.requires.0, d.0, turn-judged s.args.table.now (closed_up s.args.gap s.args.mail.now) s.requires.2 s.args.gap.from s.requires.0 (some) s.args.limit s.args.made _ _ _ (rw (le-ltb s.args.made s.args.limit c.if-allowed.false) at d.2) c.if-d-ne0.false (le-ltb s.args.made s.args.limit c.if-allowed.false))
+    (d.1 ∙ c.requires.0, d.0, turn-judged c.args.table.now (closed_up c.args.gap c.args.mail.now) c.requires.2 c.args.gap.from c.requires.0 (some) c.args.limit c.args.made _ _ _ (rw (le-ltb c.args.made c.args.limit c.if-allowed.false) at d.2) c.if-d-ne0.false (le-ltb c.args.made c.args.limit c.if-allowed.false))

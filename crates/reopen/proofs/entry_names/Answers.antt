@@ -25,4 +25,4 @@ unasked t low e p = go (Kind.carries e.kind) refl
         rw (zero-differs t low e.a z.0, zero-differs t low e.b z.1) (or-false (eqb e.session t || false))
 
 pub returns : goal.returns
-returns c = λ e p q. let s = c in rw (q) (unasked s.args.t s.requires e p)
+returns c = λ e p q. rw (q) (unasked c.args.t c.requires e p)

@@ -44,13 +44,12 @@ returns-then-not-no_item_names c =
 
 pub no_entry_names-requires : goal.no_entry_names-requires
 no_entry_names-requires c =
-    let s = c in
-    let S = Table.sessions_of s.args.table.now in
-    let M = Table.items_of s.args.table.now in
-    let m = s.args.mail.now in
-    let f = s.requires.0 in
+    let S = Table.sessions_of c.args.table.now in
+    let M = Table.items_of c.args.table.now in
+    let m = c.args.mail.now in
+    let f = c.requires.0 in
     record {
-      low = s.requires.1.low;
+      low = c.requires.1.low;
       kept = formed-kept S M m f.mail-sized f.mail-formed (λ i h. omega (arith, c.shared_slice_known-2-1.given i));
       plain = λ k h. (entry-facts S M (entry_at m k) (formed-entry S M m f.mail-formed k h)).plain;
     }

@@ -31,18 +31,18 @@ entry_names-requires c = c.requires.low
 
 pub returns-then-entry_names : goal.returns-then-entry_names
 returns-then-entry_names c =
-    let here : (let a = c.args in c.entry_names.result ≡ entry_names a.t (entry_at a.mail.now c.loop-k.k)) = let s = c in
+    let here : (let a = c.args in c.entry_names.result ≡ entry_names a.t (entry_at a.mail.now c.loop-k.k)) =
     let k = c.loop-k.k in
-    c.entry_names.ensures (entry_at s.args.mail.now k) (s.requires.plain k (omega arith)) c.message_to_item.ensures in
+    c.entry_names.ensures (entry_at c.args.mail.now k) (c.requires.plain k (omega arith)) c.message_to_item.ensures in
     let a = c.args in
     let l = c.loop-k in
     sym (no-entry a.t a.mail.now ∙ below_false (count_of a.mail.now) l.k (unnamed a.t a.mail.now) (omega arith) (ap not (sym (here) ∙ c.if-entry_names.true)))
 
 pub loop-k-preserved : goal.loop-k-preserved
 loop-k-preserved c =
-    let here : (let a = c.args in c.entry_names.result ≡ entry_names a.t (entry_at a.mail.now c.loop-k.k)) = let s = c in
+    let here : (let a = c.args in c.entry_names.result ≡ entry_names a.t (entry_at a.mail.now c.loop-k.k)) =
     let k = c.loop-k.k in
-    c.entry_names.ensures (entry_at s.args.mail.now k) (s.requires.plain k (omega arith)) c.message_to_item.ensures in
+    c.entry_names.ensures (entry_at c.args.mail.now k) (c.requires.plain k (omega arith)) c.message_to_item.ensures in
     let v = c.loop-k.invariant in (v.0, omega arith, rw (below_more, v.2, ← here, c.if-entry_names.false) refl)
 
 pub returns : goal.returns

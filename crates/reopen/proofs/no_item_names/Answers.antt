@@ -21,16 +21,14 @@ loop-x-init c = (c.items-n.ensures, omega arith, refl)
 
 pub overflow_add-x : goal.overflow_add-x
 overflow_add-x c =
-    let s = c in
-    omega (arith, (sized-facts s.args.table.now s.requires.1.sized).max-items)
+    omega (arith, (sized-facts c.args.table.now c.requires.1.sized).max-items)
 
 pub item-requires : goal.item-requires
 item-requires c = record { sized = c.requires.1.sized; low = omega arith; high = omega arith }
 
 pub item_names-requires : goal.item_names-requires
 item_names-requires c =
-    let s = c in
-    (s.requires.0, rw c.item.ensures (packed-item s.args.table.now s.requires.1.sized s.requires.1.formed (c.loop-x.x + 1) (omega arith) (omega arith)))
+    (c.requires.0, rw c.item.ensures (packed-item c.args.table.now c.requires.1.sized c.requires.1.formed (c.loop-x.x + 1) (omega arith) (omega arith)))
 
 pub returns-then-item_names : goal.returns-then-item_names
 unfolding no_item_names

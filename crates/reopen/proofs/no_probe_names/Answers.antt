@@ -21,8 +21,7 @@ loop-k-init c = (c.sessions-n.ensures, omega arith, refl)
 
 pub overflow_add-k : goal.overflow_add-k
 overflow_add-k c =
-    let s = c in
-    omega (arith, (sized-facts s.args.table.now s.requires.1.sized).max-sessions)
+    omega (arith, (sized-facts c.args.table.now c.requires.1.sized).max-sessions)
 
 pub session-requires : goal.session-requires
 session-requires c = record { sized = c.requires.1.sized; low = omega arith; high = omega arith }

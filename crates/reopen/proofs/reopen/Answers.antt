@@ -21,6 +21,5 @@ put_session-requires c = c.requires.1
 pub returns : goal.returns
 unfolding first
 returns c =
-    let d = c in
-    let may = sym d.may_reopen.ensures ∙ d.if-not-may_reopen.false in
+    let may = sym c.may_reopen.ensures ∙ c.if-not-may_reopen.false in
     rw (may, c.put_session.ensures) refl

@@ -16,12 +16,10 @@ pub loop-i-preserved : goal.loop-i-preserved
 loop-i-preserved c =
     let whole : length c.args.row ≡ max_sessions = c.well_formed.0.1.0.1 in
     let l = c.loop-i in
-    let s = c in
-    (omega arith, rw l.invariant.1 (sym (member-more s.args.t s.args.row l.i (omega (arith, whole)))))
+    (omega arith, rw l.invariant.1 (sym (member-more c.args.t c.args.row l.i (omega (arith, whole)))))
 
 pub returns : goal.returns
 returns c =
     let whole : length c.args.row ≡ max_sessions = c.well_formed.0.1.0.1 in
-    let s = c in
     let all : c.loop-i.i ≡ max_sessions = omega arith in
-    rw (all, take_all max_sessions s.args.row (omega (arith, whole))) at c.loop-i.invariant.1
+    rw (all, take_all max_sessions c.args.row (omega (arith, whole))) at c.loop-i.invariant.1

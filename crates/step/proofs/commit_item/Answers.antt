@@ -10,21 +10,18 @@ use Rattle.step.proofs.commit_item.Goals as goal
 
 pub post-requires : goal.post-requires
 post-requires c =
-    let s = c in
-    has_room s.args.mail.now s.args.k _ c.make_room.ensures s.requires.3 c.if-not-make_room.false _ refl s.requires.4
+    has_room c.args.mail.now c.args.k _ c.make_room.ensures c.requires.3 c.if-not-make_room.false _ refl c.requires.4
 
 pub answer_of-requires : goal.answer_of-requires
 answer_of-requires c =
     let queue-whole : length c.args.r.item.queue ≡ 64 = omega arith in
-    let s = c in
-    let t = s.args.table.now in
-    let p = s.requires in
-    let i = s.args.r.item in
+    let t = c.args.table.now in
+    let p = c.requires in
+    let i = c.args.r.item in
     let put = c.put_item.ensures in
-    (record { sized = rw (put) (sized-with_item t p.1.sized s.args.x p.1.low p.1.high i (queue-whole)); formed = rw (put) p.2 }, p.0.low, rw (put, sessions_of-with_item t p.1.sized s.args.x p.1.low p.1.high i (queue-whole)) p.0.high)
+    (record { sized = rw (put) (sized-with_item t p.1.sized c.args.x p.1.low p.1.high i (queue-whole)); formed = rw (put) p.2 }, p.0.low, rw (put, sessions_of-with_item t p.1.sized c.args.x p.1.low p.1.high i (queue-whole)) p.0.high)
 
 pub returns : goal.returns
 returns c w e =
-    let s = c in
-    let p = room-filled s.args.mail.now s.args.k _ c.make_room.ensures s.requires.3 c.if-not-make_room.false (from_item s.args.x) w.sends (ap (λ (r : ItemStep). r.outbox.n) e) (c.post.ensures w.sends (ap (λ (r : ItemStep). r.outbox) e)) in
+    let p = room-filled c.args.mail.now c.args.k _ c.make_room.ensures c.requires.3 c.if-not-make_room.false (from_item c.args.x) w.sends (ap (λ (r : ItemStep). r.outbox.n) e) (c.post.ensures w.sends (ap (λ (r : ItemStep). r.outbox) e)) in
     rw (c.answer_of.ensures, c.put_item.ensures, p.0, p.1, e) refl

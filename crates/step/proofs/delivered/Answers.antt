@@ -8,8 +8,7 @@ use Rattle.step.proofs.delivered.Goals as goal
 
 pub count-requires : goal.count-requires
 count-requires c =
-    let s = c in
-    omega (arith, kept-length s.args.mail.now s.requires)
+    omega (arith, kept-length c.args.mail.now c.requires)
 
 pub returns-in-3 : goal.returns-in-3
 unfolding delivered

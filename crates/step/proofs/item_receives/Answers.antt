@@ -19,7 +19,6 @@ receive-requires c = rw c.item.ensures c.requires.packed
 pub returns : goal.returns
 unfolding locks
 returns c =
-    let s = c in
-    let e = entry_at s.args.mail.now s.args.k in
-    let does : c.receive.result ≡ Item.step_of (item_receives (senior s.args.table.now) (locks s.args.table.now s.args.x) e) = c.receive.ensures ∙ rw (c.item.ensures, c.ranks.ensures, c.message_to_item.ensures) refl in
-    (does, omega (arith, ap (λ (r : ItemStep). r.outbox.n) does, item-sends-few (senior s.args.table.now) s.args.x s.args.table.now e s.requires.packed))
+    let e = entry_at c.args.mail.now c.args.k in
+    let does : c.receive.result ≡ Item.step_of (item_receives (senior c.args.table.now) (locks c.args.table.now c.args.x) e) = c.receive.ensures ∙ rw (c.item.ensures, c.ranks.ensures, c.message_to_item.ensures) refl in
+    (does, omega (arith, ap (λ (r : ItemStep). r.outbox.n) does, item-sends-few (senior c.args.table.now) c.args.x c.args.table.now e c.requires.packed))

@@ -8,19 +8,16 @@ use Rattle.step.proofs.left.Goals as goal
 
 pub count-count-requires : goal.count-count-requires
 count-count-requires c =
-    let s = c in
-    omega (arith, kept-length s.args.mail.now s.requires)
+    omega (arith, kept-length c.args.mail.now c.requires)
 
 pub returns-then-k-count : goal.returns-then-k-count
 returns-then-k-count c =
-    let s = c in
-    let m = s.args.mail.now in
+    let m = c.args.mail.now in
     let n = length-entries m in
-    omega (arith, c.count-count.ensures, remove_at-length s.args.k (entries_of m) (omega (arith, c.count-count.ensures)))
+    omega (arith, c.count-count.ensures, remove_at-length c.args.k (entries_of m) (omega (arith, c.count-count.ensures)))
 
 pub returns-else-k-count : goal.returns-else-k-count
 returns-else-k-count c =
-    let s = c in
-    let m = s.args.mail.now in
+    let m = c.args.mail.now in
     let n = length-entries m in
-    rw (remove_at-past s.args.k (entries_of m) (omega (arith, c.count-count.ensures))) (c.count-count.ensures ∙ sym n)
+    rw (remove_at-past c.args.k (entries_of m) (omega (arith, c.count-count.ensures))) (c.count-count.ensures ∙ sym n)

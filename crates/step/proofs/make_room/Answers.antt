@@ -12,23 +12,19 @@ use Rattle.step.proofs.make_room.Goals as goal
 
 pub capacity-requires : goal.capacity-requires
 capacity-requires c =
-    let s = c in
-    omega (arith, MailLaws.kept-length s.args.mail.now s.requires.0)
+    omega (arith, MailLaws.kept-length c.args.mail.now c.requires.0)
 
 pub overflow_add-left : goal.overflow_add-left
 overflow_add-left c =
-    let s = c in
-    let m = s.args.mail.now in
-    omega (arith, c.left.ensures, remove_at_le s.args.k (entries_of m), MailLaws.length-entries m, s.requires.0.fits, s.requires.0.high, s.requires.1)
+    let m = c.args.mail.now in
+    omega (arith, c.left.ensures, remove_at_le c.args.k (entries_of m), MailLaws.length-entries m, c.requires.0.fits, c.requires.0.high, c.requires.1)
 
 pub returns-then-capacity-left : goal.returns-then-capacity-left
 returns-then-capacity-left c =
-    let s = c in
-    let m = s.args.mail.now in
-    rw (lt-ltb (capacity_of m) (length (remove_at s.args.k (entries_of m)) + s.args.n) (omega (arith, c.if-capacity-left.true, c.capacity.ensures, c.left.ensures))) refl
+    let m = c.args.mail.now in
+    rw (lt-ltb (capacity_of m) (length (remove_at c.args.k (entries_of m)) + c.args.n) (omega (arith, c.if-capacity-left.true, c.capacity.ensures, c.left.ensures))) refl
 
 pub returns : goal.returns
 returns c =
-    let s = c in
-    let m = s.args.mail.now in
-    rw (le-ltb (capacity_of m) (length (remove_at s.args.k (entries_of m)) + s.args.n) (omega (arith, c.if-capacity-left.false, c.capacity.ensures, c.left.ensures)), c.take.ensures) refl
+    let m = c.args.mail.now in
+    rw (le-ltb (capacity_of m) (length (remove_at c.args.k (entries_of m)) + c.args.n) (omega (arith, c.if-capacity-left.false, c.capacity.ensures, c.left.ensures)), c.take.ensures) refl

@@ -11,15 +11,13 @@ use Rattle.step.proofs.session_acts.Goals as goal
 
 pub release-requires : goal.release-requires
 release-requires c =
-    let s = c in
-    (s.requires.judged.item-low, item-max s.args.t s.args.x s.args.table.now s.args.mail.now s.requires.judged)
+    (c.requires.judged.item-low, item-max c.args.t c.args.x c.args.table.now c.args.mail.now c.requires.judged)
 
 pub session_receives-requires : goal.session_receives-requires
 session_receives-requires c =
     let inside : c.args.k < count_of c.args.mail.now = c.requires.found (λ e. omega arith) (λ e. omega arith) in
-    let s = c in
-    let kept = mail-kept s.args.t s.args.x s.args.table.now s.args.mail.now s.requires.judged (λ i h. omega (arith, c.type_inv.mail i)) in
-    for-session s.args.t s.args.x s.args.table.now s.args.mail.now s.requires.judged s.args.k (record { kept = kept; inside = inside })
+    let kept = mail-kept c.args.t c.args.x c.args.table.now c.args.mail.now c.requires.judged (λ i h. omega (arith, c.type_inv.mail i)) in
+    for-session c.args.t c.args.x c.args.table.now c.args.mail.now c.requires.judged c.args.k (record { kept = kept; inside = inside })
 
 pub returns-in-1 : goal.returns-in-1
 unfolding session_acts
@@ -33,5 +31,4 @@ pub returns-in_default : goal.returns-in_default
 unfolding session_acts
 returns-in_default c =
     let inside : c.args.k < count_of c.args.mail.now = c.requires.found (λ e. omega arith) (λ e. omega arith) in
-    let s = c in
-    c.session_receives.ensures.0 ∙ rw (ne_eqb c.args.verb 1 (λ e. omega arith), ne_eqb c.args.verb 2 (λ e. omega arith), get_d_entries s.args.mail.now s.args.k (inside)) refl
+    c.session_receives.ensures.0 ∙ rw (ne_eqb c.args.verb 1 (λ e. omega arith), ne_eqb c.args.verb 2 (λ e. omega arith), get_d_entries c.args.mail.now c.args.k (inside)) refl

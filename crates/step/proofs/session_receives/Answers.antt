@@ -18,9 +18,8 @@ receive-requires c = rw c.message_to_session.ensures c.requires.deliverable
 
 pub returns : goal.returns
 returns c =
-    let s = c in
-    let h = s.requires.session in
-    let e = entry_at s.args.mail.now s.args.k in
-    let does : c.receive.result ≡ Session.step_of (session_receives (senior s.args.table.now) s.args.t (session s.args.table.now s.args.t) e) = c.receive.ensures ∙ rw (c.session.ensures, c.ranks.ensures, c.message_to_session.ensures) refl in
-    let few = session-sends-few (senior s.args.table.now) s.args.t (session s.args.table.now s.args.t) (juniors-length s.args.table.now h.sized s.args.t h.low h.high) e in
+    let h = c.requires.session in
+    let e = entry_at c.args.mail.now c.args.k in
+    let does : c.receive.result ≡ Session.step_of (session_receives (senior c.args.table.now) c.args.t (session c.args.table.now c.args.t) e) = c.receive.ensures ∙ rw (c.session.ensures, c.ranks.ensures, c.message_to_session.ensures) refl in
+    let few = session-sends-few (senior c.args.table.now) c.args.t (session c.args.table.now c.args.t) (juniors-length c.args.table.now h.sized c.args.t h.low h.high) e in
     (does, omega (arith, ap (λ (r : SessionStep). r.outbox.n) does, few))

@@ -8,14 +8,12 @@ use Rattle.step.proofs.take.Goals as goal
 
 pub count-requires : goal.count-requires
 count-requires c =
-    let s = c in
-    omega (arith, kept-length s.args.mail.now s.requires)
+    omega (arith, kept-length c.args.mail.now c.requires)
 
 pub returns-then-count-k : goal.returns-then-count-k
 returns-then-count-k c =
-    let s = c in
-    let m = s.args.mail.now in
-    s.requires.bytes ∙ ap (mail_bytes (capacity_of m)) (sym (remove_at-past s.args.k (entries_of m) (omega (arith, c.count.ensures, length-entries m))))
+    let m = c.args.mail.now in
+    c.requires.bytes ∙ ap (mail_bytes (capacity_of m)) (sym (remove_at-past c.args.k (entries_of m) (omega (arith, c.count.ensures, length-entries m))))
 
 pub remove-requires : goal.remove-requires
 remove-requires c = record { kept = c.requires; inside = omega (arith, c.count.ensures) }

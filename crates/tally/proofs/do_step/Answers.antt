@@ -4,13 +4,11 @@ use Rattle.tally.proofs.do_step.Goals as goal
 
 pub stage-after-requires : goal.stage-after-requires
 stage-after-requires c =
-    let d = c in
     let a = c.args in
-    (formed-after a.c a.table.now a.mail.now c.requires d.lockmgr_step-answer.ensures).records.sized
+    (formed-after a.c a.table.now a.mail.now c.requires c.lockmgr_step-answer.ensures).records.sized
 
 pub returns : goal.returns
 returns c =
-    let d = c in
     let a = c.args in
-    counts_step a.c a.table.now a.mail.now c.requires d.lockmgr_step-answer.ensures d.stage-before.ensures
+    counts_step a.c a.table.now a.mail.now c.requires c.lockmgr_step-answer.ensures c.stage-before.ensures
     c.stage-after.ensures c.rolls_back.ensures

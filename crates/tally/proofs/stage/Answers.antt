@@ -12,7 +12,7 @@ pub returns-then-session-lt1 : goal.returns-then-session-lt1
 returns-then-session-lt1 c = let a = c.args in rw (lt-leb 1 a.session c.if-session-lt1.true) refl
 
 pub sessions-requires : goal.sessions-requires
-sessions-requires c = let s = c in header-fits s.args.table.now s.requires
+sessions-requires c = header-fits c.args.table.now c.requires
 
 pub returns-then-sessions-session : goal.returns-then-sessions-session
 returns-then-sessions-session c =

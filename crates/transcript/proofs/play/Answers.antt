@@ -30,39 +30,36 @@ get16-n-requires c =
 
 pub loop-k-init : goal.loop-k-init
 loop-k-init c =
-    let s = c in
-    let a = s.args in
+    let a = c.args in
     let o = c.begin in
-    (refl, refl, none_done a.input.now s.requires.0 a.out.now a.table.now a.mail.now s.requires.1 s.requires.2 o.ensures)
+    (refl, refl, none_done a.input.now c.requires.0 a.out.now a.table.now a.mail.now c.requires.1 c.requires.2 o.ensures)
 
 pub read_step-c-requires : goal.read_step-c-requires
 read_step-c-requires c =
     let input : Known c.args.input.now = known c.args.input.now c.requires.0 in
     let steps : c.get16-n.result ≡ count_in c.args.input.now = c.get16-n.ensures in
-    let g = c in let i = input in (steps, omega (arith, steps), omega arith)
+    let i = input in (steps, omega (arith, steps), omega arith)
 
 pub tallied_step-d-requires : goal.tallied_step-d-requires
 tallied_step-d-requires c =
     let input : Known c.args.input.now = known c.args.input.now c.requires.0 in
-    let l = c in
     let i = input in
-    let p = l.loop-k.invariant.2 in
+    let p = c.loop-k.invariant.2 in
     (p.formed, record { closed-fits = omega arith; declared-fits = omega arith; rolled-fits = omega arith })
 
 pub overflow_add-k : goal.overflow_add-k
 overflow_add-k c =
     let input : Known c.args.input.now = known c.args.input.now c.requires.0 in
     let steps : c.get16-n.result ≡ count_in c.args.input.now = c.get16-n.ensures in
-    let l = c in let i = input in omega (arith, steps)
+    let i = input in omega (arith, steps)
 
 pub put_step-at-requires : goal.put_step-at-requires
 put_step-at-requires c =
     let input : Known c.args.input.now = known c.args.input.now c.requires.0 in
     let steps : c.get16-n.result ≡ count_in c.args.input.now = c.get16-n.ensures in
     let room : c.loop-k.at + longest_line ≤ length c.loop-k.out = let p = c.loop-k.invariant.2 in let i = input in omega (arith, c.requires.3) in
-    let l = c in
     let i = input in
-    let p = l.loop-k.invariant.2 in
+    let p = c.loop-k.invariant.2 in
     (omega (arith, steps), room)
 
 pub loop-k-preserved : goal.loop-k-preserved
@@ -70,12 +67,10 @@ loop-k-preserved c =
     let steps : c.get16-n.result ≡ count_in c.args.input.now = c.get16-n.ensures in
     let input : Known c.args.input.now = known c.args.input.now c.requires.0 in
     let room : c.loop-k.at + longest_line ≤ length c.loop-k.out = let p = c.loop-k.invariant.2 in let i = input in omega (arith, c.requires.3) in
-    let r = c in
-    let h = r in
-    let l = h.loop-k in
+    let l = c.loop-k in
     let d = c.tallied_step-d in
     let w = c.put_step-at in
-    let less : l.k < count_in c.args.input.now = omega (arith, r.loop-k-test.true, steps) in (
+    let less : l.k < count_in c.args.input.now = omega (arith, c.loop-k-test.true, steps) in (
       d.auto.table ∙ l.invariant.0,
       d.auto.mail ∙ l.invariant.1,
       next l.invariant.2 less c.read_step-c.result c.read_step-c.ensures d.ensures.did d.ensures.tally (room) w.ensures.0 w.ensures.1 w.ensures.2 w.auto.out,
@@ -88,16 +83,15 @@ pub put_end-requires : goal.put_end-requires
 put_end-requires c =
     let input : Known c.args.input.now = known c.args.input.now c.requires.0 in
     let room : c.loop-k.at + longest_line ≤ length c.loop-k.out = let p = c.loop-k.invariant.2 in let i = input in omega (arith, c.requires.3) in
-    let l = c in
     let i = input in
-    let p = l.loop-k.invariant.2 in
+    let p = c.loop-k.invariant.2 in
     (omega (arith, c.count.ensures, (left-few p.formed).1), omega arith, omega arith, omega arith, room)
 
 pub shape_of-table : goal.shape_of-table
-shape_of-table c = let l = c in l.loop-k.invariant.0 ∙ l.begin.auto.table
+shape_of-table c = c.loop-k.invariant.0 ∙ c.begin.auto.table
 
 pub shape_of-mail : goal.shape_of-mail
-shape_of-mail c = let l = c in l.loop-k.invariant.1 ∙ l.begin.auto.mail
+shape_of-mail c = c.loop-k.invariant.1 ∙ c.begin.auto.mail
 
 pub shape_of-out : goal.shape_of-out
 shape_of-out c = c.put_end.auto.out ∙ c.loop-k.invariant.2.same
@@ -107,9 +101,8 @@ returns c =
     let input : Known c.args.input.now = known c.args.input.now c.requires.0 in
     let steps : c.get16-n.result ≡ count_in c.args.input.now = c.get16-n.ensures in
     let room : c.loop-k.at + longest_line ≤ length c.loop-k.out = let p = c.loop-k.invariant.2 in let i = input in omega (arith, c.requires.3) in
-    let l = c in
     let i = input in
-    let p = l.loop-k.invariant.2 in
+    let p = c.loop-k.invariant.2 in
     let w = c.put_end in
     let left = c.count.ensures in
     let all = finished p (omega (arith, c.loop-k-test.false, steps)) (room) (rw (left) at w.ensures.0) (rw (left) at w.ensures.1) in

@@ -11,23 +11,21 @@ use Rattle.transcript.proofs.put_end.Goals as goal
 
 pub end_line-requires : goal.end_line-requires
 end_line-requires c =
-    let s = c in
-    let a = s.args in
+    let a = c.args in
     let p = c.put_bytes-next in
-    let short = end_short a.left (tally_of a.t) s.requires.0 s.requires.1 s.requires.2 s.requires.3 in
+    let short = end_short a.left (tally_of a.t) c.requires.0 c.requires.1 c.requires.2 c.requires.3 in
     omega (arith, p.ensures.1, p.auto.t)
 
 pub returns : goal.returns
 unfolding end_line ascii
 returns c =
-    let s = c in
-    let a = s.args in
+    let a = c.args in
     let p = c.put_bytes-next in
     let e = c.end_line in
     let y = tally_of a.t in
     let l = a.left ∷ y.closed ∷ y.declared ∷ y.rolled_back ∷ [] in
     let len = length-append (ascii "end") (rest l) in
-    let short = end_short a.left y s.requires.0 s.requires.1 s.requires.2 s.requires.3 in (
+    let short = end_short a.left y c.requires.0 c.requires.1 c.requires.2 c.requires.3 in (
       splice_then a.out.now a.at (ascii "end") (rest l) (omega arith) p.ensures.0 p.ensures.1 e.ensures.0,
       omega (arith, p.ensures.1, e.ensures.1),
       omega (arith, p.ensures.1, e.ensures.1),

@@ -8,14 +8,12 @@ use Rattle.transcript.proofs.put_step.Goals as goal
 pub put_line-requires : goal.put_line-requires
 unfolding step_line
 put_line-requires c =
-    let s = c in
-    let a = s.args in
-    omega (arith, step_short a.index (step_of a.c) a.a s.requires.0 (omega arith) (omega arith) (omega arith) (omega arith) (omega arith) (omega arith) (omega arith) (omega arith))
+    let a = c.args in
+    omega (arith, step_short a.index (step_of a.c) a.a c.requires.0 (omega arith) (omega arith) (omega arith) (omega arith) (omega arith) (omega arith) (omega arith) (omega arith))
 
 pub returns : goal.returns
 unfolding step_line
 returns c =
-    let s = c in
-    let a = s.args in
+    let a = c.args in
     let e = c.put_line.ensures in
-    (e.0, e.1, omega (arith, e.1, step_short a.index (step_of a.c) a.a s.requires.0 (omega arith) (omega arith) (omega arith) (omega arith) (omega arith) (omega arith) (omega arith) (omega arith)))
+    (e.0, e.1, omega (arith, e.1, step_short a.index (step_of a.c) a.a c.requires.0 (omega arith) (omega arith) (omega arith) (omega arith) (omega arith) (omega arith) (omega arith) (omega arith)))

@@ -27,14 +27,14 @@ overflow_cast-result-2 c = omega (arith, c.shared_slice_known-3-1.given 1)
 
 pub overflow_mul-result : goal.overflow_mul-result
 overflow_mul-result c =
-    let few : count_in c.args.input.now < 65536 = let s = c in
-    from_bytes-slice-bound s.args.input.now 2 2 (omega arith) (λ i f. omega (arith, c.shared_slice_known-2-1.given i)) in
+    let few : count_in c.args.input.now < 65536 =
+    from_bytes-slice-bound c.args.input.now 2 2 (omega arith) (λ i f. omega (arith, c.shared_slice_known-2-1.given i)) in
     omega (arith, c.get16-n.ensures, few)
 
 pub overflow_add-result : goal.overflow_add-result
 overflow_add-result c =
-    let few : count_in c.args.input.now < 65536 = let s = c in
-    from_bytes-slice-bound s.args.input.now 2 2 (omega arith) (λ i f. omega (arith, c.shared_slice_known-2-1.given i)) in
+    let few : count_in c.args.input.now < 65536 =
+    from_bytes-slice-bound c.args.input.now 2 2 (omega arith) (λ i f. omega (arith, c.shared_slice_known-2-1.given i)) in
     omega (arith, c.get16-n.ensures, few)
 
 pub returns : goal.returns

@@ -23,7 +23,6 @@ pub returns-then-not-well_formed : goal.returns-then-not-well_formed
 unfolding ascii
 returns-then-not-well_formed c =
     let long : longest ≤ length c.args.out.now = omega (arith, c.if-out-lt-LONGEST.false) in
-    let b = c in
     let a = c.args in
     let p = c.put_bytes in
     let r = c.well_formed-2 in
@@ -62,11 +61,9 @@ play-requires c =
     let long : longest ≤ length c.args.out.now = omega (arith, c.if-out-lt-LONGEST.false) in
     let good : well_formed c.args.input.now ≡ true = let r = c.well_formed-2 in sym r.ensures ∙ c.if-not-well_formed.false in
     let input : Known c.args.input.now = known c.args.input.now (good) in
-    let lent : c.size-size.result ≤ Table.size max_sessions max_items = let i = input in omega (arith, c.size-size.ensures) in
-    let b = c in
-    let e = b in (
+    let lent : c.size-size.result ≤ Table.size max_sessions max_items = let i = input in omega (arith, c.size-size.ensures) in (
       good,
-      length-take-le b.size-size.result (replicate (Table.size max_sessions max_items) 0) (omega (arith, lent)) ∙ b.size-size.ensures,
+      length-take-le c.size-size.result (replicate (Table.size max_sessions max_items) 0) (omega (arith, lent)) ∙ c.size-size.ensures,
       length-replicate {A = ℕ} (Mail.size capacity) 0,
       long,
     )
@@ -74,7 +71,5 @@ play-requires c =
 pub returns : goal.returns
 returns c =
     let long : longest ≤ length c.args.out.now = omega (arith, c.if-out-lt-LONGEST.false) in
-    let p = c in
-    let b = p in
     let a = c.args in
-    at-start-long longest (transcript a.input.now) a.out.now (long) (omega (arith, p.play.ensures.1, p.play.ensures.2)) p.play.ensures.0 p.play.ensures.1
+    at-start-long longest (transcript a.input.now) a.out.now (long) (omega (arith, c.play.ensures.1, c.play.ensures.2)) c.play.ensures.0 c.play.ensures.1
