@@ -7,6 +7,12 @@ use native.Mathlib.Numerals.{add-one, towards_suc}
 use native.Mathlib.Omega.{arith}
 use lib.ListN.{length, get_or, take, drop, set, length-append, length-drop, take-append-drop, drop_of_length-le}
 use lib.Seq.{set_split, set-append_seam, take_at, take-add, take-append-le, take-append_seam, drop_at, drop-append-add, drop-append-le, drop-drop, length-take-le, drop-cons, get_or-drop, get_or-take, take-suc, take-length, take_all, paste, sets, sets-eq}
+use mathlib.Core.Bool.{◌&&◌, and-true, and_assoc}
+use lib.Bits.{bit_or}
+use lib.Dec.{eqb}
+use Rattle.std.specs.List.{fold}
+use Rattle.lists.specs.Lists.{all_of}
+use Rattle.lists.proofs.Tests.{or_zero}
 use Rattle.buffer.specs.Bytes.{slice, from_bytes, to_bytes, splice, padded}
 
 -- every element is a byte
@@ -92,6 +98,11 @@ module _ (t : List ℕ) (at : ℕ) (a : List ℕ) (h : at + length a ≤ length 
       drop_past (length b) ∙ ap (λ (n : ℕ). drop n t) (add_assoc at (length a) (length b) ∙ ap (λ (n : ℕ). at + n) (sym (length-append a b))) in
       rw (front, back) (simp append_assoc)
 
+-- a run of bytes written over a part of its length
+pub part-written : {x a : List ℕ} (t : List ℕ) (at k : ℕ) → x ≡ a → length a ≡ k → take at t ++ (x ++ drop k (drop at t)) ≡ splice t at a
+unfolding splice
+part-written t at k e h = rw (e, h, drop-drop k at t) refl
+
 -- a run of bytes at the start of the part from `at` on, which is then back in its place
 pub part-splice : {x : List ℕ} (t : List ℕ) (at : ℕ) (l : List ℕ) → x ≡ splice (slice t at (length t - at)) 0 l
     → take at t ++ (x ++ drop (length t - at) (drop at t)) ≡ splice t at l
@@ -112,6 +123,12 @@ move-none t at by = rw (add-zero) (take-append-drop at t)
 pub move-byte : (t : List ℕ) (at by : ℕ) → at + by < length t → set t at (get_or t (at + by) 0) ≡ moved_down t at by 1
 move-byte t at by h =
     rw (drop-cons t (at + by) 0 h) (set-splice t at (get_or t (at + by) 0) (omega arith))
+
+pub move-all : (t : List ℕ) (at by n m : ℕ) → at + by + n ≤ length t → m ≡ n → paste t at (drop (at + by) t) m ≡ moved_down t at by n
+unfolding splice
+move-all t at by n m h e =
+    let len = length-slice t (at + by) n h in
+    rw (e, len) (append_assoc (take at t) (slice t (at + by) n) (drop (at + n) t))
 
 -- i of n bytes have moved: k more, and then what is left, is all the rest at once
 pub move-more : (t : List ℕ) (at by n i k : ℕ) → at + by + n ≤ length t → i + k ≤ n
@@ -215,3 +232,9 @@ pub splice-split : {x y : List ℕ} (t : List ℕ) (at j k n : ℕ) → at + j �
 splice-split t at j k n h e f =
     let len = length-to_bytes j n in
     f ∙ rw (e, to_bytes-split j k n) (rw (len) at (splice-splice t at (to_bytes j n) (omega arith) (to_bytes k (n / 256 ^ j))))
+
+-- bytes or-ed together are zero where each is
+pub or_all : (n : ℕ) (l : List ℕ) → eqb (fold bit_or n l) 0 ≡ eqb n 0 && all_of (λ b. eqb b 0) l
+unfolding all_of
+or_all n [] = sym (and-true (eqb n 0))
+or_all n (b ∷ l) = or_all (bit_or n b) l ∙ rw (or_zero, and_assoc) refl
