@@ -18,8 +18,7 @@ pub fn get16(t: &[u8], at: usize) -> u64
     requires { at + 2 ≤ length t.now }
     ensures { result ≡ from_bytes (slice t.now at 2) }
 {
-    let row = get_row(t, at);
-    u64::from(u16::from_le_bytes(row))
+    u64::from(u16::from_le_bytes(get_row(t, at)))
 }
 
 // Writes the two lowest bytes of v at `at`.
