@@ -2,16 +2,20 @@
 use mathlib.Core.Path.{◌≡◌, refl, sym, ap, ◌∙◌}
 use mathlib.Core.Bool.{Bool, true, false, cond, not, ◌||◌}
 use mathlib.Core.List.{List, [], ◌∷◌, ◌++◌, map, map-append, append_assoc, append-nil}
+use Rattle.std.proofs.Common.{Option, Some, None, MatchOption, IfSome, position, subst}
+use Rattle.std.specs.List.{list_any, position_or_len}
+use borrow.Author.Tests.{ltb-true, ltb-false}
 use Prim.Native.Nat.{ℕ, zero, suc, ◌+◌, ◌-◌, ◌≤◌, ◌<◌}
 use native.Mathlib.Nat.{add-zero, zero-add, suc-add}
 use native.Mathlib.Numerals.{add-one}
 use native.Mathlib.Omega.{arith}
-use lib.Dec.{eqb, lit<}
-use lib.ListN.{length, get_or, take, drop, set, replicate, length-append, length-replicate, length-map, take-append-drop}
-use lib.Seq.{append_snoc, take_at, take-suc, take-append_seam, take-nil, drop_at, drop-cons, drop-drop, get_or-drop, get_or-append-add, set_at, length-take-le}
+use lib.Dec.{eqb, ltb, lit<}
+use lib.ListN.{length, length-take, get_or, take, drop, set, replicate, length-append, length-replicate, length-map, take-append-drop}
+use lib.Seq.{append_snoc, take_at, take-suc, take-append_seam, take-nil, take-take, paste, drop_at, drop-cons, drop-drop, get_or-drop, get_or-append-add, set_at, length-take-le}
 use Rattle.buffer.specs.Bytes.{slice, splice, padded}
-use Rattle.lists.specs.Lists.{member, filter, find_index, remove_at}
-use Rattle.lists.proofs.Laws.{filter-append, filter-length, remove_at_le, remove_at-length}
+use Rattle.lists.specs.Lists.{member, filter, find_index, remove_at, without_places}
+use Rattle.lists.proofs.Laws.{filter-append, filter-length, remove_at_le, remove_at-length, remove_at-without, remove_at-past}
+use Rattle.lists.proofs.Tests.{by-test}
 use Rattle.session.proofs.Laws.{either}
 use Rattle.buffer.proofs.Laws.{sets-splice, splice-splice, drop-splice, slice-splice-before, slice-splice-after, get_d_slice, put-padded}
 use Rattle.message.specs.Kind
@@ -32,6 +36,9 @@ module _ (i : Item) (q : length i.queue ≡ 64) where
 
   pub waiting-length : i.waiting ≤ 64 → length (unpacked i).queue ≡ i.waiting
   waiting-length h = length-take-le i.waiting i.queue (omega arith)
+
+pub queue_short : (i : Item) → i.waiting ≤ 64 → length (unpacked i).queue ≤ 64
+queue_short i h = omega (arith, length-take i.waiting i.queue)
 
 module _ (t : List ℕ) (at : ℕ) (i : Item) (q : length i.queue ≡ 64) (h : at + size ≤ length t) where
   -- the stores that `store` makes
@@ -84,15 +91,26 @@ module _ (t : List ℕ) (at : ℕ) (l : List ℕ) (h : at + length l ≤ length 
   pub item-after : at + length l ≤ p → item_at (splice t at l) p ≡ item_at t p
   item-after f = item-slice (splice t at l) t p (slice-splice-after t at l h p size f)
 
--- one step of a search
-module _ {A : Type 0} (p : A → Bool) (l : List A) (i : ℕ) (d : A) (h : i < length l) where
-  pub find_index-here : p (get_or l i d) ≡ true → find_index p (drop i l) ≡ 0
-  unfolding find_index
-  find_index-here e = rw (drop-cons l i d h, e) refl
+turned : (b : Bool) (n : ℕ) → cond (not b) (1 + n) 0 ≡ cond b 0 (suc n)
+turned true n = refl
+turned false n = omega arith
 
-  pub find_index-next : p (get_or l i d) ≡ false → find_index p (drop i l) ≡ suc (find_index p (drop (i + 1) l))
+-- the place of the first that passes, if there is one, and the place in the rules
+module _ {A : Type 0} (p : A → Bool) where
+  passed_eq : (l : List A) → position_or_len p l ≡ find_index p l
   unfolding find_index
-  find_index-next e = rw (drop-cons l i d h, e, add-one) refl
+  passed_eq [] = refl
+  passed_eq (a ∷ l) = rw (passed_eq l) (turned (p a) (find_index p l))
+
+  pub position_is : (l : List A) → MatchOption (position p l) (length l ≤ find_index p l) (λ k. (k < length l) × (find_index p l ≡ k))
+  position_is l =
+      by-test (λ o. MatchOption o (length l ≤ find_index p l) (λ k. (k < length l) × (find_index p l ≡ k))) (ltb (position_or_len p l) (length l))
+      (λ e. (ltb-true _ _ e, sym (passed_eq l))) (λ e. omega (arith, ltb-false _ _ e, passed_eq l))
+
+pub any-member : (t : ℕ) (l : List ℕ) → list_any (λ q. eqb q t) l ≡ member t l
+unfolding member
+any-member t [] = refl
+any-member t (q ∷ l) = ap (λ (b : Bool). eqb q t || b) (any-member t l)
 
 -- the record as a queue with zeros behind it
 pub unpacked-packed : (k : Lock) → unpacked (packed k) ≡ k
@@ -123,35 +141,14 @@ module _ (i : Item) (f : Packed i) where
 abbrev pub shifted : ℕ → List ℕ → ℕ → List ℕ
 shifted k q i = remove_at k (take (i + 1) q) ++ drop i q
 
-remove_at-append : (k : ℕ) (l m : List ℕ) → k < length l → remove_at k (l ++ m) ≡ remove_at k l ++ m
-unfolding remove_at
-remove_at-append k [] m h = absurd (omega arith)
-remove_at-append zero (a ∷ l) m h = refl
-remove_at-append (suc k) (a ∷ l) m h = ap (λ (r : List ℕ). a ∷ r) (remove_at-append k l m (omega arith))
-
-remove_at-take : (k : ℕ) (l : List ℕ) → remove_at k (take (suc k) l) ≡ take k l
-unfolding remove_at
-remove_at-take k [] = sym (take-nil k)
-remove_at-take zero (a ∷ l) = refl
-remove_at-take (suc k) (a ∷ l) = ap (λ (r : List ℕ). a ∷ r) (remove_at-take k l)
-
-pub shift_none : (k : ℕ) (q : List ℕ) → q ≡ shifted k q k
-shift_none k q = rw (add-one, remove_at-take) (sym (take-append-drop k q))
-
 module _ (k i : ℕ) (h : k ≤ i) where
-  front_length : (q : List ℕ) → i < length q → length (remove_at k (take (i + 1) q)) ≡ i
-  front_length q f =
-      let l = length-take-le (i + 1) q (omega arith) in omega (arith, remove_at-length k (take (i + 1) q) (omega arith))
-
-  pub shift_step : (q : List ℕ) → i + 1 < length q → set (shifted k q i) i (get_or (shifted k q i) (i + 1) 0) ≡ shifted k q (i + 1)
-  shift_step q f =
-      let p = remove_at k (take (i + 1) q) in
-      let l : length p ≡ i = front_length q (omega arith) in
-      let next : get_or (shifted k q i) (i + 1) 0 ≡ get_or q (i + 1) 0 =
-      ap (λ (n : ℕ). get_or (p ++ drop i q) (n + 1) 0) (sym l) ∙ get_or-append-add p (drop i q) 1 0 ∙ get_or-drop i q 1 0 in
-      let more : remove_at k (take (i + 1 + 1) q) ≡ p ++ (get_or q (i + 1) 0 ∷ []) =
-      ap (remove_at k) (rw (add-one (i + 1)) (take-suc q (i + 1) 0 f)) ∙ remove_at-append k (take (i + 1) q) (get_or q (i + 1) 0 ∷ []) (omega (arith, length-take-le (i + 1) q (omega arith))) in
-      rw (next, more, drop-cons q i 0 (omega arith)) (set_at p (get_or q i 0) (drop (suc i) q) (get_or q (i + 1) 0) i l ∙ sym (append_snoc p (get_or q (i + 1) 0) (drop (suc i) q)) ∙ ap (λ (n : ℕ). (p ++ (get_or q (i + 1) 0 ∷ [])) ++ drop n q) (sym (add-one i)))
+  pub shift_all : (q : List ℕ) → i < length q → paste q k (drop (k + 1) q) (i - k) ≡ shifted k q i
+  unfolding without_places
+  shift_all q f =
+      let whole : k + (i - k) ≡ i = omega arith in
+      let front : i + 1 ≡ k + 1 + (i - k) = omega arith in
+      let out = remove_at-without k (take (i + 1) q) (rw (length-take-le (i + 1) q (omega arith)) (omega arith)) in
+      rw (whole, out, take-take k (i + 1) q (omega arith), front, drop-take (k + 1) (i - k) q) refl
 
   pub shift_last : (m : ℕ) (l : List ℕ) → length l ≡ i + 1 → length l ≤ m → set (shifted k (padded m l) i) i 0 ≡ padded m (remove_at k l)
   shift_last m l e f =
@@ -162,6 +159,27 @@ module _ (k i : ℕ) (h : k ≤ i) where
       let rest : drop i (padded m l) ≡ get_or (padded m l) i 0 ∷ zeros =
       drop-cons (padded m l) i 0 (omega (arith, length-append l zeros)) ∙ ap (λ (r : List ℕ). get_or (padded m l) i 0 ∷ r) (drop_at l zeros (suc i) (omega arith)) in
       rw (all_of, rest, more) (set_at (remove_at k l) (get_or (padded m l) i 0) zeros 0 i (omega arith))
+
+-- a session taken out at its place, if it has one
+module _ (i : Item) (f : Packed i) (t : ℕ) where
+  abbrev Placed : Option ℕ → Type 0
+  Placed o =
+      let l = (unpacked i).queue in
+      MatchOption o (length l ≤ find_index (λ q. eqb q t) l) (λ k. (k < length l) × (find_index (λ q. eqb q t) l ≡ k))
+
+  placed : (o : Option ℕ) → o ≡ position (λ q. eqb q t) (unpacked i).queue → Placed o
+  placed o e = subst Placed (sym e) (position_is (λ q. eqb q t) (unpacked i).queue)
+
+  pub place_inside : (o : Option ℕ) → o ≡ position (λ q. eqb q t) (unpacked i).queue → IfSome o (λ k. k < i.waiting)
+  place_inside None e = tt
+  place_inside (Some k) e = rw (queue-length i f) at (placed (Some k) e).0
+
+  pub taken-out : (o : Option ℕ) (r : Item) → o ≡ position (λ q. eqb q t) (unpacked i).queue
+      → MatchOption o (r ≡ i) (λ k. r ≡ packed (lock i.holder (remove_at k (unpacked i).queue))) → r ≡ packed (lock i.holder (without t (unpacked i).queue))
+  unfolding without
+  taken-out None r e m =
+      m ∙ f.zeros ∙ ap (λ (q : List ℕ). packed (lock i.holder q)) (sym (remove_at-past _ (unpacked i).queue (placed None e)))
+  taken-out (Some k) r e m = m ∙ ap (λ (n : ℕ). packed (lock i.holder (remove_at n (unpacked i).queue))) (sym (placed (Some k) e).1)
 
 -- one message more behind a list given, as the loops have it
 pub push_outbox : (o : Outbox) (l p q : List Message) (m : Message) → o.n < room → o ≡ outbox_of (l ++ p) → q ≡ p ++ (m ∷ [])

@@ -1,8 +1,8 @@
 // The item record: who holds it, who waits for it, what it does on each message.
 #![tactic(auto)]
 
-ghost use Rattle.std.specs.Prelude.{◌≡◌, List, [], ◌∷◌, ◌++◌, ◌+◌, ◌≤◌, ◌<◌, eqb, length};
-ghost use Rattle.lists.specs.Lists.{member, find_index, remove_at};
+ghost use Rattle.std.specs.Prelude.{◌≡◌, List, [], ◌∷◌, ◌++◌, ◌+◌, ◌≤◌, ◌<◌, eqb, length, position, IfSome, MatchOption};
+ghost use Rattle.lists.specs.Lists.{member, remove_at};
 ghost use Rattle.message.specs.declared.Message.{Message};
 ghost use Rattle.message.specs.Limits.{max_sessions};
 ghost use Rattle.message.specs.Kind;
@@ -55,13 +55,10 @@ impl Item {
         requires { at + size ≤ length t.now }
         ensures { result ≡ item_at t.now at }
     {
-        let holder = t[at];
-        let waiting = t[at + Item::WAITING_PLACE];
-        let queue = buffer::get_row(t, at + Item::QUEUE_PLACE);
         Item {
-            holder,
-            waiting,
-            queue,
+            holder: t[at],
+            waiting: t[at + Item::WAITING_PLACE],
+            queue: buffer::get_row(t, at + Item::QUEUE_PLACE),
         }
     }
 
@@ -72,25 +69,23 @@ impl Item {
     {
         t[at] = self.holder;
         t[at + Item::WAITING_PLACE] = self.waiting;
-        let queue = self.queue;
-        buffer::put_row(t, at + Item::QUEUE_PLACE, queue);
+        buffer::put_row(t, at + Item::QUEUE_PLACE, self.queue);
     }
 
-    // The place of session t in the queue, or the number of waiting sessions.
-    fn place(self, t: u8) -> usize
-        requires { self.waiting ≤ max_sessions }
-        ensures { result ≡ find_index (λ q. eqb q t) (unpacked self).queue }
+    // The sessions that wait, in order.
+    fn sessions(&self) -> &[u8]
+        requires { self.now.waiting ≤ max_sessions }
+        ensures { result.now ≡ (unpacked self.now).queue }
     {
-        let queue = self.queue;
-        let n = self.waiting as usize;
-        let mut i: usize = 0;
-        while i < n {
-            if queue[i] == t {
-                return i;
-            }
-            i += 1;
-        }
-        n
+        &self.queue[..usize::from(self.waiting)]
+    }
+
+    // The place of session t in the queue.
+    fn place(self, t: u8) -> Option<usize>
+        requires { self.waiting ≤ max_sessions }
+        ensures { result ≡ position (λ q. eqb q t) (unpacked self).queue }
+    {
+        self.sessions().iter().position(|q| *q == t)
     }
 
     // Whether session t waits in the queue.
@@ -98,7 +93,7 @@ impl Item {
         requires { self.waiting ≤ max_sessions }
         ensures { result ≡ member t (unpacked self).queue }
     {
-        self.place(t) < self.waiting as usize
+        self.sessions().contains(&t)
     }
 
     // The place of the next holder, the most senior session of the queue.
@@ -106,28 +101,22 @@ impl Item {
         requires { (0 < self.waiting) × (self.waiting ≤ max_sessions) }
         ensures { (result ≡ next_holder (senior ranks.now) (unpacked self).queue) × (result < self.waiting) }
     {
-        let queue = self.queue;
-        Session::most_senior(ranks, queue, self.waiting as usize)
+        Session::most_senior(ranks, self.queue, usize::from(self.waiting))
     }
 
-    // The record without the session at place k of its queue.
-    fn without(mut self, k: usize) -> Item
-        requires { Packed self }
-        ensures { result ≡ packed (lock self.holder (remove_at k (unpacked self).queue)) }
+    // The record without the session at a place of its queue, if there is one.
+    fn without(mut self, place: Option<usize>) -> Item
+        requires packed { Packed self }
+        requires inside { IfSome place (λ k. k < self.waiting) }
+        ensures { MatchOption place (result ≡ self) (λ k. result ≡ packed (lock self.holder (remove_at k (unpacked self).queue))) }
     {
-        let n = self.waiting as usize;
-        if n <= k {
+        let Some(k) = place else {
             return self;
-        }
-        let mut queue = self.queue;
-        let mut i = k;
-        while i + 1 < n {
-            queue[i] = queue[i + 1];
-            i += 1;
-        }
-        queue[n - 1] = 0;
-        self.waiting = (n - 1) as u8;
-        self.queue = queue;
+        };
+        let n = usize::from(self.waiting);
+        self.queue.copy_within(k + 1..n, k);
+        self.queue[n - 1] = 0;
+        self.waiting -= 1;
         self
     }
 
@@ -136,9 +125,8 @@ impl Item {
         requires { Joinable self }
         ensures { result ≡ packed (lock self.holder ((unpacked self).queue ++ (t ∷ []))) }
     {
-        let n = self.waiting as usize;
-        self.waiting = (n + 1) as u8;
-        self.queue[n] = t;
+        self.queue[usize::from(self.waiting)] = t;
+        self.waiting += 1;
         self
     }
 
@@ -148,14 +136,9 @@ impl Item {
         ensures { (l : List Message) → out ≡ outbox_of l → result ≡ outbox_of (l ++ probes (senior ranks.now) self.holder (unpacked self).queue) }
     {
         let holder = self.holder;
-        let queue = self.queue;
-        let count = self.waiting as usize;
         let mut at = out.at;
         let mut n = out.n;
-        let mut i: usize = 0;
-        while i < count {
-            let r = queue[i];
-            i += 1;
+        for &r in self.sessions() {
             if Session::senior(ranks, r, holder) {
                 at[n] = Message {
                     peer: holder,
@@ -174,20 +157,16 @@ impl Item {
         requires { (self.waiting ≤ max_sessions) × (out.n ≤ 1 + max_sessions) }
         ensures { (l : List Message) → out ≡ outbox_of l → result ≡ outbox_of (l ++ resends (unpacked self).queue) }
     {
-        let queue = self.queue;
-        let count = self.waiting as usize;
         let mut at = out.at;
         let mut n = out.n;
-        let mut i: usize = 0;
-        while i < count {
+        for &peer in self.sessions() {
             at[n] = Message {
-                peer: queue[i],
+                peer,
                 kind: Message::RESEND,
                 a: 0,
                 b: 0,
             };
             n += 1;
-            i += 1;
         }
         Outbox { n, at }
     }
@@ -262,9 +241,8 @@ impl Item {
             return self.vacant();
         }
         let k = self.next_holder(ranks);
-        let queue = self.queue;
-        let n = queue[k];
-        let mut rest = self.without(k);
+        let n = self.queue[k];
+        let mut rest = self.without(Some(k));
         rest.holder = n;
         rest.handed_over()
     }

@@ -11,8 +11,7 @@ use Rattle.item.proofs.Item.granted.Goals as goal
 pub returns : goal.returns
 unfolding granted
 returns c =
-    let s = c in
-    let i = s.args.self in
-    step_eq _ _ _ (lock s.args.t (unpacked i).queue) (plain s.args.t Kind.grant ∷ [])
-    (packed_eq s.args.t i.waiting i.queue (unpacked i).queue (sym (queue-length i s.requires)) (queue-padded i s.requires))
+    let i = c.args.self in
+    step_eq _ _ _ (lock c.args.t (unpacked i).queue) (plain c.args.t Kind.grant ∷ [])
+    (packed_eq c.args.t i.waiting i.queue (unpacked i).queue (sym (queue-length i c.requires)) (queue-padded i c.requires))
     c.single-outbox.ensures

@@ -13,6 +13,5 @@ resends-outbox-requires c = (c.requires.fits, rw c.single-first.ensures (omega a
 
 pub returns : goal.returns
 returns c =
-    let s = c in
-    let i = s.args.self in
-    step_eq _ _ _ (unpacked i) (plain i.holder Kind.grant ∷ resends (unpacked i).queue) s.requires.zeros (c.resends-outbox.ensures _ c.single-first.ensures)
+    let i = c.args.self in
+    step_eq _ _ _ (unpacked i) (plain i.holder Kind.grant ∷ resends (unpacked i).queue) c.requires.zeros (c.resends-outbox.ensures _ c.single-first.ensures)

@@ -3,4 +3,4 @@ use mathlib.Core.Path.{refl}
 use Rattle.item.proofs.Item.load.Goals as goal
 
 pub returns : goal.returns
-returns c = rw c.get_row-queue.ensures refl
+returns c = rw c.get_row.ensures refl

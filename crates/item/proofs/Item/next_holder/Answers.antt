@@ -4,4 +4,4 @@ use Rattle.item.proofs.Item.next_holder.Goals as goal
 
 pub returns : goal.returns
 unfolding next_holder
-returns c = c.most_senior.ensures
+returns c = rw c.from.ensures at c.most_senior.ensures

@@ -13,15 +13,11 @@ returns-then-waits-holder c =
 pub returns-then-holder-i : goal.returns-then-holder-i
 unfolding on_probe
 returns-then-holder-i c =
-    let b = c in
-    let s = b in
-    rw (← b.waits.ensures, ← b.senior.ensures, c.if-waits-holder.false, eq-eqb _ _ c.if-holder-i.true)
-    (step_eq _ _ _ (unpacked s.args.self) _ s.requires.zeros c.single-outbox.ensures)
+    rw (← c.waits.ensures, ← c.senior.ensures, c.if-waits-holder.false, eq-eqb _ _ c.if-holder-i.true)
+    (step_eq _ _ _ (unpacked c.args.self) _ c.requires.zeros c.single-outbox.ensures)
 
 pub returns : goal.returns
 unfolding on_probe
 returns c =
-    let b = c in
-    let s = b in
-    rw (← b.waits.ensures, ← b.senior.ensures, c.if-waits-holder.false, ne_eqb _ _ c.if-holder-i.false)
-    (step_eq _ _ _ (unpacked s.args.self) _ s.requires.zeros c.single-outbox-2.ensures)
+    rw (← c.waits.ensures, ← c.senior.ensures, c.if-waits-holder.false, ne_eqb _ _ c.if-holder-i.false)
+    (step_eq _ _ _ (unpacked c.args.self) _ c.requires.zeros c.single-outbox-2.ensures)

@@ -17,14 +17,12 @@ probes-requires c = (c.requires.fits, rw c.empty.ensures (omega arith))
 
 pub resends-outbox-requires : goal.resends-outbox-requires
 resends-outbox-requires c =
-    let s = c in
-    let i = s.args.self in
-    (s.requires.fits, probes_fit (senior s.args.ranks.now) i.holder (unpacked i).queue [] c.probes.result (omega arith) (omega (arith, queue-length i s.requires)) (c.probes.ensures _ c.empty.ensures))
+    let i = c.args.self in
+    (c.requires.fits, probes_fit (senior c.args.ranks.now) i.holder (unpacked i).queue [] c.probes.result (omega arith) (omega (arith, queue-length i c.requires)) (c.probes.ensures _ c.empty.ensures))
 
 pub returns : goal.returns
 unfolding on_rebroadcast
 returns c =
-    let s = c in
-    let i = s.args.self in
+    let i = c.args.self in
     rw (ne_eqb _ _ c.if-self-eq0.false)
-    (step_eq _ _ _ (unpacked i) (probes (senior s.args.ranks.now) i.holder (unpacked i).queue ++ resends (unpacked i).queue) s.requires.zeros (c.resends-outbox.ensures _ (c.probes.ensures _ c.empty.ensures)))
+    (step_eq _ _ _ (unpacked i) (probes (senior c.args.ranks.now) i.holder (unpacked i).queue ++ resends (unpacked i).queue) c.requires.zeros (c.resends-outbox.ensures _ (c.probes.ensures _ c.empty.ensures)))

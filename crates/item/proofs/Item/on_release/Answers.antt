@@ -24,34 +24,31 @@ returns-then-self-t c = rw (ne_eqb _ _ c.if-self-t.true) c.dropped.ensures
 pub returns-then-self-eq0 : goal.returns-then-self-eq0
 unfolding on_release
 returns-then-self-eq0 c =
-    let s = c in
-    let i = s.args.self in
-    rw (eq-eqb _ _ c.if-self-t.false, vacated-none (senior s.args.ranks.now) (next_holder (senior s.args.ranks.now)) (unpacked i).queue (queue-length i s.requires ∙ c.if-self-eq0.true)) c.vacant.ensures
+    let i = c.args.self in
+    rw (eq-eqb _ _ c.if-self-t.false, vacated-none (senior c.args.ranks.now) (next_holder (senior c.args.ranks.now)) (unpacked i).queue (queue-length i c.requires ∙ c.if-self-eq0.true)) c.vacant.ensures
 
 pub handed_over-requires : goal.handed_over-requires
 handed_over-requires c =
-    let s = c in
-    let i = s.args.self in
+    let i = c.args.self in
     let q = (unpacked i).queue in
     let next = c.next_holder-k in
     let rest = c.without-rest in
-    let n = queue-length i s.requires in
+    let n = queue-length i c.requires in
     let k = get_or i.queue next.result 0 in
-    holds-packed _ k (remove_at next.result q) (holds-other rest.result i.holder (remove_at next.result q) rest.ensures k) (omega (arith, s.requires.fits, next.ensures.1, remove_at-length next.result q (omega arith)))
+    holds-packed _ k (remove_at next.result q) (holds-other rest.result i.holder (remove_at next.result q) rest.ensures k) (omega (arith, c.requires.fits, next.ensures.1, remove_at-length next.result q (omega arith)))
 
 pub returns : goal.returns
 unfolding on_release handed_over next_holder
 returns c =
-    let s = c in
-    let i = s.args.self in
+    let i = c.args.self in
     let q = (unpacked i).queue in
     let next = c.next_holder-k in
     let rest = c.without-rest in
-    let n = queue-length i s.requires in
+    let n = queue-length i c.requires in
     let some : 0 < length q = omega (arith, next.ensures.1) in
     let first : get_or q next.result 0 ≡ get_or i.queue next.result 0 = get_or-take i.waiting i.queue next.result 0 next.ensures.1 in
     let left = holds-queue rest.result i.holder (remove_at next.result q) rest.ensures in
-    let r = s.args.ranks.now in
+    let r = c.args.ranks.now in
     let by = next_holder (senior r) in
     let none = no_probes (senior r) q (get_or q (by q) 0) (by q) (most-senior-passes (senior-weak r) q some) in
     rw (eq-eqb _ _ c.if-self-t.false, vacated-more (senior r) by q some, none, ← next.ensures.0, first, ← left) c.handed_over.ensures

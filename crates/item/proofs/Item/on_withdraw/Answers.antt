@@ -1,20 +1,19 @@
 -- `Item::on_withdraw` meets its contract: the session leaves its place in the queue.
-use mathlib.Core.Path.{ap, ◌∙◌}
 use mathlib.Core.List.{[], ◌∷◌}
-use Prim.Native.Nat.{ℕ}
-use Rattle.lists.specs.Lists.{remove_at}
 use Rattle.message.specs.Kind
 use Rattle.message.specs.Outbox.{plain}
-use Rattle.item.specs.Record.{unpacked, packed, lock}
-use Rattle.item.proofs.Laws.{step_eq}
+use Rattle.item.specs.Record.{unpacked, lock}
 use Rattle.item.specs.Rules.{without, on_withdraw}
+use Rattle.item.proofs.Laws.{step_eq, place_inside, taken-out}
 use Rattle.item.proofs.Item.on_withdraw.Goals as goal
 
+pub without-item-requires-clause-inside : goal.without-item-requires-clause-inside
+without-item-requires-clause-inside c = place_inside c.args.self c.requires c.args.t c.place.result c.place.ensures
+
 pub returns : goal.returns
-unfolding on_withdraw without
+unfolding on_withdraw
 returns c =
-    let s = c in
-    let i = s.args.self in
-    step_eq _ _ _ (lock i.holder (without s.args.t (unpacked i).queue)) (plain s.args.t Kind.withdrawn ∷ [])
-    (c.without-item.ensures ∙ ap (λ (k : ℕ). packed (lock i.holder (remove_at k (unpacked i).queue))) c.place.ensures)
+    let i = c.args.self in
+    step_eq _ _ _ (lock i.holder (without c.args.t (unpacked i).queue)) (plain c.args.t Kind.withdrawn ∷ [])
+    (taken-out i c.requires c.args.t c.place.result c.without-item.result c.place.ensures c.without-item.ensures)
     c.single-outbox.ensures

@@ -1,7 +1,7 @@
--- `Item::probes` meets its contract. The invariant: behind the list given stand the probes for the first i of the queue.
+-- `Item::probes` meets its contract. The invariant: behind the list given stand the probes for those of the queue that were passed.
 use mathlib.Core.Path.{◌≡◌}
 use mathlib.Core.List.{List, ◌++◌}
-use Prim.Native.Nat.{◌+◌, ◌-◌, ◌≤◌}
+use Prim.Native.Nat.{◌+◌, ◌≤◌}
 use lib.ListN.{take}
 use Rattle.message.specs.declared.Message.{Message}
 use Rattle.message.specs.declared.Outbox.{Outbox}
@@ -10,10 +10,7 @@ use Rattle.session.specs.Seniority.{senior}
 use Rattle.item.specs.Rules.{probes}
 use Rattle.item.proofs.Item.probes.Given as goal
 
-abbrev pub invariant-loop-i : goal.invariant-loop-i
-invariant-loop-i v =
-    (v.i ≤ v.count) × (v.n ≤ v.initial.n + v.i)
-    × ((l : List Message) → ◌≡◌ {A = Outbox} (record { n = v.initial.n; at = v.initial.at }) (outbox_of l) → ◌≡◌ {A = Outbox} (record { n = v.n; at = v.at }) (outbox_of (l ++ probes (senior v.ranks) v.holder (take v.i v.queue))))
-
-abbrev pub decreases-loop-i : goal.decreases-loop-i
-decreases-loop-i l = l.count - l.i
+abbrev pub invariant-loop-r : goal.invariant-loop-r
+invariant-loop-r v =
+    (v.n ≤ v.initial.n + v.r-index)
+    × ((l : List Message) → ◌≡◌ {A = Outbox} (record { n = v.initial.n; at = v.initial.at }) (outbox_of l) → ◌≡◌ {A = Outbox} (record { n = v.n; at = v.at }) (outbox_of (l ++ probes (senior v.ranks) v.holder (take v.r-index v.r-items))))

@@ -16,7 +16,6 @@ shape_of-t c = c.put_row.auto.t ∙ simp length-set
 
 pub returns : goal.returns
 returns c =
-    let s = c in
-    let a = s.args in
+    let a = c.args in
     c.put_row.ensures
     ∙ store_eq a.t.now a.at a.self (omega arith) (omega arith)

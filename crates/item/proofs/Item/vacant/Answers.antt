@@ -6,6 +6,5 @@ use Rattle.item.proofs.Item.vacant.Goals as goal
 
 pub returns : goal.returns
 returns c =
-    let s = c in
-    let i = s.args.self in
-    rw (c.empty-outbox.ensures, packed_eq 0 i.waiting i.queue [] s.requires.1 (rw s.requires.1 at (queue-padded i s.requires.0))) refl
+    let i = c.args.self in
+    rw (c.empty-outbox.ensures, packed_eq 0 i.waiting i.queue [] c.requires.1 (rw c.requires.1 at (queue-padded i c.requires.0))) refl

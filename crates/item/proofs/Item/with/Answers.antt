@@ -12,4 +12,5 @@ returns c =
     let i = c.args.self in
     let f = c.requires.packed in
     let l = (unpacked i).queue in
-    packed_eq i.holder (i.waiting + 1) _ (l ++ (c.args.t ∷ [])) (omega (arith, length-append l (c.args.t ∷ []), queue-length i f)) (queue-put i f c.args.t c.requires.room)
+    rw c.from.ensures
+    (packed_eq i.holder (i.waiting + 1) _ (l ++ (c.args.t ∷ [])) (omega (arith, length-append l (c.args.t ∷ []), queue-length i f)) (queue-put i f c.args.t c.requires.room))
