@@ -1,7 +1,7 @@
 -- Laws of a session record and its bytes, and of the messages that a session sends.
 use mathlib.Core.Path.{◌≡◌, refl, sym, ap, ◌∙◌}
 use mathlib.Core.Bool.{Bool, true, cond, not, ◌||◌}
-use mathlib.Core.List.{List, [], ◌∷◌, ◌++◌, map}
+use mathlib.Core.List.{List, [], ◌∷◌, ◌++◌}
 use Prim.Native.Nat.{ℕ, zero, suc, ◌+◌, ◌^◌, ◌≤◌, ◌<◌, zero-le}
 use native.Mathlib.Nat.{add-zero, zero-add, suc-add}
 use native.Mathlib.Numerals.{add-one}
@@ -32,10 +32,6 @@ either P b p q = by-test P b (λ _. p) (λ _. q)
 -- a session that takes probes and does not grow waits
 pub waits_else : (n : ℕ) → Stage.takes_probes n ≡ true → (n ≡ Stage.growing → ⊥) → eqb n Stage.waiting ≡ true
 waits_else n e f = rw (ne_eqb n Stage.growing f) at e
-
--- the length of an array, from what is known of a struct that holds it
-pub array_length : (l : List ℕ) {n : ℕ} → length (map (λ (v : ℕ). v) l) ≡ n → length l ≡ n
-array_length l e = sym (length-map l (λ v. v)) ∙ e
 
 -- a part of the front of a list
 slice-take : (k n m : ℕ) (l : List ℕ) → n ≤ m → slice (take (k + m) l) k n ≡ slice l k n

@@ -58,14 +58,10 @@ impl Session {
     fn rank(ranks: &[u8], t: u8) -> u8
         ensures { result ≡ rank ranks.now t }
     {
-        let k = t as usize;
-        if k < 1 {
+        let Some(k) = t.checked_sub(1) else {
             return t;
-        }
-        if ranks.len() < k {
-            return t;
-        }
-        ranks[k - 1]
+        };
+        ranks.get(usize::from(k)).copied().unwrap_or(t)
     }
 
     // Whether session a is senior to session b.
@@ -80,16 +76,14 @@ impl Session {
         requires { (0 < n) × (n ≤ max_sessions) }
         ensures { (result ≡ most_senior (senior ranks.now) (take n list)) × (result < n) }
     {
-        let mut place: usize = 0;
+        let mut place = 0;
         let mut best = Session::rank(ranks, list[0]);
-        let mut i: usize = 1;
-        while i < n {
-            let rank = Session::rank(ranks, list[i]);
+        for (i, &t) in list[..n].iter().enumerate() {
+            let rank = Session::rank(ranks, t);
             if rank < best {
                 place = i;
                 best = rank;
             }
-            i += 1;
         }
         place
     }
@@ -106,15 +100,11 @@ impl Session {
         requires { at + size ≤ length t.now }
         ensures { result ≡ session_at t.now at }
     {
-        let stage = t[at];
-        let awaited = t[at + Session::AWAITED_PLACE];
-        let held = buffer::get64(t, at + Session::HELD_PLACE);
-        let juniors = buffer::get_row(t, at + Session::JUNIORS_PLACE);
         Session {
-            stage,
-            awaited,
-            held,
-            juniors,
+            stage: t[at],
+            awaited: t[at + Session::AWAITED_PLACE],
+            held: buffer::get64(t, at + Session::HELD_PLACE),
+            juniors: buffer::get_row(t, at + Session::JUNIORS_PLACE),
         }
     }
 
@@ -126,8 +116,7 @@ impl Session {
         t[at] = self.stage;
         t[at + Session::AWAITED_PLACE] = self.awaited;
         buffer::put64(t, at + Session::HELD_PLACE, self.held);
-        let juniors = self.juniors;
-        buffer::put_row(t, at + Session::JUNIORS_PLACE, juniors);
+        buffer::put_row(t, at + Session::JUNIORS_PLACE, self.juniors);
     }
 
     // Behind `out`, all stored probes by rising initiator, to item x.
@@ -135,18 +124,14 @@ impl Session {
         requires { out.n ≤ 1 }
         ensures { (l : List Message) → out ≡ outbox_of l → result ≡ outbox_of (l ++ stored_probes self x) }
     {
-        let juniors = self.juniors;
         let mut at = out.at;
         let mut n = out.n;
-        let mut i: usize = 0;
-        while i < MAX_SESSIONS {
-            let j = juniors[i];
-            i += 1;
+        for (i, &j) in self.juniors.iter().enumerate() {
             if j != 0 {
                 at[n] = Message {
                     peer: x,
                     kind: Message::PROBE,
-                    a: i as u8,
+                    a: (i + 1) as u8,
                     b: j,
                 };
                 n += 1;
@@ -334,14 +319,15 @@ impl Session {
         requires { Storable i self }
         ensures { result ≡ step_of (kept_probe (senior ranks.now) i j self) }
     {
-        let at = i as usize - 1;
+        let at = usize::from(i) - 1;
         let stored = self.juniors[at];
         if (stored == 0) | Session::senior(ranks, stored, j) {
             self.juniors[at] = j;
-            let mut outbox = Outbox::empty();
-            if self.stage != Session::GROWING {
-                outbox = Outbox::single(self.awaited, Message::PROBE, i, j);
-            }
+            let outbox = if self.stage == Session::GROWING {
+                Outbox::empty()
+            } else {
+                Outbox::single(self.awaited, Message::PROBE, i, j)
+            };
             return SessionStep {
                 session: self,
                 outbox,

@@ -22,8 +22,7 @@ late n f g = rw (ne_eqb n Stage.growing f, ne_eqb n Stage.waiting g) refl
 
 pub probed-requires : goal.probed-requires
 probed-requires c =
-    let s = c in
-    record { initiator = s.requires.initiator c.in-3.is; stage = early s.args.self.stage (omega arith) (omega arith) }
+    record { initiator = c.requires.initiator c.in-3.is; stage = early c.args.self.stage (omega arith) (omega arith) }
 
 pub returns-in-2 : goal.returns-in-2
 unfolding received
