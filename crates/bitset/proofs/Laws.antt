@@ -38,6 +38,9 @@ unfolding count_trailing_zeros
 low zero n p h = absurd (omega arith)
 low (suc d) n p h = low_step d n (count_trailing_zeros d (n / 2)) p (n % 2) refl (λ q. low d (n / 2) q (omega (arith, pow-suc 2 d)))
 
+pub trailing_below : (mask : ℕ) → (mask ≡ 0 → ⊥) → mask < 2 ^ 64 → count_trailing_zeros 64 mask < 64
+trailing_below mask h f = (low 64 mask (omega arith) f).1
+
 length-step : (r k d : ℕ) (l : List ℕ) → length l ≤ d → length (with_bit r k l) ≤ suc d
 length-step zero k d l h = omega arith
 length-step (suc r) k d l h = omega arith

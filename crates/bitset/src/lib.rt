@@ -2,6 +2,7 @@
 #![tactic(auto)]
 
 ghost use Rattle.std.specs.Prelude.{◌≡◌, ◌∷◌, ◌≤◌, ◌<◌};
+ghost use Rattle.std.specs.Iterator.{YieldsFirst, item_count};
 ghost use Rattle.bitset.specs.Bitset.{has, single, full, insert, remove, members};
 
 // The lowest member of a mask, and the mask without it.
@@ -11,15 +12,37 @@ pub struct Split {
     pub rest: u64,
 }
 
-// What a loop over the members calls: the lowest is found by trailing zeros.
+// The lowest is found by trailing zeros.
+#[tactic(auto, using(crate::proofs::Laws::trailing_below))]
 pub fn lowest(mask: u64) -> Split
     requires { mask ≡ 0 → ⊥ }
     ensures { (members mask ≡ result.member ∷ members result.rest) × (result.rest < mask) × (1 ≤ result.member) × (result.member ≤ 64) }
 {
-    let k = u64::trailing_zeros(mask);
+    let k = mask.trailing_zeros();
     Split {
         member: (k + 1) as u8,
         rest: mask - (1u64 << k),
+    }
+}
+
+// What is left of a loop over the members of a mask, from the lowest on.
+#[derive(Drop)]
+pub struct Members(pub u64);
+
+impl Iterator for Members {
+    type Item = u8;
+
+    ghost next_gives = { YieldsFirst (λ s. members s.0) };
+
+    ghost remaining = { item_count (λ s. members s.0) };
+
+    fn next(&mut self) -> Option<u8> {
+        if self.0 == 0 {
+            return None;
+        }
+        let low = lowest(self.0);
+        self.0 = low.rest;
+        Some(low.member)
     }
 }
 

@@ -16,7 +16,7 @@ use Rattle.lists.proofs.Laws.{filter-length}
 use Rattle.lists.proofs.Tests.{by-test}
 use Rattle.buffer.proofs.Laws.{sets-splice, splice-splice, slice-splice, slice-splice-before, slice-splice-after, get_d_slice, from_bytes-to_bytes}
 use Rattle.bitset.specs.Bitset.{members}
-use Rattle.bitset.proofs.Laws.{bits_length, bits_none}
+use Rattle.bitset.proofs.Laws.{bits_length}
 use Rattle.message.specs.Kind
 use Rattle.message.specs.declared.Message.{Message}
 use Rattle.message.specs.Outbox.{message, plain}
@@ -100,9 +100,9 @@ module _ (kind x held y rest : ℕ) (e : members held ≡ y ∷ members rest) wh
   unfolding to_held filter
   held_skip f = rw (e, eq-eqb y x f) refl
 
-pub held_none : (kind x : ℕ) → to_held kind x 0 ≡ []
+pub held_none : (kind x held : ℕ) → members held ≡ [] → to_held kind x held ≡ []
 unfolding to_held filter
-held_none kind x = rw (bits_none 64 1) refl
+held_none kind x held e = rw (e) refl
 
 pub to_held-length : (kind x held : ℕ) → length (to_held kind x held) ≤ 64
 unfolding to_held
@@ -119,9 +119,9 @@ probes_from-length x i (j ∷ js) =
 pub stored_probes-length : (s : Session) (x : ℕ) → length (stored_probes s x) ≤ length s.juniors
 stored_probes-length s x = probes_from-length x 1 s.juniors
 
--- the front of a list is no longer than the list
-pub front_length : (n : ℕ) (p q w : List Message) → p ++ q ≡ w → length w ≤ n → length p ≤ n
-front_length n p q w e h = omega (arith, ap length e, length-append p q)
+-- so those sent first are no more
+pub held_fits : (kind x held : ℕ) (p q : List Message) → p ++ q ≡ to_held kind x held → length p ≤ 64
+held_fits kind x held p q e = omega (arith, ap length e, length-append p q, to_held-length kind x held)
 
 -- at most 65 messages are sent
 record Few (r : After) : Type 0 where

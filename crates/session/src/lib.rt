@@ -147,11 +147,7 @@ impl Session {
         let none = Outbox::empty();
         let mut at = none.at;
         let mut n: usize = 0;
-        let mut rest = held;
-        while rest != 0 {
-            let low = bitset::lowest(rest);
-            let y = low.member;
-            rest = low.rest;
+        for y in bitset::Members(held) {
             if y != but {
                 at[n] = Message {
                     peer: y,

@@ -1,73 +1,41 @@
 -- `Session::to_held` meets its contract. The invariant: the messages so far, with those to come.
-use mathlib.Core.Path.{refl, sym, ap, ◌∙◌}
+use mathlib.Core.Path.{sym, ap, ◌∙◌}
 use mathlib.Core.List.{[], ◌∷◌, ◌++◌, append_assoc, append-nil}
-use Prim.Native.Nat.{◌≤◌}
 use native.Mathlib.Omega.{arith}
-use lib.ListN.{length, length-append}
+use lib.ListN.{length-append}
 use Rattle.message.proofs.Laws.{push_cells}
 use Rattle.message.specs.Outbox.{plain, outbox_of}
-use Rattle.message.specs.declared.Outbox.{Outbox}
-use Rattle.session.specs.Rules.{to_held}
-use Rattle.session.proofs.Laws.{held-take, held_skip, held_none, to_held-length, front_length}
+use Rattle.session.proofs.Laws.{held-take, held_skip, held_none, held_fits}
 use Rattle.session.proofs.Session.to_held.Goals as goal
 
-pub loop-rest-init : goal.loop-rest-init
-loop-rest-init c = ([], refl, ap (λ (o : Outbox). o.at) c.empty-none.ensures, refl)
-
-pub lowest-low-requires : goal.lowest-low-requires
-lowest-low-requires c = c.loop-rest-test.true
-
 pub offset_bounds-at-n : goal.offset_bounds-at-n
-offset_bounds-at-n c =
-    let fits : length c.loop-rest.invariant.0 ≤ 64 = let a = c.args in
-    front_length 64 c.loop-rest.invariant.0 _ (to_held a.kind a.but a.held) c.loop-rest.invariant.3 (to_held-length a.kind a.but a.held) in
-    omega (arith, fits)
+offset_bounds-at-n c = omega (arith, held_fits _ _ _ c.loop-y.invariant.0 _ c.loop-y.invariant.3)
 
 pub bounds-at-n : goal.bounds-at-n
-bounds-at-n c =
-    let fits : length c.loop-rest.invariant.0 ≤ 64 = let a = c.args in
-    front_length 64 c.loop-rest.invariant.0 _ (to_held a.kind a.but a.held) c.loop-rest.invariant.3 (to_held-length a.kind a.but a.held) in
-    omega (arith, fits)
+bounds-at-n c = omega (arith, held_fits _ _ _ c.loop-y.invariant.0 _ c.loop-y.invariant.3)
 
 pub overflow_add-n : goal.overflow_add-n
-overflow_add-n c =
-    let fits : length c.loop-rest.invariant.0 ≤ 64 = let a = c.args in
-    front_length 64 c.loop-rest.invariant.0 _ (to_held a.kind a.but a.held) c.loop-rest.invariant.3 (to_held-length a.kind a.but a.held) in
-    omega (arith, fits)
+overflow_add-n c = omega (arith, held_fits _ _ _ c.loop-y.invariant.0 _ c.loop-y.invariant.3)
 
-pub loop-rest-smaller-then-y-but : goal.loop-rest-smaller-then-y-but
-loop-rest-smaller-then-y-but c = c.lowest-low.ensures.1
-
-pub loop-rest-preserved-then-y-but : goal.loop-rest-preserved-then-y-but
-loop-rest-preserved-then-y-but c =
-    let fits : length c.loop-rest.invariant.0 ≤ 64 = let a = c.args in
-    front_length 64 c.loop-rest.invariant.0 _ (to_held a.kind a.but a.held) c.loop-rest.invariant.3 (to_held-length a.kind a.but a.held) in
+pub loop-y-preserved-then-y-but : goal.loop-y-preserved-then-y-but
+loop-y-preserved-then-y-but c =
     let a = c.args in
-    let l = c.loop-rest in
-    let low = c.lowest-low in
-    let m = plain low.result.member a.kind in (
-      l.invariant.0 ++ (m ∷ []),
-      rw l.invariant.1 (sym (length-append l.invariant.0 (m ∷ []))),
-      rw (l.invariant.2, l.invariant.1) (push_cells l.invariant.0 m (omega (arith, fits))),
-      rw (append_assoc, ← held-take a.kind a.but l.rest low.result.member low.result.rest low.ensures.0 c.if-y-but.true) l.invariant.3,
+    let p = c.loop-y.invariant in
+    let m = plain c.in-Some.y a.kind in (
+      p.0 ++ (m ∷ []),
+      rw p.1 (sym (length-append p.0 (m ∷ []))),
+      rw (p.2, p.1) (push_cells p.0 m (omega (arith, held_fits _ _ _ p.0 _ p.3))),
+      rw (append_assoc, ← held-take a.kind a.but _ c.in-Some.y c.next.new.self.0 c.in-Some.ensures.steps c.if-y-but.true) p.3,
     )
 
-pub loop-rest-smaller : goal.loop-rest-smaller
-loop-rest-smaller c = c.lowest-low.ensures.1
-
-pub loop-rest-preserved : goal.loop-rest-preserved
-loop-rest-preserved c =
+pub loop-y-preserved : goal.loop-y-preserved
+loop-y-preserved c =
     let a = c.args in
-    let l = c.loop-rest in
-    let low = c.lowest-low in (
-      l.invariant.0,
-      l.invariant.1,
-      l.invariant.2,
-      rw (← held_skip a.kind a.but l.rest low.result.member low.result.rest low.ensures.0 c.if-y-but.false) l.invariant.3,
-    )
+    let p = c.loop-y.invariant in
+    (p.0, p.1, p.2, rw (← held_skip a.kind a.but _ c.in-Some.y c.next.new.self.0 c.in-Some.ensures.steps c.if-y-but.false) p.3)
 
 pub returns : goal.returns
 returns c =
     let a = c.args in
-    let l = c.loop-rest in
-    rw (l.invariant.1, l.invariant.2) (ap outbox_of (sym (append-nil l.invariant.0) ∙ rw (c.loop-rest-test.false, held_none a.kind a.but) at l.invariant.3))
+    let p = c.loop-y.invariant in
+    rw (p.1, p.2) (ap outbox_of (sym (append-nil p.0) ∙ rw (held_none a.kind a.but _ c.in-None.ensures.steps.0) at p.3))

@@ -7,9 +7,6 @@ use Rattle.message.specs.declared.Message.{Message}
 use Rattle.session.specs.Rules.{to_held}
 use Rattle.session.proofs.Session.to_held.Given as goal
 
-abbrev pub invariant-loop-rest : goal.invariant-loop-rest
-invariant-loop-rest l =
-    (p : List Message) × (l.n ≡ length p) × (l.at ≡ cells p) × (p ++ to_held l.kind l.but l.rest ≡ to_held l.kind l.but l.held)
-
-abbrev pub decreases-loop-rest : goal.decreases-loop-rest
-decreases-loop-rest l = l.rest
+abbrev pub invariant-loop-y : goal.invariant-loop-y
+invariant-loop-y l =
+    (p : List Message) × (l.n ≡ length p) × (l.at ≡ cells p) × (p ++ to_held l.kind l.but l.y-iterator.0 ≡ to_held l.kind l.but l.held)
