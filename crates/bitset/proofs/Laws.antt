@@ -5,7 +5,7 @@ use mathlib.Core.List.{List, [], ◌∷◌}
 use Prim.Native.Nat.{ℕ, zero, suc, ◌+◌, ◌-◌, ◌*◌, ◌/◌, ◌%◌, ◌^◌, ◌≤◌, ◌<◌, zero-le, max}
 use native.Mathlib.Nat.{add-mul, mod-lt, pow-suc, one-mul, max-zero, le-div_iff_mul-le}
 use native.Mathlib.Omega.{arith}
-use borrow.Author.Tests.{eqb-true, eqb-false}
+use borrow.Author.Tests.{eqb-true}
 use lib.Arith.{digits_lt}
 use lib.Bits.{bit_or, or_step, or_zero_r}
 use lib.Dec.{eqb}
@@ -90,14 +90,6 @@ or_bit (suc t) mask =
     or_step mask (2 ^ suc t) ∙ rw (half, even, max-zero (mask % 2), or_bit t (mask / 2), up) (higher_or (eqb (mask / 2 / 2 ^ t % 2) 1) mask t)
 
 module _ (k mask : ℕ) where
-  -- a mask has room for a number that is absent
-  pub absent_fits : 1 ≤ k → k ≤ 64 → mask < 2 ^ 64 → has k mask ≡ false → mask + 2 ^ (k - 1) < 2 ^ 64
-  unfolding has
-  absent_fits l h f e =
-      let w : 64 - k + 1 + (k - 1) ≡ 64 = omega arith in
-      let off : mask / 2 ^ (k - 1) % 2 ≡ 0 = omega (arith, eqb-false (mask / 2 ^ (k - 1) % 2) 1 e) in
-      rw (w) at (room mask (k - 1) (64 - k) (rw (w) f) off)
-
   -- the bit of a number that is present can be taken away
   pub present_fits : has k mask ≡ true → 2 ^ (k - 1) ≤ mask
   unfolding has

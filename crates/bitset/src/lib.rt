@@ -59,11 +59,7 @@ pub fn full(m: u8) -> u64
     requires { m ≤ 64 }
     ensures { result ≡ full m }
 {
-    if m == 64 {
-        18446744073709551615
-    } else {
-        (1u64 << m) - 1
-    }
+    if m == 64 { u64::MAX } else { (1u64 << m) - 1 }
 }
 
 // Whether k is in the mask.

@@ -2,11 +2,11 @@
 use mathlib.Core.Path.{◌≡◌, refl, sym, ap, ◌∙◌}
 use mathlib.Core.List.{List, [], ◌∷◌, ◌++◌, append_assoc, append-nil}
 use Prim.Native.Nat.{ℕ, zero, suc, ◌+◌, ◌-◌, ◌*◌, ◌/◌, ◌%◌, ◌^◌, ◌≤◌, ◌<◌}
-use native.Mathlib.Nat.{add_assoc, add-zero, zero-add, suc-add, mul_assoc, one-mul, pow-suc, mul_comm, div-one, div-div-eq-div-mul}
-use native.Mathlib.Numerals.{add-one, towards_suc}
+use native.Mathlib.Nat.{add_assoc, add-zero, zero-add, pow-suc}
+use native.Mathlib.Numerals.{add-one}
 use native.Mathlib.Omega.{arith}
 use lib.ListN.{length, get_or, take, drop, set, length-append, length-drop, take-append-drop, drop_of_length-le}
-use lib.Seq.{set_split, set-append_seam, take_at, take-add, take-append-le, take-append_seam, drop_at, drop-append-add, drop-append-le, drop-drop, length-take-le, drop-cons, get_or-drop, get_or-take, take-suc, take-length, take_all, paste, sets, sets-eq}
+use lib.Seq.{set_split, set-append_seam, take_at, take-add, take-append-le, take-append_seam, drop_at, drop-append-add, drop-append-le, drop-drop, length-take-le, drop-cons, get_or-drop, get_or-take, take-suc, take_all, paste, sets, sets-eq}
 use mathlib.Core.Bool.{◌&&◌, and-true, and_assoc}
 use lib.Bits.{bit_or}
 use lib.Dec.{eqb}
@@ -42,10 +42,6 @@ slice_front k l at n h =
 -- one element more of a part
 pub slice-more : (t : List ℕ) (at n : ℕ) → at + n < length t → slice t at (n + 1) ≡ slice t at n ++ (get_or t (at + n) 0 ∷ [])
 slice-more t at n h = rw (add-one, ← get_or-drop at t n 0) (take-suc (drop at t) n 0 (rw (length-drop) (omega arith)))
-
--- the elements of a part of two
-pub slice-two : (t : List ℕ) (at : ℕ) → at + 2 ≤ length t → slice t at 2 ≡ get_or t at 0 ∷ get_or t (at + 1) 0 ∷ []
-slice-two t at h = simp towards_suc (rw (drop-cons t at 0 (omega arith), drop-cons t (suc at) 0 (omega arith)) refl)
 
 module _ (t : List ℕ) (at : ℕ) (a : List ℕ) (h : at + length a ≤ length t) where
   head-length : length (take at t ++ a) ≡ at + length a
@@ -151,13 +147,6 @@ put-padded m p x h =
     let more : length (p ++ (x ∷ [])) ≡ suc (length p) = length-append p (x ∷ []) ∙ add-one (length p) in
     rw (left, set-append_seam, more, append_assoc) refl
 
--- a padded part grows by one store
-pub slice-put : (m : ℕ) (t : List ℕ) (at n : ℕ) → at + n < length t → n < m → set (padded m (slice t at n)) n (get_or t (at + n) 0) ≡ padded m (slice t at (n + 1))
-slice-put m t at n h l =
-    let len = length-slice t at n (omega arith) in
-    ap (λ (k : ℕ). set (padded m (slice t at n)) k (get_or t (at + n) 0)) (sym len)
-    ∙ put-padded m (slice t at n) (get_or t (at + n) 0) (omega arith) ∙ ap (padded m) (sym (slice-more t at n h))
-
 -- padding adds nothing to a list that is long enough
 pub padded-full : (m : ℕ) (l : List ℕ) → length l ≡ m → padded m l ≡ l
 padded-full m l h = let none : m - length l ≡ 0 = omega arith in rw (none) (append-nil l)
@@ -166,15 +155,6 @@ padded-full m l h = let none : m - length l ≡ 0 = omega arith in rw (none) (ap
 pub sets-splice : (t : List ℕ) (at : ℕ) (vs : List ℕ) → at + length vs ≤ length t → sets t at vs ≡ splice t at vs
 unfolding splice
 sets-splice t at vs h = sets-eq vs t at h ∙ append_assoc (take at t) vs (drop (at + length vs) t)
-
--- a copy of a whole list
-pub paste-splice : (t : List ℕ) (at : ℕ) (l : List ℕ) (n : ℕ) → length l ≡ n → paste t at l n ≡ splice t at l
-unfolding splice
-paste-splice t at l n e = rw (← e, take-length) (append_assoc (take at t) l (drop (at + length l) t))
-
-pub length-to_bytes : (k n : ℕ) → length (to_bytes k n) ≡ k
-length-to_bytes zero n = refl
-length-to_bytes (suc k) n = ap suc (length-to_bytes k (n / 256))
 
 -- the bytes of a number make the number
 pub from_bytes-to_bytes : (k n : ℕ) → n < 256 ^ k → from_bytes (to_bytes k n) ≡ n
@@ -208,30 +188,6 @@ bytes-slice t at n h f i g =
 
 pub from_bytes-slice-bound : (t : List ℕ) (at n : ℕ) → at + n ≤ length t → AreBytes t → from_bytes (slice t at n) < 256 ^ n
 from_bytes-slice-bound t at n h f = rw (length-slice t at n h) at (from_bytes-bound (slice t at n) (bytes-slice t at n h f))
-
-pub from_bytes-append : (k l : List ℕ) → from_bytes (k ++ l) ≡ from_bytes k + 256 ^ length k * from_bytes l
-from_bytes-append [] l = sym (zero-add (1 * from_bytes l) ∙ one-mul (from_bytes l))
-from_bytes-append (b ∷ k) l =
-    rw (from_bytes-append k l, pow-suc 256 (length k), mul_comm (256 ^ length k) 256, mul_assoc 256 (256 ^ length k) (from_bytes l)) (omega arith)
-
--- a number read in two
-pub from_bytes-split : (t : List ℕ) (at n m : ℕ) → at + n ≤ length t
-    → from_bytes (slice t at (n + m)) ≡ from_bytes (slice t at n) + 256 ^ n * from_bytes (slice t (at + n) m)
-from_bytes-split t at n m h =
-    ap from_bytes (slice-split t at n m) ∙ from_bytes-append (slice t at n) (slice t (at + n) m)
-    ∙ ap (λ (k : ℕ). from_bytes (slice t at n) + 256 ^ k * from_bytes (slice t (at + n) m)) (length-slice t at n h)
-
-pub to_bytes-split : (j k n : ℕ) → to_bytes (j + k) n ≡ to_bytes j n ++ to_bytes k (n / 256 ^ j)
-to_bytes-split zero k n = rw (zero-add, div-one) refl
-to_bytes-split (suc j) k n =
-    rw (suc-add j k, pow-suc 256 j, mul_comm (256 ^ j) 256, ← div-div-eq-div-mul n 256 (256 ^ j)) (ap (λ (l : List ℕ). n % 256 ∷ l) (to_bytes-split j k (n / 256)))
-
--- a number written in two: x has the j lowest bytes, and y the next k
-pub splice-split : {x y : List ℕ} (t : List ℕ) (at j k n : ℕ) → at + j ≤ length t → x ≡ splice t at (to_bytes j n)
-    → y ≡ splice x (at + j) (to_bytes k (n / 256 ^ j)) → y ≡ splice t at (to_bytes (j + k) n)
-splice-split t at j k n h e f =
-    let len = length-to_bytes j n in
-    f ∙ rw (e, to_bytes-split j k n) (rw (len) at (splice-splice t at (to_bytes j n) (omega arith) (to_bytes k (n / 256 ^ j))))
 
 -- bytes or-ed together are zero where each is
 pub or_all : (n : ℕ) (l : List ℕ) → eqb (fold bit_or n l) 0 ≡ eqb n 0 && all_of (λ b. eqb b 0) l

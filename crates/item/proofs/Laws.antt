@@ -10,8 +10,8 @@ use native.Mathlib.Nat.{add-zero, zero-add, suc-add}
 use native.Mathlib.Numerals.{add-one}
 use native.Mathlib.Omega.{arith}
 use lib.Dec.{eqb, ltb, lit<}
-use lib.ListN.{length, length-take, get_or, take, drop, set, replicate, length-append, length-replicate, length-map, take-append-drop}
-use lib.Seq.{append_snoc, take_at, take-suc, take-append_seam, take-nil, take-take, paste, drop_at, drop-cons, drop-drop, get_or-drop, get_or-append-add, set_at, length-take-le}
+use lib.ListN.{length, length-take, get_or, take, drop, set, replicate, length-append, length-replicate, length-map}
+use lib.Seq.{take_at, take-suc, take-append_seam, take-nil, take-take, paste, drop_at, drop-cons, drop-drop, get_or-drop, set_at, length-take-le}
 use Rattle.buffer.specs.Bytes.{slice, splice, padded}
 use Rattle.lists.specs.Lists.{member, filter, find_index, remove_at, without_places}
 use Rattle.lists.proofs.Laws.{filter-append, filter-length, remove_at_le, remove_at-length, remove_at-without, remove_at-past}

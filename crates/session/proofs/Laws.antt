@@ -23,7 +23,7 @@ use Rattle.message.specs.Outbox.{message, plain}
 use Rattle.session.specs.declared.Session.{Session}
 use Rattle.session.specs.Record.{size, session_at, session_bytes, put_session}
 use Rattle.session.specs.Stage
-use Rattle.session.specs.Rules.{After, after, dropped, probes_from, stored_probes, stored, to_held, requested, released, granted, resent, aborted, cleaned, cleaned_waiting, cleaned_victim, rolled_back, junior, kept_probe, probed, received}
+use Rattle.session.specs.Rules.{After, after, dropped, probes_from, stored_probes, stored, to_held, requested, granted, resent, aborted, cleaned, cleaned_waiting, cleaned_victim, rolled_back, junior, kept_probe, probed, received}
 
 -- what holds of both branches holds of the conditional
 pub either : {A : Type 0} (P : A → Type 0) (b : Bool) {x y : A} → P x → P y → P (cond b x y)
@@ -120,8 +120,8 @@ pub stored_probes-length : (s : Session) (x : ℕ) → length (stored_probes s x
 stored_probes-length s x = probes_from-length x 1 s.juniors
 
 -- so those sent first are no more
-pub held_fits : (kind x held : ℕ) (p q : List Message) → p ++ q ≡ to_held kind x held → length p ≤ 64
-held_fits kind x held p q e = omega (arith, ap length e, length-append p q, to_held-length kind x held)
+pub to_held-front : (kind x held : ℕ) (p q : List Message) → p ++ q ≡ to_held kind x held → length p ≤ 64
+to_held-front kind x held p q e = omega (arith, ap length e, length-append p q, to_held-length kind x held)
 
 -- at most 65 messages are sent
 record Few (r : After) : Type 0 where
@@ -129,10 +129,6 @@ record Few (r : After) : Type 0 where
 
 sent : {s : Session} (l : List Message) → length l ≤ 65 → Few (after s l)
 sent l h = record { few = h }
-
-pub released-length : (s : Session) (x : ℕ) → length (released x s).sends ≤ 65
-unfolding released
-released-length s x = omega arith
 
 module _ (s : Session) (j : length s.juniors ≡ 64) where
   none-sent : Few (dropped s)

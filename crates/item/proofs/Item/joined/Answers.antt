@@ -1,12 +1,8 @@
 -- `Item::joined` meets its contract, by what `with`, `push` and `senior` ensure.
 use mathlib.Core.Path.{refl}
 use mathlib.Core.List.{[]}
-use lib.Dec.{lit<}
 use Rattle.item.specs.Rules.{queued}
 use Rattle.item.proofs.Item.joined.Goals as goal
-
-pub push-outbox-requires : goal.push-outbox-requires
-push-outbox-requires c = rw c.empty-outbox.ensures (lit< tt)
 
 pub returns-then-senior : goal.returns-then-senior
 unfolding queued

@@ -12,19 +12,12 @@ use Rattle.session.specs.Seniority.{senior}
 use Rattle.item.specs.Record.{unpacked}
 use Rattle.item.specs.Rules.{probes, resends, without, on_clean}
 use Rattle.lists.proofs.Laws.{remove_at_le}
-use Rattle.item.proofs.Laws.{step_eq, queue-length, holds-queue, holds-waiting, probes_fit, place_inside, taken-out}
+use Rattle.item.proofs.Laws.{step_eq, queue-length, holds-queue, holds-waiting, probes_fit, taken-out}
 use Rattle.item.proofs.Item.on_clean.Goals as goal
 
 pub returns-then-holder-eq0 : goal.returns-then-holder-eq0
 unfolding on_clean
 returns-then-holder-eq0 c = rw (eq-eqb _ _ c.if-holder-eq0.true) c.dropped.ensures
-
-pub probes-requires : goal.probes-requires
-probes-requires c =
-    (c.requires.fits, rw c.single-first.ensures (omega arith))
-
-pub without-others-requires-clause-inside : goal.without-others-requires-clause-inside
-without-others-requires-clause-inside c = place_inside c.args.self c.requires c.args.t c.place.result c.place.ensures
 
 pub resends-outbox-requires : goal.resends-outbox-requires
 unfolding without

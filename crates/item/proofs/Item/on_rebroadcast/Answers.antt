@@ -12,9 +12,6 @@ pub returns-then-self-eq0 : goal.returns-then-self-eq0
 unfolding on_rebroadcast
 returns-then-self-eq0 c = rw (eq-eqb _ _ c.if-self-eq0.true) c.dropped.ensures
 
-pub probes-requires : goal.probes-requires
-probes-requires c = (c.requires.fits, rw c.empty.ensures (omega arith))
-
 pub resends-outbox-requires : goal.resends-outbox-requires
 resends-outbox-requires c =
     let i = c.args.self in

@@ -12,9 +12,6 @@ unfolding on_request
 returns-then-holder-eq0 c =
     rw (← c.waits.ensures, c.if-holder-t.false, eq-eqb _ _ c.if-holder-eq0.true) c.granted.ensures
 
-pub joined-requires : goal.joined-requires
-joined-requires c = let f = c.requires in record { packed = f; room = f.room c.if-holder-eq0.false }
-
 pub returns : goal.returns
 unfolding on_request
 returns c =

@@ -4,11 +4,8 @@ use Rattle.message.specs.Kind
 use Rattle.message.specs.Outbox.{plain}
 use Rattle.item.specs.Record.{unpacked, lock}
 use Rattle.item.specs.Rules.{without, on_withdraw}
-use Rattle.item.proofs.Laws.{step_eq, place_inside, taken-out}
+use Rattle.item.proofs.Laws.{step_eq, taken-out}
 use Rattle.item.proofs.Item.on_withdraw.Goals as goal
-
-pub without-item-requires-clause-inside : goal.without-item-requires-clause-inside
-without-item-requires-clause-inside c = place_inside c.args.self c.requires c.args.t c.place.result c.place.ensures
 
 pub returns : goal.returns
 unfolding on_withdraw

@@ -1,5 +1,5 @@
 -- `Item::resends` meets its contract. The invariant: behind the list given stand the resends to those of the queue that were passed.
-use mathlib.Core.Path.{◌≡◌, sym, ap, ◌∙◌}
+use mathlib.Core.Path.{sym, ap, ◌∙◌}
 use mathlib.Core.List.{append-nil}
 use Prim.Native.Nat.{◌≤◌}
 use native.Mathlib.Omega.{arith}

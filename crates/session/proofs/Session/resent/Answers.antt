@@ -1,14 +1,9 @@
 -- `Session::resent` meets its contract, by what `stored_probes` ensures.
-use mathlib.Core.Path.{refl, ap, ◌∙◌}
+use mathlib.Core.Path.{refl, ◌∙◌}
 use mathlib.Core.List.{[]}
-use native.Mathlib.Omega.{arith}
-use Rattle.message.specs.declared.Outbox.{Outbox}
 use borrow.Author.Tests.{eq-eqb, ne_eqb}
 use Rattle.session.specs.Rules.{resent}
 use Rattle.session.proofs.Session.resent.Goals as goal
-
-pub stored_probes-outbox-requires : goal.stored_probes-outbox-requires
-stored_probes-outbox-requires c = omega (arith, ap (λ (o : Outbox). o.n) c.empty.ensures)
 
 pub returns-then-x-self : goal.returns-then-x-self
 unfolding resent

@@ -5,17 +5,17 @@ use native.Mathlib.Omega.{arith}
 use lib.ListN.{length-append}
 use Rattle.message.proofs.Laws.{push_cells}
 use Rattle.message.specs.Outbox.{plain, outbox_of}
-use Rattle.session.proofs.Laws.{held-take, held_skip, held_none, held_fits}
+use Rattle.session.proofs.Laws.{held-take, held_skip, held_none, to_held-front}
 use Rattle.session.proofs.Session.to_held.Goals as goal
 
 pub offset_bounds-at-n : goal.offset_bounds-at-n
-offset_bounds-at-n c = omega (arith, held_fits _ _ _ c.loop-y.invariant.0 _ c.loop-y.invariant.3)
+offset_bounds-at-n c = omega (arith, to_held-front _ _ _ c.loop-y.invariant.0 _ c.loop-y.invariant.3)
 
 pub bounds-at-n : goal.bounds-at-n
-bounds-at-n c = omega (arith, held_fits _ _ _ c.loop-y.invariant.0 _ c.loop-y.invariant.3)
+bounds-at-n c = omega (arith, to_held-front _ _ _ c.loop-y.invariant.0 _ c.loop-y.invariant.3)
 
 pub overflow_add-n : goal.overflow_add-n
-overflow_add-n c = omega (arith, held_fits _ _ _ c.loop-y.invariant.0 _ c.loop-y.invariant.3)
+overflow_add-n c = omega (arith, to_held-front _ _ _ c.loop-y.invariant.0 _ c.loop-y.invariant.3)
 
 pub loop-y-preserved-then-y-but : goal.loop-y-preserved-then-y-but
 loop-y-preserved-then-y-but c =
@@ -24,7 +24,7 @@ loop-y-preserved-then-y-but c =
     let m = plain c.in-Some.y a.kind in (
       p.0 ++ (m ∷ []),
       rw p.1 (sym (length-append p.0 (m ∷ []))),
-      rw (p.2, p.1) (push_cells p.0 m (omega (arith, held_fits _ _ _ p.0 _ p.3))),
+      rw (p.2, p.1) (push_cells p.0 m (omega (arith, to_held-front _ _ _ p.0 _ p.3))),
       rw (append_assoc, ← held-take a.kind a.but _ c.in-Some.y c.next.new.self.0 c.in-Some.ensures.steps c.if-y-but.true) p.3,
     )
 
