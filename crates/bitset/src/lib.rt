@@ -47,6 +47,7 @@ impl Iterator for Members {
 }
 
 // The mask of k alone, empty where k is 0.
+#[tactic(auto, using(crate::proofs::Laws::shift_one), unfolding(crate::specs::Bitset::single))]
 pub fn single(k: u8) -> u64
     requires { k ≤ 64 }
     ensures { result ≡ single k }
@@ -63,6 +64,7 @@ pub fn full(m: u8) -> u64
 }
 
 // Whether k is in the mask.
+#[tactic(auto, unfolding(crate::specs::Bitset::has))]
 pub fn contains(mask: u64, k: u8) -> bool
     requires { (1 ≤ k) × (k ≤ 64) }
     ensures { result ≡ has k mask }
@@ -71,6 +73,7 @@ pub fn contains(mask: u64, k: u8) -> bool
 }
 
 // The mask with k in it.
+#[tactic(auto, using(crate::proofs::Laws::shift_one, crate::proofs::Laws::or_bit), unfolding(crate::specs::Bitset::has, crate::specs::Bitset::insert))]
 pub fn insert(mask: u64, k: u8) -> u64
     requires { (1 ≤ k) × (k ≤ 64) }
     ensures { result ≡ insert k mask }
@@ -79,6 +82,7 @@ pub fn insert(mask: u64, k: u8) -> u64
 }
 
 // The mask without k.
+#[tactic(auto, using(crate::proofs::Laws::shift_one, crate::proofs::Laws::present_fits), unfolding(crate::specs::Bitset::remove))]
 pub fn remove(mask: u64, k: u8) -> u64
     requires { (1 ≤ k) × (k ≤ 64) }
     ensures { result ≡ remove k mask }

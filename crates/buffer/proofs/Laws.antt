@@ -95,9 +95,9 @@ module _ (t : List ℕ) (at : ℕ) (a : List ℕ) (h : at + length a ≤ length 
       rw (front, back) (simp append_assoc)
 
 -- a run of bytes written over a part of its length
-pub part-written : {x a : List ℕ} (t : List ℕ) (at k : ℕ) → x ≡ a → length a ≡ k → take at t ++ (x ++ drop k (drop at t)) ≡ splice t at a
+pub part_written : {x a : List ℕ} (t : List ℕ) (at k : ℕ) → x ≡ a → length a ≡ k → take at t ++ (x ++ drop k (drop at t)) ≡ splice t at a
 unfolding splice
-part-written t at k e h = rw (e, h, drop-drop k at t) refl
+part_written t at k e h = rw (e, h, drop-drop k at t) refl
 
 -- a run of bytes at the start of the part from `at` on, which is then back in its place
 pub part-splice : {x : List ℕ} (t : List ℕ) (at : ℕ) (l : List ℕ) → x ≡ splice (slice t at (length t - at)) 0 l
@@ -120,9 +120,9 @@ pub move-byte : (t : List ℕ) (at by : ℕ) → at + by < length t → set t at
 move-byte t at by h =
     rw (drop-cons t (at + by) 0 h) (set-splice t at (get_or t (at + by) 0) (omega arith))
 
-pub move-all : (t : List ℕ) (at by n m : ℕ) → at + by + n ≤ length t → m ≡ n → paste t at (drop (at + by) t) m ≡ moved_down t at by n
+pub move_all : (t : List ℕ) (at by n m : ℕ) → at + by + n ≤ length t → m ≡ n → paste t at (drop (at + by) t) m ≡ moved_down t at by n
 unfolding splice
-move-all t at by n m h e =
+move_all t at by n m h e =
     let len = length-slice t (at + by) n h in
     rw (e, len) (append_assoc (take at t) (slice t (at + by) n) (drop (at + n) t))
 

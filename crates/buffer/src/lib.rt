@@ -56,6 +56,7 @@ pub fn get_row<const N: usize>(t: &[u8], at: usize) -> [u8; N]
 }
 
 // Writes N bytes at `at`.
+#[tactic(auto, using(crate::proofs::Laws::part_written))]
 pub fn put_row<const N: usize>(t: &mut [u8], at: usize, row: [u8; N])
     requires { at + N ≤ length t.old }
     ensures { t.new ≡ splice t.old at row.entry }
@@ -64,6 +65,7 @@ pub fn put_row<const N: usize>(t: &mut [u8], at: usize, row: [u8; N])
 }
 
 // Moves n bytes down by `by` to `at`.
+#[tactic(auto, using(crate::proofs::Laws::move_all))]
 pub fn move_down(t: &mut [u8], at: usize, by: usize, n: usize)
     requires { at + by + n ≤ length t.old }
     ensures { t.new ≡ splice t.old at (slice t.old (at + by) n) }
@@ -72,6 +74,7 @@ pub fn move_down(t: &mut [u8], at: usize, by: usize, n: usize)
 }
 
 // Writes n zeros at `at`.
+#[tactic(auto, using(crate::proofs::Laws::part_written))]
 pub fn put_zeros(t: &mut [u8], at: usize, n: usize)
     requires { at + n ≤ length t.old }
     ensures { t.new ≡ splice t.old at (replicate n 0) }
@@ -80,6 +83,7 @@ pub fn put_zeros(t: &mut [u8], at: usize, n: usize)
 }
 
 // Writes bytes as they are, and answers the place behind them.
+#[tactic(auto, using(crate::proofs::Laws::part_written))]
 pub fn put_bytes(t: &mut [u8], at: usize, bytes: &[u8]) -> usize
     requires { at + length bytes.now ≤ length t.old }
     ensures { (t.new ≡ splice t.old at bytes.now) × (result ≡ at + length bytes.now) }

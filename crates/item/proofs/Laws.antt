@@ -2,7 +2,7 @@
 use mathlib.Core.Path.{◌≡◌, refl, sym, ap, ◌∙◌}
 use mathlib.Core.Bool.{Bool, true, false, cond, not, ◌||◌}
 use mathlib.Core.List.{List, [], ◌∷◌, ◌++◌, map, map-append, append_assoc, append-nil}
-use Rattle.std.proofs.Common.{Option, Some, None, MatchOption, IfSome, position, subst}
+use Rattle.std.proofs.Common.{Option, Some, None, MatchOption, position, subst}
 use Rattle.std.specs.List.{list_any, position_or_len}
 use borrow.Author.Tests.{ltb-true, ltb-false}
 use Prim.Native.Nat.{ℕ, zero, suc, ◌+◌, ◌-◌, ◌≤◌, ◌<◌}
@@ -170,16 +170,12 @@ module _ (i : Item) (f : Packed i) (t : ℕ) where
   placed : (o : Option ℕ) → o ≡ position (λ q. eqb q t) (unpacked i).queue → Placed o
   placed o e = subst Placed (sym e) (position_is (λ q. eqb q t) (unpacked i).queue)
 
-  pub place_inside : (o : Option ℕ) → o ≡ position (λ q. eqb q t) (unpacked i).queue → IfSome o (λ k. k < i.waiting)
-  place_inside None e = tt
-  place_inside (Some k) e = rw (queue-length i f) at (placed (Some k) e).0
-
-  pub taken-out : (o : Option ℕ) (r : Item) → o ≡ position (λ q. eqb q t) (unpacked i).queue
+  pub taken_out : (o : Option ℕ) (r : Item) → o ≡ position (λ q. eqb q t) (unpacked i).queue
       → MatchOption o (r ≡ i) (λ k. r ≡ packed (lock i.holder (remove_at k (unpacked i).queue))) → r ≡ packed (lock i.holder (without t (unpacked i).queue))
   unfolding without
-  taken-out None r e m =
+  taken_out None r e m =
       m ∙ f.zeros ∙ ap (λ (q : List ℕ). packed (lock i.holder q)) (sym (remove_at-past _ (unpacked i).queue (placed None e)))
-  taken-out (Some k) r e m = m ∙ ap (λ (n : ℕ). packed (lock i.holder (remove_at n (unpacked i).queue))) (sym (placed (Some k) e).1)
+  taken_out (Some k) r e m = m ∙ ap (λ (n : ℕ). packed (lock i.holder (remove_at n (unpacked i).queue))) (sym (placed (Some k) e).1)
 
 -- one message more behind a list given, as the loops have it
 pub push_outbox : (o : Outbox) (l p q : List Message) (m : Message) → o.n < room → o ≡ outbox_of (l ++ p) → q ≡ p ++ (m ∷ [])

@@ -97,6 +97,7 @@ impl Item {
     }
 
     // The place of the next holder, the most senior session of the queue.
+    #[tactic(auto, unfolding(crate::specs::NextHolder::next_holder))]
     fn next_holder(self, ranks: &[u8]) -> usize
         requires { (0 < self.waiting) × (self.waiting ≤ max_sessions) }
         ensures { (result ≡ next_holder (senior ranks.now) (unpacked self).queue) × (result < self.waiting) }
@@ -199,6 +200,7 @@ impl Item {
     }
 
     // The free item is granted to session t.
+    #[tactic(auto, using(crate::proofs::Laws::packed_eq), unfolding(crate::specs::Rules::granted))]
     fn granted(mut self, t: u8) -> ItemStep
         requires { Packed self }
         ensures { result ≡ step_of (granted t (unpacked self)) }
@@ -213,6 +215,7 @@ impl Item {
     }
 
     // Session t joins the end of the queue.
+    #[tactic(auto, unfolding(crate::specs::Rules::queued))]
     fn joined(self, ranks: &[u8], t: u8) -> ItemStep
         requires { Joinable self }
         ensures { result ≡ step_of (queued (senior ranks.now) t (unpacked self)) }
@@ -346,6 +349,7 @@ impl Item {
     }
 
     // What an item does on a message, by its kind. Any other kind is dropped.
+    #[tactic(auto, unfolding(crate::specs::Rules::received))]
     pub fn receive(self, ranks: &[u8], m: Message) -> ItemStep
         requires { Packed self }
         ensures { result ≡ step_of (received (senior ranks.now) (next_holder (senior ranks.now)) (unpacked self) m) }

@@ -1,6 +1,6 @@
 -- Laws of a session record and its bytes, and of the messages that a session sends.
 use mathlib.Core.Path.{◌≡◌, refl, sym, ap, ◌∙◌}
-use mathlib.Core.Bool.{Bool, true, cond, not, ◌||◌}
+use mathlib.Core.Bool.{Bool, cond, not, ◌||◌}
 use mathlib.Core.List.{List, [], ◌∷◌, ◌++◌}
 use Prim.Native.Nat.{ℕ, zero, suc, ◌+◌, ◌^◌, ◌≤◌, ◌<◌, zero-le}
 use native.Mathlib.Nat.{add-zero, zero-add, suc-add}
@@ -28,10 +28,6 @@ use Rattle.session.specs.Rules.{After, after, dropped, probes_from, stored_probe
 -- what holds of both branches holds of the conditional
 pub either : {A : Type 0} (P : A → Type 0) (b : Bool) {x y : A} → P x → P y → P (cond b x y)
 either P b p q = by-test P b (λ _. p) (λ _. q)
-
--- a session that takes probes and does not grow waits
-pub waits_else : (n : ℕ) → Stage.takes_probes n ≡ true → (n ≡ Stage.growing → ⊥) → eqb n Stage.waiting ≡ true
-waits_else n e f = rw (ne_eqb n Stage.growing f) at e
 
 -- a part of the front of a list
 slice-take : (k n m : ℕ) (l : List ℕ) → n ≤ m → slice (take (k + m) l) k n ≡ slice l k n
@@ -104,9 +100,9 @@ pub held_none : (kind x held : ℕ) → members held ≡ [] → to_held kind x h
 unfolding to_held filter
 held_none kind x held e = rw (e) refl
 
-pub to_held-length : (kind x held : ℕ) → length (to_held kind x held) ≤ 64
+pub to_held_length : (kind x held : ℕ) → length (to_held kind x held) ≤ 64
 unfolding to_held
-to_held-length kind x held =
+to_held_length kind x held =
     let passed = filter (λ y. not (eqb y x)) (members held) in
     omega (arith, length-map passed (λ y. plain y kind), filter-length (λ y. not (eqb y x)) (members held), bits_length 64 1 held)
 
@@ -121,7 +117,7 @@ stored_probes-length s x = probes_from-length x 1 s.juniors
 
 -- so those sent first are no more
 pub to_held-front : (kind x held : ℕ) (p q : List Message) → p ++ q ≡ to_held kind x held → length p ≤ 64
-to_held-front kind x held p q e = omega (arith, ap length e, length-append p q, to_held-length kind x held)
+to_held-front kind x held p q e = omega (arith, ap length e, length-append p q, to_held_length kind x held)
 
 -- at most 65 messages are sent
 record Few (r : After) : Type 0 where
@@ -158,13 +154,13 @@ module _ (s : Session) (j : length s.juniors ≡ 64) where
 
   cleaned-few : (x : ℕ) → Few (cleaned x s)
   unfolding cleaned
-  cleaned-few x = record { few = omega (arith, to_held-length Kind.rebroadcast x s.held) }
+  cleaned-few x = record { few = omega (arith, to_held_length Kind.rebroadcast x s.held) }
 
   cleaned_waiting-few : (x a b : ℕ) → Few (cleaned_waiting x a b s)
   unfolding cleaned_waiting
   cleaned_waiting-few x a b =
       let first = to_held Kind.rebroadcast x s.held in
-      record { few = omega (arith, length-append first (message s.awaited Kind.clean a b ∷ []), to_held-length Kind.rebroadcast x s.held) }
+      record { few = omega (arith, length-append first (message s.awaited Kind.clean a b ∷ []), to_held_length Kind.rebroadcast x s.held) }
 
   cleaned_victim-few : (t a : ℕ) → Few (cleaned_victim t a s)
   unfolding cleaned_victim
@@ -172,7 +168,7 @@ module _ (s : Session) (j : length s.juniors ≡ 64) where
 
   rolled_back-few : Few (rolled_back s)
   unfolding rolled_back
-  rolled_back-few = record { few = omega (arith, to_held-length Kind.release 0 s.held) }
+  rolled_back-few = record { few = omega (arith, to_held_length Kind.release 0 s.held) }
 
   module _ (senior : ℕ → ℕ → Bool) where
     kept_probe-few : (i k : ℕ) → Few (kept_probe senior i k s)

@@ -37,8 +37,8 @@ module _ (ranks : List ℕ) where
   rank_none t h = rank_outside t (fails _ (λ e. omega (arith, within 1 n t e)))
 
   -- any other number's rank is read in its place, or else is the number
-  pub rank-read : (t k : ℕ) → t ≡ suc k → get_or ranks k t ≡ rank ranks t
-  rank-read t k h = by_answer (ltb k n)
+  pub rank_read : (t k : ℕ) → t ≡ suc k → get_or ranks k t ≡ rank ranks t
+  rank_read t k h = by_answer (ltb k n)
       (λ e. let inside = ltb-true k n e in let place : t - 1 ≡ k = omega arith in
       get_or_default ranks k t 0 inside ∙ rw (← place) (sym (rank-inside t (between_intro 1 n t (omega arith) (omega arith)))))
       (λ e. let past = ltb-false k n e in get_or_past ranks k t (omega arith) ∙ sym (rank_outside t (fails _ (λ w. omega (arith, within 1 n t w)))))

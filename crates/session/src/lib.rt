@@ -55,6 +55,7 @@ impl Session {
     pub const SIZE: usize = Session::JUNIORS_PLACE + MAX_SESSIONS;
 
     // The rank of session t; a number that is no session's is its own rank.
+    #[tactic(auto, using(crate::proofs::Seniority::rank_none, crate::proofs::Seniority::rank_read))]
     fn rank(ranks: &[u8], t: u8) -> u8
         ensures { result ≡ rank ranks.now t }
     {
@@ -65,6 +66,7 @@ impl Session {
     }
 
     // Whether session a is senior to session b.
+    #[tactic(auto, unfolding(crate::specs::Seniority::senior))]
     pub fn senior(ranks: &[u8], a: u8, b: u8) -> bool
         ensures { result ≡ senior ranks.now a b }
     {
@@ -89,6 +91,7 @@ impl Session {
     }
 
     // The more junior of two sessions.
+    #[tactic(auto, unfolding(crate::specs::Rules::junior))]
     fn junior(ranks: &[u8], j: u8, t: u8) -> u8
         ensures { result ≡ junior (senior ranks.now) j t }
     {
@@ -162,6 +165,7 @@ impl Session {
     }
 
     // The call to request item x.
+    #[tactic(auto, unfolding(crate::specs::Rules::requested))]
     pub fn request(mut self, x: u8) -> SessionStep
         ensures { result ≡ step_of (requested x self) }
     {
@@ -176,6 +180,7 @@ impl Session {
     }
 
     // The call to release item x.
+    #[tactic(auto, unfolding(crate::specs::Rules::released))]
     pub fn release(mut self, x: u8) -> SessionStep
         requires { (1 ≤ x) × (x ≤ 64) }
         ensures { result ≡ step_of (released x self) }
@@ -202,6 +207,7 @@ impl Session {
     }
 
     // Grant, stage 2, from the awaited item.
+    #[tactic(auto, unfolding(crate::specs::Rules::granted))]
     fn granted(mut self, x: u8) -> SessionStep
         requires { IsItem x }
         ensures { result ≡ step_of (granted x self) }
@@ -220,6 +226,7 @@ impl Session {
     }
 
     // Resend, stage 2, from the awaited item.
+    #[tactic(auto, unfolding(crate::specs::Rules::resent))]
     fn resent(self, x: u8) -> SessionStep
         ensures { result ≡ step_of (resent x self) }
     {
@@ -234,6 +241,7 @@ impl Session {
     }
 
     // Abort, stage 2.
+    #[tactic(auto, unfolding(crate::specs::Rules::aborted))]
     fn aborted(mut self, a: u8, b: u8) -> SessionStep
         ensures { result ≡ step_of (aborted a b self) }
     {
@@ -247,6 +255,7 @@ impl Session {
     }
 
     // Clean, stage 1.
+    #[tactic(auto, unfolding(crate::specs::Rules::cleaned))]
     fn cleaned(mut self, x: u8) -> SessionStep
         ensures { result ≡ step_of (cleaned x self) }
     {
@@ -259,6 +268,7 @@ impl Session {
     }
 
     // Clean, stage 2.
+    #[tactic(auto, using(crate::proofs::Laws::to_held_length), unfolding(crate::specs::Rules::cleaned_waiting))]
     fn cleaned_waiting(mut self, x: u8, a: u8, b: u8) -> SessionStep
         ensures { result ≡ step_of (cleaned_waiting x a b self) }
     {
@@ -282,6 +292,7 @@ impl Session {
     }
 
     // Clean, stage 4: session t, if it is the victim, withdraws.
+    #[tactic(auto, unfolding(crate::specs::Rules::cleaned_victim))]
     fn cleaned_victim(mut self, t: u8, a: u8) -> SessionStep
         ensures { result ≡ step_of (cleaned_victim t a self) }
     {
@@ -297,6 +308,7 @@ impl Session {
     }
 
     // Withdrawn, stage 5.
+    #[tactic(auto, unfolding(crate::specs::Rules::rolled_back))]
     fn rolled_back(mut self) -> SessionStep
         ensures { result ≡ step_of (rolled_back self) }
     {
@@ -311,6 +323,7 @@ impl Session {
     }
 
     // The junior j stored for initiator i, if it is news; in stage 2 the probe goes to the awaited item.
+    #[tactic(auto, unfolding(crate::specs::Rules::kept_probe))]
     fn kept_probe(mut self, ranks: &[u8], i: u8, j: u8) -> SessionStep
         requires { Storable i self }
         ensures { result ≡ step_of (kept_probe (senior ranks.now) i j self) }
@@ -333,6 +346,7 @@ impl Session {
     }
 
     // Probe (i, j), stages 1, 2.
+    #[tactic(auto, unfolding(crate::specs::Rules::probed))]
     fn probed(self, ranks: &[u8], t: u8, i: u8, j: u8) -> SessionStep
         requires { Storable i self }
         ensures { result ≡ step_of (probed (senior ranks.now) t i j self) }
@@ -341,6 +355,7 @@ impl Session {
     }
 
     // What session t does on a message, by the kind and then by its stage. Any pair not named is dropped.
+    #[tactic(auto, unfolding(crate::specs::Rules::received))]
     pub fn receive(self, ranks: &[u8], t: u8, m: Message) -> SessionStep
         requires { Deliverable m }
         ensures { result ≡ step_of (received (senior ranks.now) t self m) }

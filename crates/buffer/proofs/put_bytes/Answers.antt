@@ -1,8 +1,0 @@
--- `put_bytes` meets its contract: a part of the buffer is written over.
-use mathlib.Core.Path.{refl}
-use native.Mathlib.Omega.{arith}
-use Rattle.buffer.proofs.Laws.{part-written}
-use Rattle.buffer.proofs.put_bytes.Goals as goal
-
-pub returns : goal.returns
-returns c = (part-written c.args.t.now c.args.at _ c.copy_from_slice.ensures.after (omega arith), refl)
