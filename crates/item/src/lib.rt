@@ -349,6 +349,7 @@ impl Item {
     }
 
     // What an item does on a message, by its kind. Any other kind is dropped.
+    // Kept by hand: 01 names the match on the kind.
     #[tactic(auto, unfolding(crate::specs::Rules::received))]
     pub fn receive(self, ranks: &[u8], m: Message) -> ItemStep
         requires { Packed self }

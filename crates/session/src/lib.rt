@@ -31,6 +31,7 @@ pub struct SessionStep {
 }
 
 impl Session {
+    // Kept as numbers: 01 names associated constants for the stages, and a stage is a byte of the record.
     pub const GROWING: u8 = 1;
 
     pub const WAITING: u8 = 2;
@@ -355,6 +356,7 @@ impl Session {
     }
 
     // What session t does on a message, by the kind and then by its stage. Any pair not named is dropped.
+    // Kept by hand: 01 names the match on the kind, then on the stage.
     #[tactic(auto, unfolding(crate::specs::Rules::received))]
     pub fn receive(self, ranks: &[u8], t: u8, m: Message) -> SessionStep
         requires { Deliverable m }
