@@ -6,7 +6,7 @@ use native.Mathlib.Nat.{add_assoc, add-zero, zero-add, pow-suc}
 use native.Mathlib.Numerals.{add-one}
 use native.Mathlib.Omega.{arith}
 use lib.ListN.{length, get_or, take, drop, set, length-append, length-drop, take-append-drop, drop_of_length-le}
-use lib.Seq.{set_split, set-append_seam, take_at, take-add, take-append-le, take-append_seam, drop_at, drop-append-add, drop-append-le, drop-drop, length-take-le, drop-cons, get_or-drop, get_or-take, take-suc, take_all, paste, sets, sets-eq}
+use lib.Seq.{take-length, set_split, set-append_seam, take_at, take-add, take-append-le, take-append_seam, drop_at, drop-append-add, drop-append-le, drop-drop, length-take-le, drop-cons, get_or-drop, get_or-take, take-suc, take_all, paste, sets, sets-eq}
 use mathlib.Core.Bool.{◌&&◌, and-true, and_assoc}
 use lib.Bits.{bit_or}
 use lib.Dec.{eqb}
@@ -155,6 +155,11 @@ padded-full m l h = let none : m - length l ≡ 0 = omega arith in rw (none) (ap
 pub sets-splice : (t : List ℕ) (at : ℕ) (vs : List ℕ) → at + length vs ≤ length t → sets t at vs ≡ splice t at vs
 unfolding splice
 sets-splice t at vs h = sets-eq vs t at h ∙ append_assoc (take at t) vs (drop (at + length vs) t)
+
+-- a copy of a whole list
+pub paste-splice : (t : List ℕ) (at : ℕ) (l : List ℕ) (n : ℕ) → n ≡ length l → paste t at l n ≡ splice t at l
+unfolding splice
+paste-splice t at l n e = rw (e, take-length) (append_assoc (take at t) l (drop (at + length l) t))
 
 -- the bytes of a number make the number
 pub from_bytes-to_bytes : (k n : ℕ) → n < 256 ^ k → from_bytes (to_bytes k n) ≡ n
