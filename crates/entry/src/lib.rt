@@ -15,6 +15,14 @@ pub const TO_ITEM: u8 = 1;
 
 pub const TO_SESSION: u8 = 2;
 
+// The route of an entry.
+#[derive(Clone, Copy)]
+pub struct Route {
+    pub direction: u8,
+    pub session: u8,
+    pub item: u8,
+}
+
 // The bytes of a route, and those of a body.
 pub const WIDTH: usize = 3;
 
@@ -53,13 +61,11 @@ fn thrice(a: u8, b: u8, c: u8) -> [u8; BLOCK_CELLS]
     ensures { result ≡ thrice block_entries a b c }
 {
     let mut r = [0u8; BLOCK_CELLS];
-    let mut i: usize = 0;
-    while i < BLOCK_ENTRIES {
+    for i in 0..BLOCK_ENTRIES {
         let at = WIDTH * i;
         r[at] = a;
         r[at + 1] = b;
         r[at + 2] = c;
-        i += 1;
     }
     r
 }
@@ -77,10 +83,8 @@ fn block(
     ensures { result ≡ every_below block_cells (cell_at m.now tops.now highs.now skips.now at to) }
 {
     let mut ok = true;
-    let mut i: usize = 0;
-    while i < BLOCK_CELLS {
-        ok = ok & cell(m, at + i, to + i, tops[i], highs[i], skips[i]);
-        i += 1;
+    for i in 0..BLOCK_CELLS {
+        ok &= cell(m, at + i, to + i, tops[i], highs[i], skips[i]);
     }
     ok
 }
@@ -127,12 +131,9 @@ pub fn well_formed(m: &[u8], at: usize, to: usize, n: usize, s: u8, x: u8) -> bo
     requires { (at + width * n ≤ length m.now) × (to + width * n ≤ length m.now) }
     ensures { result ≡ every_below n (λ k. Entry.well_formed s x (entry_from m.now (at + width * k) (to + width * k))) }
 {
-    let mut i = formed(m, at, to, n, s, x);
-    while i < n {
+    for i in formed(m, at, to, n, s, x)..n {
         let p = WIDTH * i;
-        if entry(m, at + p, to + p, s, x) {
-            i += 1;
-        } else {
+        if !entry(m, at + p, to + p, s, x) {
             return false;
         }
     }
@@ -140,51 +141,31 @@ pub fn well_formed(m: &[u8], at: usize, to: usize, n: usize, s: u8, x: u8) -> bo
 }
 
 // Whether the three bytes at `at` are not the route: the item is looked at first, then the session, the direction last.
-fn off(m: &[u8], at: usize, d: u8, t: u8, x: u8) -> bool
+fn off(m: &[u8], at: usize, route: Route) -> bool
     requires { at + width ≤ length m.now }
-    ensures { result ≡ misses m.now d t x at }
+    ensures { result ≡ misses m.now route.direction route.session route.item at }
 {
-    let item = m[at + 2];
-    if item != x {
-        return true;
-    }
-    let session = m[at + 1];
-    if session != t {
-        return true;
-    }
-    let direction = m[at];
-    direction != d
+    (m[at + 2] != route.item) || (m[at + 1] != route.session) || (m[at] != route.direction)
 }
 
 // Whether the route at `at` differs from the one searched for: in its item, from depth 2 on in its session too, at depth 3 in its direction too; with no branch.
-fn differs(m: &[u8], at: usize, depth: u8, d: u8, t: u8, x: u8) -> bool
+fn differs(m: &[u8], at: usize, depth: u8, route: Route) -> bool
     requires { at + width ≤ length m.now }
-    ensures { result ≡ differs m.now depth d t x at }
+    ensures { result ≡ differs m.now depth route.direction route.session route.item at }
 {
-    let item = m[at + 2];
-    let session = m[at + 1];
-    let direction = m[at];
-    (item != x) | ((depth >= 2) & (session != t)) | ((depth >= 3) & (direction != d))
+    (m[at + 2] != route.item)
+        | ((depth >= 2) & (m[at + 1] != route.session))
+        | ((depth >= 3) & (m[at] != route.direction))
 }
 
 // Whether every entry of a block differs so.
-fn block_differs(
-    m: &[u8],
-    at: usize,
-    depth: u8,
-    d: u8,
-    t: u8,
-    x: u8,
-    skips: &[u8; BLOCK_CELLS],
-) -> bool
+fn block_differs(m: &[u8], at: usize, depth: u8, route: Route, skips: &[u8; BLOCK_CELLS]) -> bool
     requires { at + block_cells + 2 ≤ length m.now }
-    ensures { result ≡ every_below block_cells (differ_cell m.now skips.now depth d t x at) }
+    ensures { result ≡ every_below block_cells (differ_cell m.now skips.now depth route.direction route.session route.item at) }
 {
     let mut ok = true;
-    let mut i: usize = 0;
-    while i < BLOCK_CELLS {
-        ok = ok & ((skips[i] == 1) | differs(m, at + i, depth, d, t, x));
-        i += 1;
+    for i in 0..BLOCK_CELLS {
+        ok &= (skips[i] == 1) | differs(m, at + i, depth, route);
     }
     ok
 }
@@ -196,17 +177,15 @@ fn passed(
     from: usize,
     n: usize,
     depth: u8,
-    d: u8,
-    t: u8,
-    x: u8,
+    route: Route,
     skips: &[u8; BLOCK_CELLS],
 ) -> usize
-    requires { (at + width * n ≤ length m.now) × (skips.now ≡ thrice block_entries 0 1 1) × (from ≤ n) × (every_below from (λ k. misses m.now d t x (at + width * k)) ≡ true) }
-    ensures { (result ≤ n) × (every_below result (λ k. misses m.now d t x (at + width * k)) ≡ true) }
+    requires { (at + width * n ≤ length m.now) × (skips.now ≡ thrice block_entries 0 1 1) × (from ≤ n) × (every_below from (λ k. misses m.now route.direction route.session route.item (at + width * k)) ≡ true) }
+    ensures { (result ≤ n) × (every_below result (λ k. misses m.now route.direction route.session route.item (at + width * k)) ≡ true) }
 {
     let mut i = from;
     while BLOCK_ENTRIES < n - i {
-        if block_differs(m, at + WIDTH * i, depth, d, t, x, skips) {
+        if block_differs(m, at + WIDTH * i, depth, route, skips) {
             i += BLOCK_ENTRIES;
         } else {
             return i;
@@ -217,18 +196,15 @@ fn passed(
 
 // The place of the first of n entries that is on the route, or n; the routes stand from `at` on.
 // Blocks are passed by the item alone up to one that has it, from there by item and session up to one that has both in an entry, from there by the whole route; then the entries one by one.
-pub fn first(m: &[u8], at: usize, n: usize, d: u8, t: u8, x: u8) -> usize
+pub fn first(m: &[u8], at: usize, n: usize, route: Route) -> usize
     requires { at + width * n ≤ length m.now }
-    ensures { (result ≤ n) × (every_below result (λ k. misses m.now d t x (at + width * k)) ≡ true) × (result < n → misses m.now d t x (at + width * result) ≡ false) }
+    ensures { (result ≤ n) × (every_below result (λ k. misses m.now route.direction route.session route.item (at + width * k)) ≡ true) × (result < n → misses m.now route.direction route.session route.item (at + width * result) ≡ false) }
 {
     let skips = thrice(0, 1, 1);
-    let by_item = passed(m, at, 0, n, 1, d, t, x, &skips);
-    let by_session = passed(m, at, by_item, n, 2, d, t, x, &skips);
-    let mut i = passed(m, at, by_session, n, 3, d, t, x, &skips);
-    while 0 < n - i {
-        if off(m, at + WIDTH * i, d, t, x) {
-            i += 1;
-        } else {
+    let by_item = passed(m, at, 0, n, 1, route, &skips);
+    let by_session = passed(m, at, by_item, n, 2, route, &skips);
+    for i in passed(m, at, by_session, n, 3, route, &skips)..n {
+        if !off(m, at + WIDTH * i, route) {
             return i;
         }
     }
@@ -251,10 +227,8 @@ fn cut_one(m: &mut [u8], from: usize, len: usize)
     ensures { m.new ≡ splice m.old from (padded len (drop width (slice m.old from len))) }
 {
     let end = len - WIDTH;
-    let mut n: usize = 0;
-    while n < end {
+    for n in 0..end {
         m[from + n] = m[from + n + WIDTH];
-        n += 1;
     }
     put(m, from + end, 0, 0, 0);
 }

@@ -8,4 +8,4 @@ pub loop-i-preserved : goal.loop-i-preserved
 loop-i-preserved c =
     let a = c.args in
     let l = c.loop-i in
-    (omega arith, miss_on a.m.now a.depth a.d a.t a.x a.at l.i c.requires.1 (sym c.block_differs.ensures ∙ c.if-block_differs.true) l.invariant.1)
+    (omega arith, miss_on a.m.now a.depth a.route.direction a.route.session a.route.item a.at l.i c.requires.1 (sym c.block_differs.ensures ∙ c.if-block_differs.true) l.invariant.1)

@@ -8,7 +8,7 @@ use Rattle.lists.specs.Lists.{every_below}
 use Rattle.entry.proofs.passed.Given as goal
 
 abbrev pub invariant-loop-i : goal.invariant-loop-i
-invariant-loop-i l = (l.i ≤ l.n) × (every_below l.i (λ k. misses l.m l.d l.t l.x (l.at + width * k)) ≡ true)
+invariant-loop-i l = (l.i ≤ l.n) × (every_below l.i (λ k. misses l.m l.route.direction l.route.session l.route.item (l.at + width * k)) ≡ true)
 
 abbrev pub decreases-loop-i : goal.decreases-loop-i
 decreases-loop-i l = l.n - l.i
