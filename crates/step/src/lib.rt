@@ -16,6 +16,7 @@ ghost use Rattle.step.specs.Step.{refused_answer, accepted_answer, delivered, it
 ghost use Rattle.step.specs.Parts.{Judged, Acting, ForItem, ForSession, fitting, room_made, concluded};
 
 use item::{Event, ItemStep};
+use mailbox::Route;
 use session::{Session, SessionStep};
 
 // The answer of a step. A refused step answers its number and zeros.
@@ -70,8 +71,8 @@ fn delivered(verb: u64, t: u8, x: u8, mail: &[u8]) -> usize
     ensures { result ≡ delivered verb t x (entries_of mail.now) }
 {
     match verb {
-        DELIVER_TO_ITEM => mailbox::earliest(mail, mailbox::TO_ITEM, t, x),
-        DELIVER_TO_SESSION => mailbox::earliest(mail, mailbox::TO_SESSION, t, x),
+        DELIVER_TO_ITEM => mailbox::earliest(mail, Route { direction: mailbox::TO_ITEM, session: t, item: x }),
+        DELIVER_TO_SESSION => mailbox::earliest(mail, Route { direction: mailbox::TO_SESSION, session: t, item: x }),
         _ => mailbox::count(mail),
     }
 }

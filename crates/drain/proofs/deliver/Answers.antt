@@ -1,7 +1,7 @@
 -- The route says who receives the entry.
 use mathlib.Core.Path.{sym, ap, ◌∙◌}
 use borrow.Author.Tests.{eq-eqb, ne_eqb}
-use Rattle.mailbox.specs.declared.Route.{Route}
+use Rattle.entry.specs.declared.Route.{Route}
 use Rattle.mailbox.specs.Entry.{to_item}
 use Rattle.mailbox.specs.Layout.{entry_at}
 use Rattle.drain.proofs.Oldest.{due_acts}
