@@ -8,7 +8,8 @@ use borrow.Author.Tests.{eqb-true, eq-eqb, ne_eqb, ltb-true, ltb-false, leb-true
 use lib.Dec.{eqb, leb, ltb, eqb-suc-zero, leb-suc-zero, leb-suc-suc}
 use lib.ListN.{length, get_or, take, drop, replicate, length-append, length-replicate, get_or-replicate, get_or-append, drop_of_length-le}
 use lib.Pow.{suc_ones, ones_lt, pow_mono}
-use lib.Seq.{take-take, take-nil, drop-nil, take_all, get_or-take, length-take-le, take-append-le, drop-append-le, get_or-append-add, append_snoc}
+use lib.Seq.{take-nil, drop-nil, take-suc, take_all, take-append-le, drop-append-le, get_or-append-add, append_snoc}
+use Rattle.std.proofs.lemmas.List.{take-append-drop}
 use Rattle.buffer.specs.Bytes.{slice}
 use Rattle.lists.specs.Lists.{between, member, distinct, all_of}
 use Rattle.lists.proofs.Tests.{and_both, and_intro, eqb-sym, refuted, tests_agree, by_answer}
@@ -16,7 +17,6 @@ use Rattle.lists.proofs.Searches.{distinct-all, all-distinct}
 use Rattle.lists.proofs.Laws.{all_append, all_get_d, all_intro, all-member, all_both, distinct-last, member-append, member-last}
 use Rattle.bitset.specs.Bitset.{has, single, full, insert}
 use Rattle.bitset.proofs.MemberLaws.{has-single, has-insert, has_above, has-full, same-members}
-use Rattle.buffer.proofs.Laws.{slice-split, slice-more, get_d_slice, length-slice}
 use Rattle.message.specs.Limits.{max_sessions}
 use Rattle.session.specs.declared.Session.{Session}
 use Rattle.session.specs.Record as SessionRecord
@@ -64,10 +64,10 @@ limit_case c s n k h l false q =
 pub limit : (c s n k : ℕ) → n ≤ c → k < c → get_or (replicate c s ++ replicate c 0) (c - n + k) 0 ≡ cond (ltb k n) s 0
 limit c s n k h l = limit_case c s n k h l (ltb k n) refl
 
--- a byte within its limit is at most s
-within-at : (s n : ℕ) (l : List ℕ) → within s n l ≡ true → n ≤ length l → (k : ℕ) → k < n → get_or l k 0 ≤ s
-within-at s n l e h k f =
-    rw (← get_or-take n l k 0 f) (leb-true (get_or (take n l) k 0) s (all_get_d (λ b. leb b s) (take n l) k 0 (and_both (all_of (λ b. leb b s) (take n l)) (all_of (λ b. eqb b 0) (drop n l)) e).0 (rw (length-take-le n l h) f)))
+-- the bytes within their limits are at most s
+pub taken_low : (s n : ℕ) (l : List ℕ) → within s n l ≡ true → (k : ℕ) → k < length (take n l) → get_or (take n l) k 0 ≤ s
+taken_low s n l e k f =
+    leb-true (get_or (take n l) k 0) s (all_get_d (λ b. leb b s) (take n l) k 0 (and_both (all_of (λ b. leb b s) (take n l)) (all_of (λ b. eqb b 0) (drop n l)) e).0 f)
 
 -- the mask has h and the sessions of a list
 pub Seen : ℕ → List ℕ → ℕ → Type 0
@@ -124,13 +124,9 @@ pub line-front : (h : ℕ) (k l : List ℕ) → in_line h k ≡ false → in_lin
 line-front h k [] e = rw (append-nil) e
 line-front h k (v ∷ l) e = rw (← append_snoc k v l) (line-front h (k ++ (v ∷ [])) l (line-more h k v ∙ rw (e) refl))
 
-pub line-stop : (t : List ℕ) (at n h i : ℕ) → at + n ≤ length t → i < n → in_line h (slice t at i ++ (get_or t (at + i) 0 ∷ [])) ≡ false
-    → in_line h (slice t at n) ≡ false
-line-stop t at n h i fits l e =
-    let whole : i + 1 + (n - (i + 1)) ≡ n = omega arith in
-    let split : slice t at n ≡ slice t at (i + 1) ++ slice t (at + (i + 1)) (n - (i + 1)) =
-    rw (whole) at (slice-split t at (i + 1) (n - (i + 1))) in
-    rw (split) (line-front h (slice t at (i + 1)) (slice t (at + (i + 1)) (n - (i + 1))) (rw (slice-more t at i (omega arith)) e))
+pub line-stop : (l : List ℕ) (h i : ℕ) → i < length l → in_line h (take i l ++ (get_or l i 0 ∷ [])) ≡ false → in_line h l ≡ false
+line-stop l h i f e =
+    rw (← take-append-drop (suc i) l) (line-front h (take (suc i) l) (drop (suc i) l) (rw (take-suc l i 0 f) e))
 
 -- ---- ranks: a list of n numbers from 1 to n, with the mask that has them
 module _ (l : List ℕ) where
@@ -194,19 +190,9 @@ item-step true false h d m z = sym (and-false (h && z))
 item-step true true false d m z = refl
 item-step true true true d m z = and_comm (d && m) z
 
-module _ (t : List ℕ) (at S : ℕ) where
-  -- an item record, by the tests that its check makes
-  pub item_form : get_or t (at + ItemRecord.waiting_place) 0 ≤ max_sessions
-      → ItemRecord.well_formed S (ItemRecord.item_at t at)
-      ≡ leb (get_or t at 0) S && leb (get_or t (at + ItemRecord.waiting_place) 0) max_sessions
-      && (within S (get_or t (at + ItemRecord.waiting_place) 0) (slice t (at + ItemRecord.queue_place) max_sessions) && in_line (get_or t at 0) (slice t (at + ItemRecord.queue_place) (get_or t (at + ItemRecord.waiting_place) 0)))
-  unfolding ItemRecord.well_formed
-  item_form h =
-      let n = get_or t (at + ItemRecord.waiting_place) 0 in
-      let q : take n (slice t (at + ItemRecord.queue_place) max_sessions) ≡ slice t (at + ItemRecord.queue_place) n = take-take n max_sessions (drop (at + ItemRecord.queue_place) t) h in
-      rw (q, all_both (leb 1) (λ b. leb b S) (slice t (at + ItemRecord.queue_place) n)) (item-step (leb (get_or t at 0) S && leb n max_sessions) (all_of (leb 1) (slice t (at + ItemRecord.queue_place) n)) (all_of (λ b. leb b S) (slice t (at + ItemRecord.queue_place) n)) (distinct (slice t (at + ItemRecord.queue_place) n)) (not (member (get_or t at 0) (slice t (at + ItemRecord.queue_place) n))) (all_of (λ b. eqb b 0) (drop n (slice t (at + ItemRecord.queue_place) max_sessions))))
-
-  -- the bytes of a row within its limits
-  pub row_low : (n : ℕ) → at + max_sessions ≤ length t → n ≤ max_sessions → within S n (slice t at max_sessions) ≡ true → (k : ℕ) → k < n → get_or t (at + k) 0 ≤ S
-  row_low n fits h e k l =
-      rw (← get_d_slice t at max_sessions k (omega arith)) (within-at S n (slice t at max_sessions) e (omega (arith, length-slice t at max_sessions fits)) k l)
+-- an item record, by the tests that its check makes
+pub item_form : (t : List ℕ) (at S : ℕ) {n : ℕ} {l : List ℕ} → n ≡ get_or t (at + ItemRecord.waiting_place) 0 → l ≡ slice t (at + ItemRecord.queue_place) max_sessions
+    → ItemRecord.well_formed S (ItemRecord.item_at t at) ≡ leb (get_or t at 0) S && leb n max_sessions && (within S n l && in_line (get_or t at 0) (take n l))
+unfolding ItemRecord.well_formed
+item_form t at S {n = n} {l = l} p q =
+    rw (← p, ← q, all_both (leb 1) (λ b. leb b S) (take n l)) (item-step (leb (get_or t at 0) S && leb n max_sessions) (all_of (leb 1) (take n l)) (all_of (λ b. leb b S) (take n l)) (distinct (take n l)) (not (member (get_or t at 0) (take n l))) (all_of (λ b. eqb b 0) (drop n l)))
