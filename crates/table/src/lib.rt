@@ -125,22 +125,14 @@ pub fn well_formed(t: &[u8]) -> bool
     let m = items(t);
     let limits = form::limits(s);
     let top = bitset::full(m);
-    let sessions = s as usize;
-    let mut k: usize = 0;
-    while k < sessions {
-        if form::session(t, HEADER + SESSION_STRIDE * k, s, m, top, &limits) {
-            k += 1;
-        } else {
+    for k in 0..usize::from(s) {
+        if !form::session(t, HEADER + SESSION_STRIDE * k, s, m, top, &limits) {
             return false;
         }
     }
     let from = items_start(s);
-    let items = m as usize;
-    let mut x: usize = 0;
-    while x < items {
-        if form::item(t, from + ITEM_STRIDE * x, s, &limits) {
-            x += 1;
-        } else {
+    for x in 0..usize::from(m) {
+        if !form::item(t, from + ITEM_STRIDE * x, s, &limits) {
             return false;
         }
     }
@@ -204,11 +196,8 @@ pub fn clear(t: &mut [u8], sessions: u8, items: u8, ranks: &[u8])
     buffer::clear(t);
     t[SESSIONS_PLACE] = sessions;
     t[ITEMS_PLACE] = items;
-    let n = sessions as usize;
-    let mut k: usize = 0;
-    while k < n {
+    for k in 0..usize::from(sessions) {
         t[HEADER + SESSION_STRIDE * k] = Session::GROWING;
-        k += 1;
     }
     buffer::put_bytes(t, ranks_place(sessions, items), ranks);
 }
