@@ -71,8 +71,22 @@ fn delivered(verb: u64, t: u8, x: u8, mail: &[u8]) -> usize
     ensures { result ≡ delivered verb t x (entries_of mail.now) }
 {
     match verb {
-        DELIVER_TO_ITEM => mailbox::earliest(mail, Route { direction: mailbox::TO_ITEM, session: t, item: x }),
-        DELIVER_TO_SESSION => mailbox::earliest(mail, Route { direction: mailbox::TO_SESSION, session: t, item: x }),
+        DELIVER_TO_ITEM => mailbox::earliest(
+            mail,
+            Route {
+                direction: mailbox::TO_ITEM,
+                session: t,
+                item: x,
+            },
+        ),
+        DELIVER_TO_SESSION => mailbox::earliest(
+            mail,
+            Route {
+                direction: mailbox::TO_SESSION,
+                session: t,
+                item: x,
+            },
+        ),
         _ => mailbox::count(mail),
     }
 }
