@@ -70,21 +70,22 @@ fn thrice(a: u8, b: u8, c: u8) -> [u8; BLOCK_CELLS]
     r
 }
 
+// What the bytes of a block are tested by: the highest of the routes, the highest of the bodies, and 1 where no entry starts.
+#[derive(Drop)]
+struct Bounds {
+    tops: [u8; BLOCK_CELLS],
+    highs: [u8; BLOCK_CELLS],
+    skips: [u8; BLOCK_CELLS],
+}
+
 // A block, cell by cell: no early exit, so that the loop is done by vectors.
-fn block(
-    m: &[u8],
-    at: usize,
-    to: usize,
-    tops: &[u8; BLOCK_CELLS],
-    highs: &[u8; BLOCK_CELLS],
-    skips: &[u8; BLOCK_CELLS],
-) -> bool
+fn block(m: &[u8], at: usize, to: usize, bounds: &Bounds) -> bool
     requires { (at + block_cells + 2 ≤ length m.now) × (to + block_cells + 2 ≤ length m.now) }
-    ensures { result ≡ every_below block_cells (cell_at m.now tops.now highs.now skips.now at to) }
+    ensures { result ≡ every_below block_cells (cell_at m.now bounds.now.tops bounds.now.highs bounds.now.skips at to) }
 {
     let mut ok = true;
     for i in 0..BLOCK_CELLS {
-        ok &= cell(m, at + i, to + i, tops[i], highs[i], skips[i]);
+        ok &= cell(m, at + i, to + i, bounds.tops[i], bounds.highs[i], bounds.skips[i]);
     }
     ok
 }
@@ -111,19 +112,19 @@ fn formed(m: &[u8], at: usize, to: usize, n: usize, s: u8, x: u8) -> usize
     if n <= BLOCK_ENTRIES {
         return 0;
     }
-    let tops = thrice(TO_SESSION, s, x);
-    let highs = thrice(Message::WITHDRAWN, s, s);
-    let skips = thrice(0, 1, 1);
-    let mut i: usize = 0;
-    while BLOCK_ENTRIES < n - i {
-        let p = WIDTH * i;
-        if block(m, at + p, to + p, &tops, &highs, &skips) {
-            i += BLOCK_ENTRIES;
-        } else {
-            return i;
+    let bounds = Bounds {
+        tops: thrice(TO_SESSION, s, x),
+        highs: thrice(Message::WITHDRAWN, s, s),
+        skips: thrice(0, 1, 1),
+    };
+    let blocks = (n - 1) / BLOCK_ENTRIES;
+    for k in 0..blocks {
+        let p = BLOCK_CELLS * k;
+        if !block(m, at + p, to + p, &bounds) {
+            return BLOCK_ENTRIES * k;
         }
     }
-    i
+    BLOCK_ENTRIES * blocks
 }
 
 // Whether the n entries whose routes stand from `at` on and whose bodies stand from `to` on are well-formed, for s sessions and x items.
@@ -183,15 +184,14 @@ fn passed(
     requires { (at + width * n ≤ length m.now) × (skips.now ≡ thrice block_entries 0 1 1) × (from ≤ n) × (every_below from (λ k. misses m.now route.direction route.session route.item (at + width * k)) ≡ true) }
     ensures { (result ≤ n) × (every_below result (λ k. misses m.now route.direction route.session route.item (at + width * k)) ≡ true) }
 {
-    let mut i = from;
-    while BLOCK_ENTRIES < n - i {
-        if block_differs(m, at + WIDTH * i, depth, route, skips) {
-            i += BLOCK_ENTRIES;
-        } else {
+    let blocks = (n - from).saturating_sub(1) / BLOCK_ENTRIES;
+    for k in 0..blocks {
+        let i = from + BLOCK_ENTRIES * k;
+        if !block_differs(m, at + WIDTH * i, depth, route, skips) {
             return i;
         }
     }
-    i
+    from + BLOCK_ENTRIES * blocks
 }
 
 // The place of the first of n entries that is on the route, or n; the routes stand from `at` on.

@@ -70,25 +70,17 @@ fn delivered(verb: u64, t: u8, x: u8, mail: &[u8]) -> usize
     requires { Kept mail.now }
     ensures { result ≡ delivered verb t x (entries_of mail.now) }
 {
-    match verb {
-        DELIVER_TO_ITEM => mailbox::earliest(
-            mail,
-            Route {
-                direction: mailbox::TO_ITEM,
-                session: t,
-                item: x,
-            },
-        ),
-        DELIVER_TO_SESSION => mailbox::earliest(
-            mail,
-            Route {
-                direction: mailbox::TO_SESSION,
-                session: t,
-                item: x,
-            },
-        ),
-        _ => mailbox::count(mail),
-    }
+    let direction = match verb {
+        DELIVER_TO_ITEM => mailbox::TO_ITEM,
+        DELIVER_TO_SESSION => mailbox::TO_SESSION,
+        _ => return mailbox::count(mail),
+    };
+    let route = Route {
+        direction,
+        session: t,
+        item: x,
+    };
+    mailbox::earliest(mail, route)
 }
 
 // Whether the stage forbids a request or a release.

@@ -6,4 +6,4 @@ use Rattle.lists.specs.Lists.{every_below}
 use Rattle.entry.proofs.block.Given as goal
 
 abbrev pub invariant-loop-i : goal.invariant-loop-i
-invariant-loop-i l = (l.i ≤ block_cells) × (l.ok ≡ every_below l.i (cell_at l.m l.tops l.highs l.skips l.at l.to))
+invariant-loop-i l = (l.i ≤ block_cells) × (l.ok ≡ every_below l.i (cell_at l.m l.bounds.tops l.bounds.highs l.bounds.skips l.at l.to))
