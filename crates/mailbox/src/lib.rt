@@ -80,26 +80,24 @@ pub fn sized(m: &[u8]) -> bool
 }
 
 // Whether a mailbox for so many sessions and items is well-formed.
+#[tactic(auto, using(crate::proofs::Laws::lengths))]
 pub fn well_formed(m: &[u8], sessions: u8, items: u8) -> bool
     requires { sized m.now ≡ true }
     ensures { result ≡ well_formed sessions items m.now }
 {
     let c = capacity(m);
     let n = count(m);
-    if n <= c {
-        let left = WIDTH * (c - n);
-        if entry::well_formed(m, HEADER, route_place(c), n, sessions, items) {
-            let routes = buffer::is_zero(m, route_place(n), left);
-            routes & buffer::is_zero(m, body_place(c, n), left)
-        } else {
-            false
-        }
-    } else {
-        false
+    if n > c {
+        return false;
     }
+    let left = WIDTH * (c - n);
+    entry::well_formed(m, HEADER, route_place(c), n, sessions, items)
+        && buffer::is_zero(m, route_place(n), left)
+        && buffer::is_zero(m, body_place(c, n), left)
 }
 
 // The place of the earliest entry of a route, or the number of entries.
+#[tactic(auto, using(crate::proofs::Laws::lengths))]
 pub fn earliest(m: &[u8], route: Route) -> usize
     requires { Kept m.now }
     ensures { result ≡ earliest route.direction route.session route.item (entries_of m.now) }
@@ -113,6 +111,7 @@ const SESSION_SIDE: usize = 1;
 const ITEM_SIDE: usize = 2;
 
 // The route of entry k.
+#[tactic(auto, using(crate::proofs::Laws::lengths))]
 pub fn route_of(m: &[u8], k: usize) -> Route
     requires { Stands m.now k }
     ensures { result ≡ route_of (entry_at m.now k) }
@@ -126,6 +125,7 @@ pub fn route_of(m: &[u8], k: usize) -> Route
 }
 
 // Entry k as a message from one side of its route.
+#[tactic(auto, using(crate::proofs::Laws::lengths))]
 fn message(m: &[u8], k: usize, side: usize) -> Message
     requires { Stands m.now k × (side < width) }
     ensures { (side ≡ 1 → result ≡ seen_by_item (entry_at m.now k)) × (side ≡ 2 → result ≡ seen_by_session (entry_at m.now k)) }
@@ -152,6 +152,7 @@ pub fn message_to_session(m: &[u8], k: usize) -> Message
 }
 
 // Takes out the entries from place a on and before place b; the rest close up.
+#[tactic(auto, using(crate::proofs::Laws::lengths))]
 pub fn cut(m: &mut [u8], a: usize, b: usize)
     requires { Kept m.old × (a ≤ b) × (b ≤ count_of m.old) }
     ensures { m.new ≡ mail_bytes (capacity_of m.old) (without_places a b (entries_of m.old)) }
@@ -210,6 +211,7 @@ fn route_between(direction: u8, party: u8, peer: u8) -> Route
 }
 
 // Adds what a session (direction 1) or an item (direction 2) sends, in order.
+#[tactic(auto, using(crate::proofs::Laws::lengths))]
 pub fn post(m: &mut [u8], direction: u8, party: u8, out: Outbox)
     requires { Room m.old out }
     ensures { (l : List Message) → out ≡ outbox_of l

@@ -6,21 +6,10 @@ use lib.ListN.{length, take}
 use Rattle.entry.specs.Entry.{Entry}
 use Rattle.mailbox.specs.Layout.{entries_of, mail_bytes}
 use Rattle.entry.specs.Entry.{sent}
-use Rattle.mailbox.proofs.Laws.{kept-length, length-entries}
+use Rattle.mailbox.proofs.Laws.{length-entries}
 use Rattle.mailbox.proofs.Moves.{taken-cells, one_more, length_more}
-use Rattle.std.proofs.lemmas.List.{length-take}
 use native.Mathlib.Omega.{arith}
 use Rattle.mailbox.proofs.post.Goals as goal
-
-pub capacity-c-requires : goal.capacity-c-requires
-capacity-c-requires c = omega (arith, kept-length c.args.m.now c.requires.kept)
-
-pub count-count-requires : goal.count-count-requires
-count-count-requires c = omega (arith, kept-length c.args.m.now c.requires.kept)
-
-pub add-requires : goal.add-requires
-add-requires c =
-    omega (arith, kept-length c.args.m.now c.requires.kept, c.requires.kept, c.requires, c.loop-i.auto.m, c.count-count.ensures, c.capacity-c.ensures, c.loop-i-test.true, length-take c.args.out.n c.args.out.at)
 
 pub loop-i-preserved : goal.loop-i-preserved
 loop-i-preserved c =
