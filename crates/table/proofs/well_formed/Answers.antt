@@ -5,17 +5,8 @@ use native.Mathlib.Omega.{arith}
 use Rattle.lists.specs.Lists.{every}
 use Rattle.lists.proofs.Searches.{every_more}
 use Rattle.table.specs.Layout.{sessions_of, items_of}
-use Rattle.table.proofs.Laws.{sized-facts, header-fits, ranks-length, session_ok, item_ok, in_form, sessions-false, items-false, session-here, item-here}
+use Rattle.table.proofs.Laws.{sized-facts, session_ok, item_ok, in_form, sessions-false, items-false, session-here, item-here}
 use Rattle.table.proofs.well_formed.Goals as goal
-
-pub sessions-s-requires : goal.sessions-s-requires
-sessions-s-requires c = header-fits c.args.t.now c.requires
-
-pub items-m-requires : goal.items-m-requires
-items-m-requires c = header-fits c.args.t.now c.requires
-
-pub full-top-requires : goal.full-top-requires
-full-top-requires c = let f = sized-facts c.args.t.now c.requires in omega (arith, c.items-m.ensures)
 
 pub loop-k-init : goal.loop-k-init
 unfolding every
@@ -58,10 +49,6 @@ returns-then-not-item c =
     let t = c.args.t.now in
     let x = c.loop-x.x in
     sym (items-false t (suc x) (omega arith) (omega (arith, c.items-m.ensures, c.from-x-end.ensures)) (sym (item-here t x c.sessions-s.ensures c.items_start-from.ensures) ∙ sym c.item.ensures ∙ c.if-not-item.true))
-
-pub ranks-requires-2 : goal.ranks-requires-2
-ranks-requires-2 c =
-    rw c.ranks.ensures (omega (arith, ranks-length c.args.t.now c.requires, (sized-facts c.args.t.now c.requires).max-sessions))
 
 pub returns : goal.returns
 returns c =
