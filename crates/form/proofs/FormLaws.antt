@@ -4,12 +4,13 @@ use mathlib.Core.Bool.{Bool, true, false, cond, not, ◌&&◌, ◌||◌, and-tru
 use mathlib.Core.List.{List, [], ◌∷◌, ◌++◌, append-nil}
 use Prim.Native.Nat.{ℕ, zero, suc, ◌+◌, ◌-◌, ◌^◌, ◌≤◌, ◌<◌}
 use native.Mathlib.Omega.{arith}
-use borrow.Author.Tests.{eqb-true, eq-eqb, ne_eqb, ltb-true, ltb-false, leb-true, leb-false, le-leb}
+use borrow.Author.Tests.{eqb-true, eq-eqb, ne_eqb, leb-true, leb-false, le-leb}
 use lib.Dec.{eqb, leb, ltb, eqb-suc-zero, leb-suc-zero, leb-suc-suc}
-use lib.ListN.{length, get_or, take, drop, replicate, length-append, length-replicate, get_or-replicate, get_or-append, drop_of_length-le}
+use lib.ListN.{length, get_or, take, drop, replicate, length-replicate}
 use lib.Pow.{suc_ones, ones_lt, pow_mono}
-use lib.Seq.{take-nil, drop-nil, take-suc, take_all, take-append-le, drop-append-le, get_or-append-add, append_snoc}
-use Rattle.std.proofs.lemmas.List.{take-append-drop}
+use lib.Seq.{take-suc, drop-append-le, take-append-add, append_snoc}
+use Rattle.std.specs.List.{zip}
+use Rattle.std.proofs.lemmas.List.{take-append-drop, drop-replicate, take-replicate}
 use Rattle.buffer.specs.Bytes.{slice}
 use Rattle.lists.specs.Lists.{between, member, distinct, all_of}
 use Rattle.lists.proofs.Tests.{and_both, and_intro, eqb-sym, refuted, tests_agree, by_answer}
@@ -23,6 +24,7 @@ use Rattle.session.specs.Record as SessionRecord
 use Rattle.session.specs.Seniority
 use Rattle.session.specs.Stage
 use Rattle.item.specs.Record as ItemRecord
+use Rattle.form.specs.Rows.{limits_of}
 
 -- the first n are at most s, and the others zero
 abbrev pub within : ℕ → ℕ → List ℕ → Bool
@@ -32,37 +34,32 @@ zero-leb : (v : ℕ) → eqb v 0 ≡ leb v 0
 zero-leb zero = refl
 zero-leb (suc v) = eqb-suc-zero v ∙ sym (leb-suc-zero v)
 
-module _ (s n : ℕ) (l : List ℕ) (v : ℕ) where
-  within_case : (b : Bool) → ltb (length l) n ≡ b → within s n (l ++ (v ∷ [])) ≡ within s n l && leb v (cond b s 0)
-  unfolding all_of
-  within_case true e =
-      let h : length l < n = ltb-true (length l) n e in
-      let len = length-append l (v ∷ []) in
-      rw (take_all n (l ++ (v ∷ [])) (omega arith), drop_of_length-le (l ++ (v ∷ [])) {i = n} (omega arith), take_all n l (omega arith), drop_of_length-le l {i = n} (omega arith), all_append (λ b. leb b s) l (v ∷ [])) (simp and-true)
-  within_case false e =
-      let h : n ≤ length l = ltb-false (length l) n e in
-      rw (take-append-le n l (v ∷ []) h, drop-append-le n l (v ∷ []) h, all_append (λ b. eqb b 0) (drop n l) (v ∷ []), and-true, zero-leb v) (sym (and_assoc (all_of (λ b. leb b s) (take n l)) (all_of (λ b. eqb b 0) (drop n l)) (leb v 0)))
+-- a byte and its limit
+abbrev pub ordered : ℕ × ℕ → Bool
+ordered p = leb p.0 p.1
 
-  -- one byte more
-  pub within_more : within s n (l ++ (v ∷ [])) ≡ within s n l && leb v (cond (ltb (length l) n) s 0)
-  within_more = within_case (ltb (length l) n) refl
-
-pub within_none : (s n : ℕ) → within s n [] ≡ true
+zeros_within : (m : ℕ) (l : List ℕ) → length l ≤ m → all_of ordered (zip l (replicate m 0)) ≡ all_of (λ b. eqb b 0) l
 unfolding all_of
-within_none s n = rw (take-nil n, drop-nil n) refl
+zeros_within m [] h = refl
+zeros_within zero (v ∷ l) h = absurd (omega arith)
+zeros_within (suc m) (v ∷ l) h = rw (zero-leb v, zeros_within m l (omega arith)) refl
 
--- the limits, read so that n of them are s
-limit_case : (c s n k : ℕ) → n ≤ c → k < c → (b : Bool) → ltb k n ≡ b → get_or (replicate c s ++ replicate c 0) (c - n + k) 0 ≡ cond b s 0
-limit_case c s n k h l true q =
-    let p : k < n = ltb-true k n q in
-    get_or-append (replicate c s) (replicate c 0) 0 (c - n + k) (rw (length-replicate) (omega arith)) ∙ get_or-replicate c (c - n + k) s 0 (omega arith)
-limit_case c s n k h l false q =
-    let p : n ≤ k = ltb-false k n q in
-    let e : c - n + k ≡ length (replicate c s) + (k - n) = rw (length-replicate) (omega arith) in
-    rw (e) (get_or-append-add (replicate c s) (replicate c 0) (k - n) 0 ∙ get_or-replicate c (k - n) 0 0 (omega arith))
+row_within : (s n m : ℕ) (l : List ℕ) → length l ≤ n + m → all_of ordered (zip l (replicate n s ++ replicate m 0)) ≡ within s n l
+unfolding all_of
+row_within s zero m l h = zeros_within m l (omega arith)
+row_within s (suc n) m [] h = refl
+row_within s (suc n) m (v ∷ l) h = rw (row_within s n m l (omega arith)) (sym (and_assoc (leb v s) (all_of (λ b. leb b s) (take n l)) (all_of (λ b. eqb b 0) (drop n l))))
 
-pub limit : (c s n k : ℕ) → n ≤ c → k < c → get_or (replicate c s ++ replicate c 0) (c - n + k) 0 ≡ cond (ltb k n) s 0
-limit c s n k h l = limit_case c s n k h l (ltb k n) refl
+-- the limits of a row, read so that n of them are s
+limits_from : (c s n : ℕ) → n ≤ c → take c (drop (c - n) (replicate c s ++ replicate c 0)) ≡ replicate n s ++ replicate (c - n) 0
+limits_from c s n h =
+    let left : c - (c - n) ≡ n = omega arith in
+    let whole : c ≡ length (replicate n s) + (c - n) = rw (length-replicate) (omega arith) in
+    rw (drop-append-le (c - n) (replicate c s) (replicate c 0) (rw (length-replicate) (omega arith)), drop-replicate (c - n) c s, left)
+    (ap (λ (k : ℕ). take k (replicate n s ++ replicate c 0)) whole ∙ take-append-add (replicate n s) (replicate c 0) (c - n) ∙ rw (take-replicate {X = ℕ} (c - n) c 0 (omega arith)) refl)
+
+pub row_form : (s n : ℕ) (l : List ℕ) → length l ≡ max_sessions → n ≤ max_sessions → all_of ordered (zip l (take max_sessions (drop (max_sessions - n) (limits_of s)))) ≡ within s n l
+row_form s n l e h = rw (limits_from max_sessions s n h) (row_within s n (max_sessions - n) l (omega arith))
 
 -- the bytes within their limits are at most s
 pub taken_low : (s n : ℕ) (l : List ℕ) → within s n l ≡ true → (k : ℕ) → k < length (take n l) → get_or (take n l) k 0 ≤ s

@@ -41,11 +41,9 @@ fn row(l: &[u8], s: u8, n: usize, limits: &[u8; TWO_ROWS]) -> bool
     ensures { result ≡ all_of (λ b. leb b s) (take n l.now) && all_of (λ b. eqb b 0) (drop n l.now) }
 {
     let from = MAX_SESSIONS - n;
-    let mut ok = true;
-    for i in 0..MAX_SESSIONS {
-        ok &= l[i] <= limits[from + i];
-    }
-    ok
+    l.iter()
+        .zip(&limits[from..from + MAX_SESSIONS])
+        .fold(true, |ok, (b, limit)| ok & (b <= limit))
 }
 
 // Whether the session record at `at` is well-formed, with s sessions and m items; `top` has every item.
