@@ -11,6 +11,7 @@ ghost use Rattle.entry.specs.Cells.{block_entries, block_cells, agree, cell, cel
 use message::Message;
 
 // The two directions: session to item, item to session.
+// Kept as numbers: what is promised of a route names the byte itself, whatever it is, and a route is read from mail that need not be well-formed.
 pub const TO_ITEM: u8 = 1;
 
 pub const TO_SESSION: u8 = 2;
@@ -32,6 +33,7 @@ const BLOCK_ENTRIES: usize = 16;
 const BLOCK_CELLS: usize = 48;
 
 // Whether direction, session and body agree, for a kind of at most 10; with no branch.
+#[tactic(auto, unfolding(crate::specs::Cells::agree))]
 fn agree(d: u8, t: u8, k: u8, a: u8, b: u8) -> bool
     ensures { result ≡ agree d t k a b }
 {
@@ -85,7 +87,14 @@ fn block(m: &[u8], at: usize, to: usize, bounds: &Bounds) -> bool
 {
     let mut ok = true;
     for i in 0..BLOCK_CELLS {
-        ok &= cell(m, at + i, to + i, bounds.tops[i], bounds.highs[i], bounds.skips[i]);
+        ok &= cell(
+            m,
+            at + i,
+            to + i,
+            bounds.tops[i],
+            bounds.highs[i],
+            bounds.skips[i],
+        );
     }
     ok
 }
@@ -150,6 +159,7 @@ fn off(m: &[u8], at: usize, route: Route) -> bool
 }
 
 // Whether the route at `at` differs from the one searched for: in its item, from depth 2 on in its session too, at depth 3 in its direction too; with no branch.
+#[tactic(auto, unfolding(crate::specs::Cells::differs))]
 fn differs(m: &[u8], at: usize, depth: u8, route: Route) -> bool
     requires { at + width ≤ length m.now }
     ensures { result ≡ differs m.now depth route.direction route.session route.item at }
@@ -212,16 +222,16 @@ pub fn first(m: &[u8], at: usize, n: usize, route: Route) -> usize
 }
 
 // Writes a route or a body at `at`.
+#[tactic(auto, unfolding(buffer::specs::Bytes::splice))]
 pub fn put(m: &mut [u8], at: usize, a: u8, b: u8, c: u8)
     requires { at + width ≤ length m.old }
     ensures { m.new ≡ splice m.old at (a ∷ b ∷ c ∷ []) }
 {
-    m[at] = a;
-    m[at + 1] = b;
-    m[at + 2] = c;
+    m[at..at + WIDTH].copy_from_slice(&[a, b, c]);
 }
 
 // Takes a route or a body out at `from`: the rest of the len bytes move down, and zeros follow.
+// Kept by hand: `copy_within` takes twice as long for a run of up to 48 bytes, and as long for one of 12,288.
 fn cut_one(m: &mut [u8], from: usize, len: usize)
     requires { (from + len ≤ length m.old) × (width ≤ len) }
     ensures { m.new ≡ splice m.old from (padded len (drop width (slice m.old from len))) }

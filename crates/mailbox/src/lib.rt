@@ -11,7 +11,7 @@ ghost use Rattle.mailbox.specs.Layout.{header, max_capacity, size, route_place, 
 use entry::WIDTH;
 use message::{Message, Outbox};
 
-// The two directions: session to item, item to session. A route.
+// The two directions: session to item, item to session. A direction, a session and an item are a route.
 pub use entry::{Route, TO_ITEM, TO_SESSION};
 
 pub const MAX_CAPACITY: usize = 4096;
@@ -111,7 +111,7 @@ const SESSION_SIDE: usize = 1;
 const ITEM_SIDE: usize = 2;
 
 // The route of entry k.
-#[tactic(auto, using(crate::proofs::Laws::lengths))]
+#[tactic(auto, using(crate::proofs::Laws::lengths), unfolding(crate::specs::Layout::entry_at))]
 pub fn route_of(m: &[u8], k: usize) -> Route
     requires { Stands m.now k }
     ensures { result ≡ route_of (entry_at m.now k) }
@@ -125,7 +125,7 @@ pub fn route_of(m: &[u8], k: usize) -> Route
 }
 
 // Entry k as a message from one side of its route.
-#[tactic(auto, using(crate::proofs::Laws::lengths))]
+#[tactic(auto, using(crate::proofs::Laws::lengths), unfolding(crate::specs::Layout::entry_at))]
 fn message(m: &[u8], k: usize, side: usize) -> Message
     requires { Stands m.now k × (side < width) }
     ensures { (side ≡ 1 → result ≡ seen_by_item (entry_at m.now k)) × (side ≡ 2 → result ≡ seen_by_session (entry_at m.now k)) }
