@@ -4,11 +4,13 @@ use mathlib.Core.Bool.{Bool, true, false, cond, not, ◌&&◌, ◌||◌, and-tru
 use mathlib.Core.List.{List, [], ◌∷◌, ◌++◌, append-nil}
 use Prim.Native.Nat.{ℕ, zero, suc, ◌+◌, ◌-◌, ◌^◌, ◌≤◌, ◌<◌}
 use native.Mathlib.Omega.{arith}
-use borrow.Author.Tests.{eqb-true, eq-eqb, ne_eqb, ltb-true, ltb-false, leb-true, leb-false, le-leb}
+use borrow.Author.Tests.{eqb-true, eq-eqb, ne_eqb, leb-true, leb-false, le-leb}
 use lib.Dec.{eqb, leb, ltb, eqb-suc-zero, leb-suc-zero, leb-suc-suc}
-use lib.ListN.{length, get_or, take, drop, replicate, length-append, length-replicate, get_or-replicate, get_or-append, drop_of_length-le}
+use lib.ListN.{length, get_or, take, drop, replicate, length-replicate}
 use lib.Pow.{suc_ones, ones_lt, pow_mono}
-use lib.Seq.{take-take, take-nil, drop-nil, take_all, get_or-take, length-take-le, take-append-le, drop-append-le, get_or-append-add, append_snoc}
+use lib.Seq.{take-suc, drop-append-le, take-append-add, append_snoc}
+use Rattle.std.specs.List.{zip}
+use Rattle.std.proofs.lemmas.List.{take-append-drop, drop-replicate, take-replicate}
 use Rattle.buffer.specs.Bytes.{slice}
 use Rattle.lists.specs.Lists.{between, member, distinct, all_of}
 use Rattle.lists.proofs.Tests.{and_both, and_intro, eqb-sym, refuted, tests_agree, by_answer}
@@ -16,13 +18,13 @@ use Rattle.lists.proofs.Searches.{distinct-all, all-distinct}
 use Rattle.lists.proofs.Laws.{all_append, all_get_d, all_intro, all-member, all_both, distinct-last, member-append, member-last}
 use Rattle.bitset.specs.Bitset.{has, single, full, insert}
 use Rattle.bitset.proofs.MemberLaws.{has-single, has-insert, has_above, has-full, same-members}
-use Rattle.buffer.proofs.Laws.{slice-split, slice-more, get_d_slice, length-slice}
 use Rattle.message.specs.Limits.{max_sessions}
 use Rattle.session.specs.declared.Session.{Session}
 use Rattle.session.specs.Record as SessionRecord
 use Rattle.session.specs.Seniority
 use Rattle.session.specs.Stage
 use Rattle.item.specs.Record as ItemRecord
+use Rattle.form.specs.Rows.{limits_of}
 
 -- the first n are at most s, and the others zero
 abbrev pub within : ℕ → ℕ → List ℕ → Bool
@@ -32,42 +34,37 @@ zero-leb : (v : ℕ) → eqb v 0 ≡ leb v 0
 zero-leb zero = refl
 zero-leb (suc v) = eqb-suc-zero v ∙ sym (leb-suc-zero v)
 
-module _ (s n : ℕ) (l : List ℕ) (v : ℕ) where
-  within_case : (b : Bool) → ltb (length l) n ≡ b → within s n (l ++ (v ∷ [])) ≡ within s n l && leb v (cond b s 0)
-  unfolding all_of
-  within_case true e =
-      let h : length l < n = ltb-true (length l) n e in
-      let len = length-append l (v ∷ []) in
-      rw (take_all n (l ++ (v ∷ [])) (omega arith), drop_of_length-le (l ++ (v ∷ [])) {i = n} (omega arith), take_all n l (omega arith), drop_of_length-le l {i = n} (omega arith), all_append (λ b. leb b s) l (v ∷ [])) (simp and-true)
-  within_case false e =
-      let h : n ≤ length l = ltb-false (length l) n e in
-      rw (take-append-le n l (v ∷ []) h, drop-append-le n l (v ∷ []) h, all_append (λ b. eqb b 0) (drop n l) (v ∷ []), and-true, zero-leb v) (sym (and_assoc (all_of (λ b. leb b s) (take n l)) (all_of (λ b. eqb b 0) (drop n l)) (leb v 0)))
+-- a byte and its limit
+abbrev pub ordered : ℕ × ℕ → Bool
+ordered p = leb p.0 p.1
 
-  -- one byte more
-  pub within_more : within s n (l ++ (v ∷ [])) ≡ within s n l && leb v (cond (ltb (length l) n) s 0)
-  within_more = within_case (ltb (length l) n) refl
-
-pub within_none : (s n : ℕ) → within s n [] ≡ true
+zeros_within : (m : ℕ) (l : List ℕ) → length l ≤ m → all_of ordered (zip l (replicate m 0)) ≡ all_of (λ b. eqb b 0) l
 unfolding all_of
-within_none s n = rw (take-nil n, drop-nil n) refl
+zeros_within m [] h = refl
+zeros_within zero (v ∷ l) h = absurd (omega arith)
+zeros_within (suc m) (v ∷ l) h = rw (zero-leb v, zeros_within m l (omega arith)) refl
 
--- the limits, read so that n of them are s
-limit_case : (c s n k : ℕ) → n ≤ c → k < c → (b : Bool) → ltb k n ≡ b → get_or (replicate c s ++ replicate c 0) (c - n + k) 0 ≡ cond b s 0
-limit_case c s n k h l true q =
-    let p : k < n = ltb-true k n q in
-    get_or-append (replicate c s) (replicate c 0) 0 (c - n + k) (rw (length-replicate) (omega arith)) ∙ get_or-replicate c (c - n + k) s 0 (omega arith)
-limit_case c s n k h l false q =
-    let p : n ≤ k = ltb-false k n q in
-    let e : c - n + k ≡ length (replicate c s) + (k - n) = rw (length-replicate) (omega arith) in
-    rw (e) (get_or-append-add (replicate c s) (replicate c 0) (k - n) 0 ∙ get_or-replicate c (k - n) 0 0 (omega arith))
+row_within : (s n m : ℕ) (l : List ℕ) → length l ≤ n + m → all_of ordered (zip l (replicate n s ++ replicate m 0)) ≡ within s n l
+unfolding all_of
+row_within s zero m l h = zeros_within m l (omega arith)
+row_within s (suc n) m [] h = refl
+row_within s (suc n) m (v ∷ l) h = rw (row_within s n m l (omega arith)) (sym (and_assoc (leb v s) (all_of (λ b. leb b s) (take n l)) (all_of (λ b. eqb b 0) (drop n l))))
 
-pub limit : (c s n k : ℕ) → n ≤ c → k < c → get_or (replicate c s ++ replicate c 0) (c - n + k) 0 ≡ cond (ltb k n) s 0
-limit c s n k h l = limit_case c s n k h l (ltb k n) refl
+-- the limits of a row, read so that n of them are s
+limits_from : (c s n : ℕ) → n ≤ c → take c (drop (c - n) (replicate c s ++ replicate c 0)) ≡ replicate n s ++ replicate (c - n) 0
+limits_from c s n h =
+    let left : c - (c - n) ≡ n = omega arith in
+    let whole : c ≡ length (replicate n s) + (c - n) = rw (length-replicate) (omega arith) in
+    rw (drop-append-le (c - n) (replicate c s) (replicate c 0) (rw (length-replicate) (omega arith)), drop-replicate (c - n) c s, left)
+    (ap (λ (k : ℕ). take k (replicate n s ++ replicate c 0)) whole ∙ take-append-add (replicate n s) (replicate c 0) (c - n) ∙ rw (take-replicate {X = ℕ} (c - n) c 0 (omega arith)) refl)
 
--- a byte within its limit is at most s
-within-at : (s n : ℕ) (l : List ℕ) → within s n l ≡ true → n ≤ length l → (k : ℕ) → k < n → get_or l k 0 ≤ s
-within-at s n l e h k f =
-    rw (← get_or-take n l k 0 f) (leb-true (get_or (take n l) k 0) s (all_get_d (λ b. leb b s) (take n l) k 0 (and_both (all_of (λ b. leb b s) (take n l)) (all_of (λ b. eqb b 0) (drop n l)) e).0 (rw (length-take-le n l h) f)))
+pub row_form : (s n : ℕ) (l : List ℕ) → length l ≡ max_sessions → n ≤ max_sessions → all_of ordered (zip l (take max_sessions (drop (max_sessions - n) (limits_of s)))) ≡ within s n l
+row_form s n l e h = rw (limits_from max_sessions s n h) (row_within s n (max_sessions - n) l (omega arith))
+
+-- the bytes within their limits are at most s
+pub taken_low : (s n : ℕ) (l : List ℕ) → within s n l ≡ true → (k : ℕ) → k < length (take n l) → get_or (take n l) k 0 ≤ s
+taken_low s n l e k f =
+    leb-true (get_or (take n l) k 0) s (all_get_d (λ b. leb b s) (take n l) k 0 (and_both (all_of (λ b. leb b s) (take n l)) (all_of (λ b. eqb b 0) (drop n l)) e).0 f)
 
 -- the mask has h and the sessions of a list
 pub Seen : ℕ → List ℕ → ℕ → Type 0
@@ -124,13 +121,9 @@ pub line-front : (h : ℕ) (k l : List ℕ) → in_line h k ≡ false → in_lin
 line-front h k [] e = rw (append-nil) e
 line-front h k (v ∷ l) e = rw (← append_snoc k v l) (line-front h (k ++ (v ∷ [])) l (line-more h k v ∙ rw (e) refl))
 
-pub line-stop : (t : List ℕ) (at n h i : ℕ) → at + n ≤ length t → i < n → in_line h (slice t at i ++ (get_or t (at + i) 0 ∷ [])) ≡ false
-    → in_line h (slice t at n) ≡ false
-line-stop t at n h i fits l e =
-    let whole : i + 1 + (n - (i + 1)) ≡ n = omega arith in
-    let split : slice t at n ≡ slice t at (i + 1) ++ slice t (at + (i + 1)) (n - (i + 1)) =
-    rw (whole) at (slice-split t at (i + 1) (n - (i + 1))) in
-    rw (split) (line-front h (slice t at (i + 1)) (slice t (at + (i + 1)) (n - (i + 1))) (rw (slice-more t at i (omega arith)) e))
+pub line-stop : (l : List ℕ) (h i : ℕ) → i < length l → in_line h (take i l ++ (get_or l i 0 ∷ [])) ≡ false → in_line h l ≡ false
+line-stop l h i f e =
+    rw (← take-append-drop (suc i) l) (line-front h (take (suc i) l) (drop (suc i) l) (rw (take-suc l i 0 f) e))
 
 -- ---- ranks: a list of n numbers from 1 to n, with the mask that has them
 module _ (l : List ℕ) where
@@ -194,19 +187,9 @@ item-step true false h d m z = sym (and-false (h && z))
 item-step true true false d m z = refl
 item-step true true true d m z = and_comm (d && m) z
 
-module _ (t : List ℕ) (at S : ℕ) where
-  -- an item record, by the tests that its check makes
-  pub item_form : get_or t (at + ItemRecord.waiting_place) 0 ≤ max_sessions
-      → ItemRecord.well_formed S (ItemRecord.item_at t at)
-      ≡ leb (get_or t at 0) S && leb (get_or t (at + ItemRecord.waiting_place) 0) max_sessions
-      && (within S (get_or t (at + ItemRecord.waiting_place) 0) (slice t (at + ItemRecord.queue_place) max_sessions) && in_line (get_or t at 0) (slice t (at + ItemRecord.queue_place) (get_or t (at + ItemRecord.waiting_place) 0)))
-  unfolding ItemRecord.well_formed
-  item_form h =
-      let n = get_or t (at + ItemRecord.waiting_place) 0 in
-      let q : take n (slice t (at + ItemRecord.queue_place) max_sessions) ≡ slice t (at + ItemRecord.queue_place) n = take-take n max_sessions (drop (at + ItemRecord.queue_place) t) h in
-      rw (q, all_both (leb 1) (λ b. leb b S) (slice t (at + ItemRecord.queue_place) n)) (item-step (leb (get_or t at 0) S && leb n max_sessions) (all_of (leb 1) (slice t (at + ItemRecord.queue_place) n)) (all_of (λ b. leb b S) (slice t (at + ItemRecord.queue_place) n)) (distinct (slice t (at + ItemRecord.queue_place) n)) (not (member (get_or t at 0) (slice t (at + ItemRecord.queue_place) n))) (all_of (λ b. eqb b 0) (drop n (slice t (at + ItemRecord.queue_place) max_sessions))))
-
-  -- the bytes of a row within its limits
-  pub row_low : (n : ℕ) → at + max_sessions ≤ length t → n ≤ max_sessions → within S n (slice t at max_sessions) ≡ true → (k : ℕ) → k < n → get_or t (at + k) 0 ≤ S
-  row_low n fits h e k l =
-      rw (← get_d_slice t at max_sessions k (omega arith)) (within-at S n (slice t at max_sessions) e (omega (arith, length-slice t at max_sessions fits)) k l)
+-- an item record, by the tests that its check makes
+pub item_form : (t : List ℕ) (at S : ℕ) {n : ℕ} {l : List ℕ} → n ≡ get_or t (at + ItemRecord.waiting_place) 0 → l ≡ slice t (at + ItemRecord.queue_place) max_sessions
+    → ItemRecord.well_formed S (ItemRecord.item_at t at) ≡ leb (get_or t at 0) S && leb n max_sessions && (within S n l && in_line (get_or t at 0) (take n l))
+unfolding ItemRecord.well_formed
+item_form t at S {n = n} {l = l} p q =
+    rw (← p, ← q, all_both (leb 1) (λ b. leb b S) (take n l)) (item-step (leb (get_or t at 0) S && leb n max_sessions) (all_of (leb 1) (take n l)) (all_of (λ b. leb b S) (take n l)) (distinct (take n l)) (not (member (get_or t at 0) (take n l))) (all_of (λ b. eqb b 0) (drop n l)))

@@ -23,27 +23,27 @@ pub fn limits(s: u8) -> [u8; TWO_ROWS]
     ensures { result ≡ limits_of s }
 {
     let mut limits = [0u8; TWO_ROWS];
-    let mut k: usize = 0;
-    while k < MAX_SESSIONS {
-        limits[k] = s;
-        k += 1;
-    }
+    limits[..MAX_SESSIONS].fill(s);
     limits
 }
 
-// Whether of the row at `at` the first n bytes are at most s, and the others zero.
-fn row(t: &[u8], at: usize, s: u8, n: usize, limits: &[u8; TWO_ROWS]) -> bool
-    requires { (at + max_sessions ≤ length t.now) × (n ≤ max_sessions) × (limits.now ≡ limits_of s) }
-    ensures { result ≡ all_of (λ b. leb b s) (take n (slice t.now at max_sessions)) && all_of (λ b. eqb b 0) (drop n (slice t.now at max_sessions)) }
+// The row at `at`.
+fn row_at(t: &[u8], at: usize) -> &[u8]
+    requires { at + max_sessions ≤ length t.now }
+    ensures { (result.now ≡ slice t.now at max_sessions) × (length result.now ≡ max_sessions) }
+{
+    &t[at..at + MAX_SESSIONS]
+}
+
+// Whether of a row the first n bytes are at most s, and the others zero.
+fn row(l: &[u8], s: u8, n: usize, limits: &[u8; TWO_ROWS]) -> bool
+    requires { (length l.now ≡ max_sessions) × (n ≤ max_sessions) × (limits.now ≡ limits_of s) }
+    ensures { result ≡ all_of (λ b. leb b s) (take n l.now) && all_of (λ b. eqb b 0) (drop n l.now) }
 {
     let from = MAX_SESSIONS - n;
-    let mut ok = true;
-    let mut i: usize = 0;
-    while i < MAX_SESSIONS {
-        ok = ok & (t[at + i] <= limits[from + i]);
-        i += 1;
-    }
-    ok
+    l.iter()
+        .zip(&limits[from..from + MAX_SESSIONS])
+        .fold(true, |ok, (b, limit)| ok & (b <= limit))
 }
 
 // Whether the session record at `at` is well-formed, with s sessions and m items; `top` has every item.
@@ -60,27 +60,21 @@ pub fn session(t: &[u8], at: usize, s: u8, m: u8, top: u64, limits: &[u8; TWO_RO
         | (stage == Session::WITHDRAWING);
     let waits = awaits & ((awaited >= 1) & (awaited <= m));
     let none = !awaits & (awaited == 0);
-    let juniors = row(t, at + Session::JUNIORS_PLACE, s, s as usize, limits);
-    staged & (waits | none) & (held <= top) & juniors
+    let juniors = row_at(t, at + Session::JUNIORS_PLACE);
+    staged & (waits | none) & (held <= top) & row(juniors, s, usize::from(s), limits)
 }
 
-// Whether of the n sessions at `at` none is zero, none stands there twice and none is h.
-fn queue(t: &[u8], at: usize, n: usize, h: u8) -> bool
-    requires { (at + n ≤ length t.now) × (h ≤ max_sessions) × ((k : ℕ) → k < n → get_or t.now (at + k) 0 ≤ max_sessions) }
-    ensures { result ≡ all_of (leb 1) (slice t.now at n) && distinct (slice t.now at n) && not (member h (slice t.now at n)) }
+// Whether of the sessions in a queue none is zero, none stands there twice and none is h.
+fn queue(l: &[u8], h: u8) -> bool
+    requires { (h ≤ max_sessions) × ((k : ℕ) → k < length l.now → get_or l.now k 0 ≤ max_sessions) }
+    ensures { result ≡ all_of (leb 1) l.now && distinct l.now && not (member h l.now) }
 {
     let mut seen = bitset::single(h);
-    let mut i: usize = 0;
-    while i < n {
-        let v = t[at + i];
-        if v == 0 {
-            return false;
-        }
-        if bitset::contains(seen, v) {
+    for &v in l {
+        if (v == 0) || bitset::contains(seen, v) {
             return false;
         }
         seen = bitset::insert(seen, v);
-        i += 1;
     }
     true
 }
@@ -92,17 +86,11 @@ pub fn ranks(l: &[u8]) -> bool
 {
     let n = l.len();
     let mut used: u64 = 0;
-    let mut i: usize = 0;
-    while i < n {
-        let rank = l[i];
-        if rank == 0 {
-            return false;
-        }
-        if n < rank as usize {
+    for &rank in l {
+        if (rank == 0) || (n < usize::from(rank)) {
             return false;
         }
         used = bitset::insert(used, rank);
-        i += 1;
     }
     used == bitset::full(n as u8)
 }
@@ -113,16 +101,10 @@ pub fn item(t: &[u8], at: usize, s: u8, limits: &[u8; TWO_ROWS]) -> bool
     ensures { result ≡ ItemRecord.well_formed s (ItemRecord.item_at t.now at) }
 {
     let h = t[at];
-    let n = t[at + Item::WAITING_PLACE] as usize;
-    if h > s {
+    let n = usize::from(t[at + Item::WAITING_PLACE]);
+    if (h > s) || (n > MAX_SESSIONS) {
         return false;
     }
-    if n > MAX_SESSIONS {
-        return false;
-    }
-    if row(t, at + Item::QUEUE_PLACE, s, n, limits) {
-        queue(t, at + Item::QUEUE_PLACE, n, h)
-    } else {
-        false
-    }
+    let line = row_at(t, at + Item::QUEUE_PLACE);
+    row(line, s, n, limits) && queue(&line[..n], h)
 }

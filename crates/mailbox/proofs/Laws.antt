@@ -172,6 +172,9 @@ sized-facts m e =
       head = omega arith;
     }
 
+-- what the answers to where a byte stands rest on
+pub ruleset lengths = (kept-length, sized-facts)
+
 pub short_unsized : (m : List ℕ) → length m < header → sized m ≡ false
 unfolding sized
 short_unsized m h = rw (ne_eqb (length m) (size (capacity_of m)) (λ e. omega arith)) (and-false (between 1 max_capacity (capacity_of m)))

@@ -4,8 +4,8 @@ use mathlib.Core.List.{List, [], ◌∷◌, ◌++◌, append_assoc, map}
 use Prim.Native.Nat.{ℕ, ◌+◌, ◌-◌, ◌*◌, ◌≤◌, ◌<◌}
 use native.Mathlib.Numerals.{add-one}
 use native.Mathlib.Omega.{arith}
-use lib.ListN.{length, get_or, take, drop, replicate, length-append, length-map, replicate-append-replicate, get_or-append}
-use lib.Seq.{take-suc, length-take-le}
+use lib.ListN.{length, get_or, take, drop, replicate, length-append, length-map, replicate-append-replicate}
+use lib.Seq.{take-suc, take-append_seam, length-take-le}
 use Rattle.buffer.specs.Bytes.{splice, to_bytes, padded}
 use Rattle.lists.specs.Lists.{without_places}
 use Rattle.lists.proofs.Laws.{length_without}
@@ -103,12 +103,15 @@ map-append : (d p : ℕ) (k j : List Message) → map (sent d p) (k ++ j) ≡ ma
 map-append d p [] j = refl
 map-append d p (m ∷ k) j = ap (λ (l : List Entry). sent d p m ∷ l) (map-append d p k j)
 
--- one message more of a list that the code holds in an array
-pub one_more : (d p i : ℕ) (k : List Message) (l : List Entry) → i < length k
-    → (l ++ map (sent d p) (take i k)) ++ (sent d p (get_or (cells k) i (plain 0 0)) ∷ []) ≡ l ++ map (sent d p) (take (i + 1) k)
+-- the messages of an outbox, and one more of them
+pub taken-cells : (k : List Message) → take (length k) (cells k) ≡ k
 unfolding cells
-one_more d p i k l h =
-    rw (add-one, take-suc k i (plain 0 0) h, map-append d p (take i k) (get_or k i (plain 0 0) ∷ []), append_assoc, get_or-append k (replicate (room - length k) (plain 0 0)) (plain 0 0) i h) refl
+taken-cells k = take-append_seam k (replicate (room - length k) (plain 0 0))
+
+pub one_more : (d p i : ℕ) (k : List Message) (l : List Entry) (m : Message) → i < length k
+    → (l ++ map (sent d p) (take i k)) ++ (sent d p (get_or k i m) ∷ []) ≡ l ++ map (sent d p) (take (i + 1) k)
+one_more d p i k l m h =
+    rw (add-one, take-suc k i m h, map-append d p (take i k) (get_or k i m ∷ []), append_assoc) refl
 
 pub length_more : (d p i : ℕ) (k : List Message) (l : List Entry) → i ≤ length k → length (l ++ map (sent d p) (take i k)) ≡ length l + i
 length_more d p i k l h = length-append l (map (sent d p) (take i k)) ∙ ap (λ (n : ℕ). length l + n) (length-map (take i k) (sent d p) ∙ length-take-le i k h)

@@ -7,7 +7,7 @@ use Rattle.message.specs.declared.Outbox.{Outbox}
 use Rattle.message.specs.Outbox.{room}
 use Rattle.entry.specs.Entry as Entry
 use Rattle.entry.specs.Entry.{Entry, width, entry_from}
-use Rattle.mailbox.specs.declared.Route.{Route}
+use Rattle.entry.specs.declared.Route.{Route}
 
 abbrev pub max_capacity : ℕ
 max_capacity = 4096

@@ -11,8 +11,8 @@ ghost use Rattle.mailbox.specs.Layout.{header, max_capacity, size, route_place, 
 use entry::WIDTH;
 use message::{Message, Outbox};
 
-// The two directions: session to item, item to session.
-pub use entry::{TO_ITEM, TO_SESSION};
+// The two directions: session to item, item to session. A direction, a session and an item are a route.
+pub use entry::{Route, TO_ITEM, TO_SESSION};
 
 pub const MAX_CAPACITY: usize = 4096;
 
@@ -80,31 +80,29 @@ pub fn sized(m: &[u8]) -> bool
 }
 
 // Whether a mailbox for so many sessions and items is well-formed.
+#[tactic(auto, using(crate::proofs::Laws::lengths))]
 pub fn well_formed(m: &[u8], sessions: u8, items: u8) -> bool
     requires { sized m.now ≡ true }
     ensures { result ≡ well_formed sessions items m.now }
 {
     let c = capacity(m);
     let n = count(m);
-    if n <= c {
-        let left = WIDTH * (c - n);
-        if entry::well_formed(m, HEADER, route_place(c), n, sessions, items) {
-            let routes = buffer::is_zero(m, route_place(n), left);
-            routes & buffer::is_zero(m, body_place(c, n), left)
-        } else {
-            false
-        }
-    } else {
-        false
+    if n > c {
+        return false;
     }
+    let left = WIDTH * (c - n);
+    entry::well_formed(m, HEADER, route_place(c), n, sessions, items)
+        && buffer::is_zero(m, route_place(n), left)
+        && buffer::is_zero(m, body_place(c, n), left)
 }
 
 // The place of the earliest entry of a route, or the number of entries.
-pub fn earliest(m: &[u8], direction: u8, t: u8, x: u8) -> usize
+#[tactic(auto, using(crate::proofs::Laws::lengths))]
+pub fn earliest(m: &[u8], route: Route) -> usize
     requires { Kept m.now }
-    ensures { result ≡ earliest direction t x (entries_of m.now) }
+    ensures { result ≡ earliest route.direction route.session route.item (entries_of m.now) }
 {
-    entry::first(m, HEADER, count(m), direction, t, x)
+    entry::first(m, HEADER, count(m), route)
 }
 
 // The places of the session and the item in a route.
@@ -112,15 +110,8 @@ const SESSION_SIDE: usize = 1;
 
 const ITEM_SIDE: usize = 2;
 
-// The route of an entry.
-#[derive(Clone, Copy)]
-pub struct Route {
-    pub direction: u8,
-    pub session: u8,
-    pub item: u8,
-}
-
 // The route of entry k.
+#[tactic(auto, using(crate::proofs::Laws::lengths), unfolding(crate::specs::Layout::entry_at))]
 pub fn route_of(m: &[u8], k: usize) -> Route
     requires { Stands m.now k }
     ensures { result ≡ route_of (entry_at m.now k) }
@@ -134,6 +125,7 @@ pub fn route_of(m: &[u8], k: usize) -> Route
 }
 
 // Entry k as a message from one side of its route.
+#[tactic(auto, using(crate::proofs::Laws::lengths), unfolding(crate::specs::Layout::entry_at))]
 fn message(m: &[u8], k: usize, side: usize) -> Message
     requires { Stands m.now k × (side < width) }
     ensures { (side ≡ 1 → result ≡ seen_by_item (entry_at m.now k)) × (side ≡ 2 → result ≡ seen_by_session (entry_at m.now k)) }
@@ -160,6 +152,7 @@ pub fn message_to_session(m: &[u8], k: usize) -> Message
 }
 
 // Takes out the entries from place a on and before place b; the rest close up.
+#[tactic(auto, using(crate::proofs::Laws::lengths))]
 pub fn cut(m: &mut [u8], a: usize, b: usize)
     requires { Kept m.old × (a ≤ b) × (b ≤ count_of m.old) }
     ensures { m.new ≡ mail_bytes (capacity_of m.old) (without_places a b (entries_of m.old)) }
@@ -182,24 +175,43 @@ pub fn remove(m: &mut [u8], k: usize)
 }
 
 // Adds an entry to the n that a mailbox of capacity c holds.
-fn add(m: &mut [u8], c: usize, n: usize, d: u8, t: u8, x: u8, k: u8, a: u8, b: u8)
+fn add(m: &mut [u8], c: usize, n: usize, route: Route, k: u8, a: u8, b: u8)
     requires { (length m.old ≡ size c) × (c ≤ max_capacity) × (n < c) }
     ensures { (l : List Entry) → length l ≡ n → m.old ≡ mail_bytes c l
-        → m.new ≡ mail_bytes c (l ++ (record { direction = d; session = t; item = x; kind = k; a = a; b = b } ∷ [])) }
+        → m.new ≡ mail_bytes c (l ++ (record { direction = route.direction; session = route.session; item = route.item; kind = k; a = a; b = b } ∷ [])) }
 {
-    entry::put(m, route_place(n), d, t, x);
+    entry::put(
+        m,
+        route_place(n),
+        route.direction,
+        route.session,
+        route.item,
+    );
     entry::put(m, body_place(c, n), k, a, b);
     buffer::put16(m, COUNT_PLACE, (n + 1) as u64);
 }
 
-// The first of two numbers for direction 1, else the second.
-fn by_direction(direction: u8, first: u8, second: u8) -> u8
-    ensures { result ≡ cond (eqb direction to_item) first second }
+// The route of what a session (direction 1) or an item (direction 2) sends to a peer.
+fn route_between(direction: u8, party: u8, peer: u8) -> Route
+    ensures { result ≡ record { direction = direction; session = cond (eqb direction to_item) party peer; item = cond (eqb direction to_item) peer party } }
 {
-    if direction == TO_ITEM { first } else { second }
+    if direction == TO_ITEM {
+        Route {
+            direction,
+            session: party,
+            item: peer,
+        }
+    } else {
+        Route {
+            direction,
+            session: peer,
+            item: party,
+        }
+    }
 }
 
 // Adds what a session (direction 1) or an item (direction 2) sends, in order.
+#[tactic(auto, using(crate::proofs::Laws::lengths))]
 pub fn post(m: &mut [u8], direction: u8, party: u8, out: Outbox)
     requires { Room m.old out }
     ensures { (l : List Message) → out ≡ outbox_of l
@@ -207,15 +219,9 @@ pub fn post(m: &mut [u8], direction: u8, party: u8, out: Outbox)
 {
     let c = capacity(m);
     let count = count(m);
-    let at = out.at;
-    let n = out.n;
-    let mut i: usize = 0;
-    while i < n {
-        let msg = at[i];
-        let t = by_direction(direction, party, msg.peer);
-        let x = by_direction(direction, msg.peer, party);
-        add(m, c, count + i, direction, t, x, msg.kind, msg.a, msg.b);
-        i += 1;
+    for (i, msg) in out.at[..out.n].iter().enumerate() {
+        let route = route_between(direction, party, msg.peer);
+        add(m, c, count + i, route, msg.kind, msg.a, msg.b);
     }
 }
 

@@ -16,6 +16,7 @@ ghost use Rattle.step.specs.Step.{refused_answer, accepted_answer, delivered, it
 ghost use Rattle.step.specs.Parts.{Judged, Acting, ForItem, ForSession, fitting, room_made, concluded};
 
 use item::{Event, ItemStep};
+use mailbox::Route;
 use session::{Session, SessionStep};
 
 // The answer of a step. A refused step answers its number and zeros.
@@ -69,11 +70,17 @@ fn delivered(verb: u64, t: u8, x: u8, mail: &[u8]) -> usize
     requires { Kept mail.now }
     ensures { result ≡ delivered verb t x (entries_of mail.now) }
 {
-    match verb {
-        DELIVER_TO_ITEM => mailbox::earliest(mail, mailbox::TO_ITEM, t, x),
-        DELIVER_TO_SESSION => mailbox::earliest(mail, mailbox::TO_SESSION, t, x),
-        _ => mailbox::count(mail),
-    }
+    let direction = match verb {
+        DELIVER_TO_ITEM => mailbox::TO_ITEM,
+        DELIVER_TO_SESSION => mailbox::TO_SESSION,
+        _ => return mailbox::count(mail),
+    };
+    let route = Route {
+        direction,
+        session: t,
+        item: x,
+    };
+    mailbox::earliest(mail, route)
 }
 
 // Whether the stage forbids a request or a release.

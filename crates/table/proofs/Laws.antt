@@ -69,6 +69,9 @@ module _ (t : List ℕ) (e : sized t ≡ true) where
   pub header-fits : header ≤ length t
   header-fits = let f = sized-facts t e in omega arith
 
+-- what the answers to where a byte stands rest on
+pub ruleset places = (sized-facts, session-fits, item-fits, ranks_fit, ranks-length, header-fits)
+
 -- the record of session k is well-formed, and that of item x
 unfoldable pub session_ok : List ℕ → ℕ → Bool
 session_ok t k = SessionRecord.well_formed (sessions_of t) (items_of t) (session t k)

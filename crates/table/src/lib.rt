@@ -50,20 +50,20 @@ pub fn items(t: &[u8]) -> u8
 fn items_start(s: u8) -> usize
     ensures { result ≡ items_start s }
 {
-    HEADER + SESSION_STRIDE * s as usize
+    HEADER + SESSION_STRIDE * usize::from(s)
 }
 
 // Where the ranks begin, behind the records of m items, and where they end.
 fn ranks_place(s: u8, m: u8) -> usize
     ensures { result ≡ ranks_place s m }
 {
-    items_start(s) + ITEM_STRIDE * m as usize
+    items_start(s) + ITEM_STRIDE * usize::from(m)
 }
 
 fn ranks_end(s: u8, m: u8) -> usize
     ensures { result ≡ ranks_end s m }
 {
-    ranks_place(s, m) + s as usize
+    ranks_place(s, m) + usize::from(s)
 }
 
 // The bytes of a table with s sessions and m items.
@@ -78,7 +78,7 @@ fn session_place(k: u8) -> usize
     requires { 1 ≤ k }
     ensures { result ≡ session_place k }
 {
-    HEADER + SESSION_STRIDE * (k - 1) as usize
+    HEADER + SESSION_STRIDE * usize::from(k - 1)
 }
 
 // Where the record of item x stands, behind s sessions.
@@ -86,7 +86,7 @@ fn item_place(s: u8, x: u8) -> usize
     requires { 1 ≤ x }
     ensures { result ≡ item_place s x }
 {
-    items_start(s) + ITEM_STRIDE * (x - 1) as usize
+    items_start(s) + ITEM_STRIDE * usize::from(x - 1)
 }
 
 // Whether S and M are within their bounds and the length is that of S and M.
@@ -99,12 +99,13 @@ pub fn sized(t: &[u8]) -> bool
     let s = sessions(t);
     let m = items(t);
     (s >= 1)
-        & (s as usize <= MAX_SESSIONS)
-        & ((m >= 1) & (m as usize <= MAX_ITEMS))
+        & (usize::from(s) <= MAX_SESSIONS)
+        & ((m >= 1) & (usize::from(m) <= MAX_ITEMS))
         & (t.len() == size(s, m))
 }
 
 // The ranks, from session 1 on.
+#[tactic(auto, using(crate::proofs::Laws::places), unfolding(crate::specs::Layout::ranks))]
 pub fn ranks(t: &[u8]) -> &[u8]
     requires { sized t.now ≡ true }
     ensures { result.now ≡ ranks t.now }
@@ -117,6 +118,7 @@ pub fn ranks(t: &[u8]) -> &[u8]
 }
 
 // Whether every record is well-formed, and the ranks.
+#[tactic(auto, using(crate::proofs::Laws::places))]
 pub fn well_formed(t: &[u8]) -> bool
     requires { sized t.now ≡ true }
     ensures { result ≡ well_formed t.now }
@@ -125,22 +127,14 @@ pub fn well_formed(t: &[u8]) -> bool
     let m = items(t);
     let limits = form::limits(s);
     let top = bitset::full(m);
-    let sessions = s as usize;
-    let mut k: usize = 0;
-    while k < sessions {
-        if form::session(t, HEADER + SESSION_STRIDE * k, s, m, top, &limits) {
-            k += 1;
-        } else {
+    for k in 0..usize::from(s) {
+        if !form::session(t, HEADER + SESSION_STRIDE * k, s, m, top, &limits) {
             return false;
         }
     }
     let from = items_start(s);
-    let items = m as usize;
-    let mut x: usize = 0;
-    while x < items {
-        if form::item(t, from + ITEM_STRIDE * x, s, &limits) {
-            x += 1;
-        } else {
+    for x in 0..usize::from(m) {
+        if !form::item(t, from + ITEM_STRIDE * x, s, &limits) {
             return false;
         }
     }
@@ -148,6 +142,7 @@ pub fn well_formed(t: &[u8]) -> bool
 }
 
 // The record of session k.
+#[tactic(auto, using(crate::proofs::Laws::places), unfolding(crate::specs::Layout::session))]
 pub fn session(t: &[u8], k: u8) -> Session
     requires { HasSession t.now k }
     ensures { result ≡ session t.now k }
@@ -156,6 +151,7 @@ pub fn session(t: &[u8], k: u8) -> Session
 }
 
 // Replaces the record of session k.
+#[tactic(auto, using(crate::proofs::Laws::places), unfolding(crate::specs::Layout::with_session))]
 pub fn put_session(t: &mut [u8], k: u8, s: Session)
     requires { HasSession t.old k }
     ensures { t.new ≡ with_session t.old k s }
@@ -164,6 +160,7 @@ pub fn put_session(t: &mut [u8], k: u8, s: Session)
 }
 
 // The record of item x.
+#[tactic(auto, using(crate::proofs::Laws::places), unfolding(crate::specs::Layout::item))]
 pub fn item(t: &[u8], x: u8) -> Item
     requires { HasItem t.now x }
     ensures { result ≡ item t.now x }
@@ -172,6 +169,7 @@ pub fn item(t: &[u8], x: u8) -> Item
 }
 
 // The holder of item x, or 0.
+#[tactic(auto, using(crate::proofs::Laws::places), unfolding(crate::specs::Layout::item))]
 pub fn holder(t: &[u8], x: u8) -> u8
     requires { HasItem t.now x }
     ensures { result ≡ (item t.now x).holder }
@@ -180,6 +178,7 @@ pub fn holder(t: &[u8], x: u8) -> u8
 }
 
 // How many sessions wait for item x.
+#[tactic(auto, using(crate::proofs::Laws::places), unfolding(crate::specs::Layout::item))]
 pub fn waiting(t: &[u8], x: u8) -> u8
     requires { HasItem t.now x }
     ensures { result ≡ (item t.now x).waiting }
@@ -188,6 +187,7 @@ pub fn waiting(t: &[u8], x: u8) -> u8
 }
 
 // Replaces the record of item x.
+#[tactic(auto, using(crate::proofs::Laws::places), unfolding(crate::specs::Layout::with_item))]
 pub fn put_item(t: &mut [u8], x: u8, i: Item)
     requires { HasItem t.old x }
     ensures { t.new ≡ with_item t.old x i }
@@ -204,11 +204,8 @@ pub fn clear(t: &mut [u8], sessions: u8, items: u8, ranks: &[u8])
     buffer::clear(t);
     t[SESSIONS_PLACE] = sessions;
     t[ITEMS_PLACE] = items;
-    let n = sessions as usize;
-    let mut k: usize = 0;
-    while k < n {
+    for k in 0..usize::from(sessions) {
         t[HEADER + SESSION_STRIDE * k] = Session::GROWING;
-        k += 1;
     }
     buffer::put_bytes(t, ranks_place(sessions, items), ranks);
 }

@@ -8,6 +8,3 @@ use Rattle.entry.proofs.cut_one.Given as goal
 abbrev pub invariant-loop-n : goal.invariant-loop-n
 invariant-loop-n l =
     (l.n ≤ l.len - 3) × (length l.m ≡ length l.initial.m) × (moved_down l.m (l.from + l.n) 3 (l.len - 3 - l.n) ≡ moved_down l.initial.m (l.from + l.initial.n) 3 (l.len - 3 - l.initial.n))
-
-abbrev pub decreases-loop-n : goal.decreases-loop-n
-decreases-loop-n l = l.len - 3 - l.n

@@ -10,7 +10,7 @@ unfolding every_below
 passed-by_item-requires c = (c.requires, c.thrice-skips.ensures, omega arith, refl)
 
 pub loop-i-preserved : goal.loop-i-preserved
-loop-i-preserved c = (omega arith, rw (below_more, c.loop-i.invariant.1, ← c.off.ensures, c.if-off.true) refl)
+loop-i-preserved c = (omega arith, rw (below_more, c.loop-i.invariant.1, ← c.off.ensures, c.if-not-off.false) refl)
 
 pub returns : goal.returns
 returns c =

@@ -1,11 +1,14 @@
 -- `passed` meets its contract. The invariant: the entries passed are not on the route.
-use mathlib.Core.Path.{sym, ◌∙◌}
+use mathlib.Core.Path.{◌≡◌, sym, ◌∙◌}
+use Prim.Native.Nat.{◌+◌, ◌*◌}
+use Rattle.entry.specs.Cells.{block_entries}
 use Rattle.entry.proofs.Cells.{miss_on}
 use native.Mathlib.Omega.{arith}
 use Rattle.entry.proofs.passed.Goals as goal
 
-pub loop-i-preserved : goal.loop-i-preserved
-loop-i-preserved c =
+pub loop-k-preserved : goal.loop-k-preserved
+loop-k-preserved c =
     let a = c.args in
-    let l = c.loop-i in
-    (omega arith, miss_on a.m.now a.depth a.d a.t a.x a.at l.i c.requires.1 (sym c.block_differs.ensures ∙ c.if-block_differs.true) l.invariant.1)
+    let k = c.loop-k.k in
+    let next : a.from + block_entries * (k + 1) ≡ a.from + block_entries * k + block_entries = omega arith in
+    rw (next) (miss_on a.m.now a.depth a.route.direction a.route.session a.route.item a.at (a.from + block_entries * k) c.requires.1 (sym c.block_differs.ensures ∙ c.if-not-block_differs.false) c.loop-k.invariant)

@@ -1,14 +1,11 @@
 -- `passed` meets its contract. The invariant: the entries passed are not on the route.
 use mathlib.Core.Path.{◌≡◌}
 use mathlib.Core.Bool.{true}
-use Prim.Native.Nat.{◌+◌, ◌*◌, ◌-◌, ◌≤◌}
+use Prim.Native.Nat.{◌+◌, ◌*◌}
 use Rattle.entry.specs.Entry.{width}
-use Rattle.entry.specs.Cells.{misses}
+use Rattle.entry.specs.Cells.{block_entries, misses}
 use Rattle.lists.specs.Lists.{every_below}
 use Rattle.entry.proofs.passed.Given as goal
 
-abbrev pub invariant-loop-i : goal.invariant-loop-i
-invariant-loop-i l = (l.i ≤ l.n) × (every_below l.i (λ k. misses l.m l.d l.t l.x (l.at + width * k)) ≡ true)
-
-abbrev pub decreases-loop-i : goal.decreases-loop-i
-decreases-loop-i l = l.n - l.i
+abbrev pub invariant-loop-k : goal.invariant-loop-k
+invariant-loop-k l = every_below (l.from + block_entries * l.k) (λ k. misses l.m l.route.direction l.route.session l.route.item (l.at + width * k)) ≡ true

@@ -1,58 +1,36 @@
 -- `queue` meets its contract. The loop's invariant: the sessions passed pass the test, and the mask has their bits and that of the holder.
-use mathlib.Core.Path.{◌≡◌, refl, sym, ◌∙◌}
-use Prim.Native.Nat.{◌+◌, ◌≤◌}
+use mathlib.Core.Path.{refl, sym, ◌∙◌}
+use Prim.Native.Nat.{◌≤◌}
+use native.Mathlib.Numerals.{add-one}
 use native.Mathlib.Omega.{arith}
-use lib.ListN.{get_or}
-use Rattle.buffer.specs.Bytes.{slice}
+use lib.ListN.{get_or, take}
+use lib.Seq.{take-suc}
 use Rattle.lists.specs.Lists.{all_of, distinct, member}
-use Rattle.buffer.proofs.Laws.{slice-more}
 use Rattle.form.proofs.FormLaws.{none_seen, line-zero, line_seen, line_new, seen_more, line-stop}
+use Rattle.form.proofs.queue.Goals.{then-v-eq0-via-then-v-eq0, then-v-eq0-via-else-v-eq0+then-contains}
 use Rattle.form.proofs.queue.Goals as goal
 
-pub loop-i-init : goal.loop-i-init
+pub loop-v-init : goal.loop-v-init
 unfolding all_of distinct member
-loop-i-init c = (omega arith, refl, rw c.single-seen.ensures (none_seen c.args.h))
+loop-v-init c = (refl, rw c.single-seen.ensures (none_seen c.args.h))
 
 pub returns-then-v-eq0 : goal.returns-then-v-eq0
 returns-then-v-eq0 c =
-    let i = c.loop-i.i in
-    let start = c in
-    let a = start.args in
-    let t = a.t.now in
-    sym (line-stop t a.at a.n a.h i (omega arith) (omega arith)
-    (line-zero a.h (slice t a.at i) (get_or t (a.at + i) 0) c.if-v-eq0.true))
+    let h = c.args.h in
+    let l = c.args.l.now in
+    let i = c.loop-v.v-index in
+    sym (line-stop l h i c.loop-v-test.true (elim c.then-v-eq0.branch [
+      | then-v-eq0-via-then-v-eq0 w ↦ line-zero h (take i l) (get_or l i 0) w.if-v-eq0.true
+      | then-v-eq0-via-else-v-eq0+then-contains w ↦
+          line_seen h (take i l) (get_or l i 0) c.loop-v.seen c.loop-v.invariant.1 (omega (arith, w.if-v-eq0.false)) (sym w.contains.ensures ∙ w.if-contains.true)
+    ]))
 
-pub contains-requires : goal.contains-requires
-contains-requires c = omega (arith, c.if-v-eq0.false, c.requires.2 c.loop-i.i c.loop-i-test.true)
-
-pub returns-then-contains : goal.returns-then-contains
-returns-then-contains c =
-    let l = c.loop-i in
-    let i = l.i in
-    let a = c.args in
-    let t = a.t.now in
-    sym (line-stop t a.at a.n a.h i (omega arith) (omega arith)
-    (line_seen a.h (slice t a.at i) (get_or t (a.at + i) 0) l.seen l.invariant.2 (omega (arith, c.if-v-eq0.false)) (sym c.contains.ensures ∙ c.if-contains.true)))
-
-pub insert-seen-requires : goal.insert-seen-requires
-insert-seen-requires c = omega (arith, c.if-v-eq0.false, c.requires.2 c.loop-i.i c.loop-i-test.true)
-
-pub loop-i-preserved : goal.loop-i-preserved
-loop-i-preserved c =
-    let l = c.loop-i in
-    let i = l.i in
-    let a = c.args in
-    let t = a.t.now in
-    let v = get_or t (a.at + i) 0 in
-    let old = slice t a.at i in
-    let new = slice-more t a.at i (omega arith) in
-    let low : 1 ≤ v = omega (arith, c.if-v-eq0.false) in (
-      omega arith,
-      rw (new) (line_new a.h old v l.seen l.invariant.2 low (sym c.contains.ensures ∙ c.if-contains.false) l.invariant.1),
-      rw (new, c.insert-seen.ensures) (seen_more a.h old v l.seen l.invariant.2 low),
+pub loop-v-preserved : goal.loop-v-preserved
+loop-v-preserved c =
+    let h = c.args.h in
+    let l = c.args.l.now in
+    let i = c.loop-v.v-index in
+    let low : 1 ≤ get_or l i 0 = omega (arith, c.if-v-eq0.false) in (
+      rw (add-one, take-suc l i 0 c.loop-v-test.true) (line_new h (take i l) (get_or l i 0) c.loop-v.seen c.loop-v.invariant.1 low (sym c.contains.ensures ∙ c.if-contains.false) c.loop-v.invariant.0),
+      rw (add-one, take-suc l i 0 c.loop-v-test.true, c.insert-seen.ensures) (seen_more h (take i l) (get_or l i 0) c.loop-v.seen c.loop-v.invariant.1 low),
     )
-
-pub returns : goal.returns
-returns c =
-    let all_of : c.loop-i.i ≡ c.args.n = omega arith in
-    rw (← all_of) (sym c.loop-i.invariant.1)

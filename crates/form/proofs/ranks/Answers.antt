@@ -1,68 +1,47 @@
 -- `ranks` meets its contract. The loop's invariant: the ranks passed are in bounds, and the mask has them.
 use mathlib.Core.Path.{◌≡◌, sym}
 use mathlib.Core.Bool.{true}
-use Prim.Native.Nat.{ℕ, ◌+◌, ◌≤◌}
+use Prim.Native.Nat.{ℕ, ◌≤◌}
+use native.Mathlib.Numerals.{add-one}
 use native.Mathlib.Omega.{arith}
-use lib.ListN.{length, get_or}
-use lib.Seq.{take-length}
-use Rattle.buffer.specs.Bytes.{slice}
-use Rattle.buffer.proofs.Laws.{slice-more}
+use lib.ListN.{length, get_or, take}
+use lib.Seq.{take-suc, take-length}
 use Rattle.lists.specs.Lists.{between, member}
 use Rattle.lists.proofs.Tests.{fails, within, between_intro}
 use Rattle.lists.proofs.Searches.{below-and-at}
 use Rattle.bitset.specs.Bitset.{single}
 use Rattle.bitset.proofs.MemberLaws.{insert-below}
 use Rattle.form.proofs.FormLaws.{none_seen, seen_more, ranks_beyond, ranks_form}
+use Rattle.form.proofs.ranks.Goals.{then-rank-eq0-via-then-rank-eq0, then-rank-eq0-via-else-rank-eq0+then-n-from}
 use Rattle.form.proofs.ranks.Goals as goal
 
-pub loop-i-init : goal.loop-i-init
+pub loop-rank-init : goal.loop-rank-init
 unfolding member single
-loop-i-init c = (omega arith, (λ k h. absurd (omega arith)), none_seen 0, omega arith)
+loop-rank-init c = ((λ k h. absurd (omega arith)), none_seen 0, omega arith)
 
 pub returns-then-rank-eq0 : goal.returns-then-rank-eq0
 returns-then-rank-eq0 c =
     let l = c.args.l.now in
-    sym (ranks_beyond l c.loop-i.i (omega arith) (fails _ (λ e. omega (arith, c.if-rank-eq0.true, within 1 (length l) (get_or l c.loop-i.i 0) e))))
+    let i = c.loop-rank.rank-index in
+    sym (ranks_beyond l i c.loop-rank-test.true (fails _ (λ e. let bounds = within 1 (length l) (get_or l i 0) e in elim c.then-rank-eq0.branch [
+      | then-rank-eq0-via-then-rank-eq0 w ↦ omega (arith, w.if-rank-eq0.true, bounds)
+      | then-rank-eq0-via-else-rank-eq0+then-n-from w ↦ omega (arith, w.from.ensures, w.if-n-from.true, bounds)
+    ])))
 
-pub overflow_cast-rank : goal.overflow_cast-rank
-overflow_cast-rank c = omega (arith, c.shared_slice_known-in-loop-i-1.given c.loop-i.i)
-
-pub returns-then-n-rank : goal.returns-then-n-rank
-returns-then-n-rank c =
+pub loop-rank-preserved : goal.loop-rank-preserved
+loop-rank-preserved c =
     let l = c.args.l.now in
-    sym (ranks_beyond l c.loop-i.i (omega arith) (fails _ (λ e. omega (arith, c.if-n-rank.true, within 1 (length l) (get_or l c.loop-i.i 0) e))))
-
-pub insert-used-requires : goal.insert-used-requires
-insert-used-requires c = omega (arith, c.if-rank-eq0.false, c.if-n-rank.false)
-
-pub loop-i-preserved : goal.loop-i-preserved
-loop-i-preserved c =
-    let loop = c.loop-i in
-    let i = loop.i in
-    let start = c in
-    let l = start.args.l.now in
-    let at : 0 + i ≡ i = omega arith in
+    let i = c.loop-rank.rank-index in
     let v = get_or l i 0 in
     let low : 1 ≤ v = omega (arith, c.if-rank-eq0.false) in
-    let high : v ≤ length l = omega (arith, c.if-n-rank.false) in
-    let new = rw (at) at (slice-more l 0 i (omega arith)) in (
-      omega arith,
-      (λ k h. below-and-at (λ (j : ℕ). between 1 (length l) (get_or l j 0) ≡ true) i loop.invariant.1 (between_intro 1 (length l) v low high) k (omega arith)),
-      rw (new, c.insert-used.ensures) (seen_more 0 (slice l 0 i) v loop.used loop.invariant.2 low),
-      rw c.insert-used.ensures (insert-below 64 v loop.used loop.invariant.3 low (omega (arith, start.requires))),
+    let high : v ≤ length l = omega (arith, c.from.ensures, c.if-n-from.false) in (
+      (λ k h. below-and-at (λ (j : ℕ). between 1 (length l) (get_or l j 0) ≡ true) i c.loop-rank.invariant.0 (between_intro 1 (length l) v low high) k (omega arith)),
+      rw (add-one, take-suc l i 0 c.loop-rank-test.true, c.insert-used.ensures) (seen_more 0 (take i l) v c.loop-rank.used c.loop-rank.invariant.1 low),
+      rw c.insert-used.ensures (insert-below 64 v c.loop-rank.used c.loop-rank.invariant.2 low (omega (arith, c.requires))),
     )
-
-pub overflow_cast-n : goal.overflow_cast-n
-overflow_cast-n c = omega (arith, c.requires)
-
-pub full-requires : goal.full-requires
-full-requires c = omega (arith, c.requires)
 
 pub returns : goal.returns
 returns c =
-    let loop = c.loop-i in
-    let start = c in
-    let l = start.args.l.now in
-    let done : loop.i ≡ length l = omega arith in
-    let whole : slice l 0 (length l) ≡ l = take-length l in
-    rw c.full.ensures (ranks_form l start.requires (rw (done) at loop.invariant.1) loop.used (rw (done, whole) at loop.invariant.2) loop.invariant.3)
+    let l = c.args.l.now in
+    let done : c.loop-rank.rank-index ≡ length l = omega arith in
+    rw c.full.ensures (ranks_form l c.requires (rw (done) at c.loop-rank.invariant.0) c.loop-rank.used (rw (done, take-length l) at c.loop-rank.invariant.1) c.loop-rank.invariant.2)

@@ -1,28 +1,27 @@
--- `row` meets its contract. The loop's invariant: the flag is the test on the bytes passed.
-use mathlib.Core.Path.{◌≡◌, refl, sym}
-use Prim.Native.Nat.{◌+◌}
-use native.Mathlib.Omega.{arith}
-use lib.ListN.{get_or}
-use Rattle.buffer.specs.Bytes.{slice}
-use Rattle.buffer.proofs.Laws.{slice-more, length-slice}
-use Rattle.form.proofs.FormLaws.{within_more, within_none, limit}
+-- `row` meets its contract: a byte and its limit at a time.
+use mathlib.Core.Path.{◌≡◌, refl, ◌∙◌}
+use mathlib.Core.Bool.{true}
+use mathlib.Core.List.{List, [], ◌∷◌}
+use Prim.Native.Nat.{ℕ, ◌-◌}
+use lib.ListN.{take, drop}
+use Rattle.std.specs.List.{zip}
+use Rattle.std.proofs.Common.{rules, tests}
+use Rattle.std.proofs.iter.Yields.{fronts}
+use Rattle.std.proofs.lemmas.Fn.{fold_over}
+use Rattle.std.proofs.lemmas.Iterator.{zips, YieldsList-from_slice, YieldsList-from_zip}
+use Rattle.lists.specs.Lists.{all_of}
+use Rattle.lists.proofs.Laws.{all_append}
 use Rattle.message.specs.Limits.{max_sessions}
+use Rattle.form.proofs.FormLaws.{ordered, row_form}
 use Rattle.form.proofs.row.Goals as goal
 
-pub loop-i-init : goal.loop-i-init
-loop-i-init c = (omega arith, sym (within_none c.args.s c.args.n))
-
-pub loop-i-preserved : goal.loop-i-preserved
-loop-i-preserved c =
-    let start = c in
-    let t = start.args.t.now in
-    let at = start.args.at in
-    let s = start.args.s in
-    let n = start.args.n in
-    let i = c.loop-i.i in (
-      omega arith,
-      rw (c.loop-i.invariant.1, start.requires.2, limit max_sessions s n i (omega arith) (omega arith), slice-more t at i (omega arith), within_more s n (slice t at i) (get_or t (at + i) 0), length-slice t at i (omega arith)) refl,
-    )
-
 pub returns : goal.returns
-returns c = let all_of : c.loop-i.i ≡ max_sessions = omega arith in rw (all_of) at c.loop-i.invariant.1
+unfolding all_of
+returns c =
+    let l : List ℕ = c.args.l.now in
+    let bounds : List ℕ = take max_sessions (drop (max_sessions - c.args.n) c.args.limits.now) in
+    fold_over (zips fronts fronts) (λ p. (p.0.now, p.1.now)) _ (λ ys b. b ≡ all_of ordered ys) _
+    (λ ys b x r q e k. rw (all_append ordered ys ((x.0.now, x.1.now) ∷ []), ← e) (search (rules, tests)))
+    c.zip.result (zip l bounds) true c.fold.result
+    (YieldsList-from_zip (YieldsList-from_slice l (search rules)) (YieldsList-from_slice bounds (search rules))).runs refl c.fold.ensures.ran
+    ∙ rw (c.requires.2) (row_form c.args.s c.args.n l c.requires.0 c.requires.1)

@@ -1,12 +1,8 @@
 -- `clear` meets its contract. The loop's invariant: so many sessions are written, and all else is zero.
 use mathlib.Core.Path.{◌≡◌}
-use Prim.Native.Nat.{◌-◌, ◌≤◌}
 use Rattle.table.specs.Layout.{config}
 use Rattle.table.proofs.StartLaws.{begun}
 use Rattle.table.proofs.clear.Given as goal
 
 abbrev pub invariant-loop-k : goal.invariant-loop-k
-invariant-loop-k l = (l.k ≤ l.sessions) × (l.t ≡ begun (config l.sessions l.items l.ranks) l.k)
-
-abbrev pub decreases-loop-k : goal.decreases-loop-k
-decreases-loop-k l = l.sessions - l.k
+invariant-loop-k l = l.t ≡ begun (config l.sessions l.items l.ranks) l.k

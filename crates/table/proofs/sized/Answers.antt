@@ -19,4 +19,4 @@ returns-then-t-lt-HEADER c =
 
 pub returns : goal.returns
 unfolding sized
-returns c = rw (c.size.ensures, c.items-m.ensures, c.sessions-s.ensures) refl
+returns c = rw (c.size.ensures, c.from.ensures, c.from-2.ensures, c.items-m.ensures, c.sessions-s.ensures) refl
