@@ -139,6 +139,14 @@ pub unless-zero-is : (w : ℕ) {r : ℕ} → Some r ≡ unless_zero w → r ≡ 
 unless-zero-is zero {r} e = absurd (none-some r (sym e))
 unless-zero-is (suc w) {r} e = same_Some r (suc w) e
 
+pub unless-zero-some : (w : ℕ) {r : ℕ} → Some r ≡ unless_zero w → w ≡ 0 → ⊥
+unless-zero-some zero {r} e z = none-some r (sym e)
+unless-zero-some (suc w) e z = absurd (omega (arith, z))
+
+pub unless-zero-none : (w : ℕ) → None ≡ unless_zero w → w ≡ 0
+unless-zero-none zero e = refl
+unless-zero-none (suc w) e = absurd (none-some (suc w) e)
+
 -- no more waits than steps
 pick_le : (b : Bool) (x n : ℕ) → x ≤ n → cond b 0 x ≤ n
 pick_le true x n h = zero-le
@@ -253,6 +261,10 @@ module _ (t : List ℕ) (s : ℕ) where
 
   pub waits-nowhere : None ≡ OnTable.next_wait t s → OnTable.waits_at t s ≡ 0
   waits-nowhere e = eqb-true (OnTable.waits_at t s) 0 (stays-test (eqb (OnTable.waits_at t s) 0) (OnTable.wait t s) e)
+
+  pub waits-for-none : None ≡ OnTable.next_wait t s → OnTable.waits_for t s ≡ 0
+  unfolding waits_for
+  waits-for-none e = rw (waits-nowhere e) refl
 
 -- ---- the places of sessions among the first items
 -- the place of session s once the sessions l of the queue of item x are marked; p is its place among the items before x
