@@ -15,7 +15,7 @@ use Rattle.cycletext.specs.Parts.{OnCycle, waits_from}
 use Rattle.cycletext.proofs.Longest.{fits}
 use Rattle.cycletext.proofs.Round.{from-leader, text-lines, refused_no_cycle, refused_short, not-refused}
 use Rattle.cycletext.proofs.describe.Goals as goal
-use Rattle.cycletext.proofs.describe.Goals.{then-out-lt-LONGEST+else-out-lines_length, else-out-lt-LONGEST}
+use Rattle.cycletext.proofs.describe.Goals.{else-out-lt-LONGEST-via-then-out-lt-LONGEST+else-out-lines_length, else-out-lt-LONGEST-via-else-out-lt-LONGEST}
 
 -- what was read: the table u of the graph, the length of the cycle, and its most senior member
 module _ {u t : List ℕ} {me n : ℕ} (same : u ≡ t) (p : Formed t × (1 ≤ me) × (me ≤ sessions_of t)) (long : Some n ≡ unless_zero (cycle_length u me)) where
@@ -55,9 +55,9 @@ pub put_lines-length-requires : goal.put_lines-length-requires
 put_lines-length-requires c =
     let a = c.args in
     let w = whole c.of-graph.ensures c.requires c.in-Some.ensures c.leader.ensures in
-    elim c.if-out-lt-LONGEST.branch [
-      | then-out-lt-LONGEST+else-out-lines_length b ↦ omega (arith, b.lines_length.ensures, b.if-out-lines_length.false)
-      | else-out-lt-LONGEST b ↦ omega (arith, fits a.t.now c.requires.0 a.me c.requires.1, ap length w, b.if-out-lt-LONGEST.false)
+    elim c.else-out-lt-LONGEST.branch [
+      | else-out-lt-LONGEST-via-then-out-lt-LONGEST+else-out-lines_length b ↦ omega (arith, b.lines_length.ensures, b.if-out-lines_length.false)
+      | else-out-lt-LONGEST-via-else-out-lt-LONGEST b ↦ omega (arith, fits a.t.now c.requires.0 a.me c.requires.1, ap length w, b.if-out-lt-LONGEST.false)
     ]
 
 pub overflow_cast-result : goal.overflow_cast-result
@@ -72,9 +72,9 @@ returns c =
     let w = whole c.of-graph.ensures c.requires c.in-Some.ensures c.leader.ensures in
     let p = c.put_lines-length in
     let room : length (text a.t.now a.me) ≤ length a.out.now =
-    elim c.if-out-lt-LONGEST.branch [
-      | then-out-lt-LONGEST+else-out-lines_length b ↦ omega (arith, b.lines_length.ensures, ap length w, b.if-out-lines_length.false)
-      | else-out-lt-LONGEST b ↦ omega (arith, fits a.t.now c.requires.0 a.me c.requires.1, b.if-out-lt-LONGEST.false)
+    elim c.else-out-lt-LONGEST.branch [
+      | else-out-lt-LONGEST-via-then-out-lt-LONGEST+else-out-lines_length b ↦ omega (arith, b.lines_length.ensures, ap length w, b.if-out-lines_length.false)
+      | else-out-lt-LONGEST-via-else-out-lt-LONGEST b ↦ omega (arith, fits a.t.now c.requires.0 a.me c.requires.1, b.if-out-lt-LONGEST.false)
     ] in
     let e = not-refused a.me a.t.now a.out.now (round c.of-graph.ensures c.requires c.in-Some.ensures) room in
     rw (e, p.ensures.bytes, p.ensures.count, w) refl
