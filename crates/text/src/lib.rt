@@ -7,6 +7,7 @@ ghost use Rattle.text.specs.Text.{decimal, spaced, rest, line};
 
 // Writes v in decimal.
 // Kept by hand: `write!` may answer an error whatever the room, so that no contract could promise the digits.
+#[tactic(auto, using(crate::proofs::Laws::length_digit, crate::proofs::Laws::length_decimal_more))]
 pub fn put_decimal(out: &mut [u8], at: usize, v: u64) -> usize
     requires { at + length (decimal v) ≤ length out.old }
     ensures { (out.new ≡ splice out.old at (decimal v)) × (result ≡ at + length (decimal v)) }
@@ -29,6 +30,7 @@ pub fn decimal_length(v: u64) -> usize
 }
 
 // Writes a space before each number.
+#[tactic(auto, using(crate::proofs::Laws::spaced_room))]
 fn put_spaced(out: &mut [u8], at: usize, numbers: &[u64]) -> usize
     requires { at + length (spaced numbers.now) ≤ length out.old }
     ensures { (out.new ≡ splice out.old at (spaced numbers.now)) × (result ≡ at + length (spaced numbers.now)) }
@@ -42,6 +44,7 @@ fn put_spaced(out: &mut [u8], at: usize, numbers: &[u64]) -> usize
 }
 
 // Writes the rest of a line: a space before each number, then a line feed.
+#[tactic(auto, using(crate::proofs::Laws::length_rest))]
 pub fn end_line(out: &mut [u8], at: usize, numbers: &[u64]) -> usize
     requires { at + length (rest numbers.now) ≤ length out.old }
     ensures { (out.new ≡ splice out.old at (rest numbers.now)) × (result ≡ at + length (rest numbers.now)) }
@@ -52,6 +55,7 @@ pub fn end_line(out: &mut [u8], at: usize, numbers: &[u64]) -> usize
 }
 
 // Writes a line of numbers: the first, then the others with a space before each, then a line feed.
+#[tactic(auto, using(crate::proofs::Laws::length_line))]
 pub fn put_line(out: &mut [u8], at: usize, first: u64, others: &[u64]) -> usize
     requires { at + length (line first others.now) ≤ length out.old }
     ensures { (out.new ≡ splice out.old at (line first others.now)) × (result ≡ at + length (line first others.now)) }
