@@ -2,7 +2,7 @@
 use mathlib.Core.Path.{◌≡◌, refl, sym, ap, ◌∙◌}
 use mathlib.Core.Bool.{Bool, true, false}
 use mathlib.Core.List.{List, [], ◌∷◌, ◌++◌, append_assoc, append-nil}
-use Prim.Native.Nat.{ℕ, zero, suc, ◌+◌, ◌/◌, ◌%◌, ◌^◌, ◌≤◌, ◌<◌, max, zero-le}
+use Prim.Native.Nat.{ℕ, zero, suc, ◌+◌, ◌/◌, ◌%◌, ◌^◌, ◌≤◌, ◌<◌, zero-le}
 use native.Mathlib.Nat.{add-zero, zero-add, pow-suc}
 use native.Mathlib.Omega.{arith}
 use borrow.Author.Tests.{ltb-true, ltb-false, lt-ltb, le-ltb}
@@ -94,25 +94,9 @@ pub length-decimal : (k n : ℕ) → n < 10 ^ suc k → length (decimal n) ≤ s
 length-decimal zero n h = length-by (ltb n 10) n 0 refl (λ more. absurd (omega (arith, pow-suc 10 0)))
 length-decimal (suc k) n h = length-by (ltb n 10) n (suc k) refl (λ more. length-decimal k (n / 10) (omega (arith, pow-suc 10 (suc k))))
 
--- and one not below it has more than k
-power_positive : (k : ℕ) → 1 ≤ 10 ^ k
-power_positive zero = omega arith
-power_positive (suc k) = omega (arith, pow-suc 10 k, power_positive k)
-
-digits-some : (b : Bool) (n : ℕ) → ltb n 10 ≡ b → 1 ≤ length (decimal n)
-digits-some true n e = rw (decimal_digit n (ltb-true n 10 e)) (omega arith)
-digits-some false n e = omega (arith, length_decimal_more n (ltb-false n 10 e))
-
-pub decimal_long : (k n : ℕ) → 10 ^ k ≤ n → suc k ≤ length (decimal n)
-decimal_long zero n h = digits-some (ltb n 10) n refl
-decimal_long (suc k) n h =
-    let ten : 10 ≤ n = omega (arith, h, pow-suc 10 k, power_positive k) in
-    omega (arith, length_decimal_more n ten, decimal_long k (n / 10) (omega (arith, h, pow-suc 10 k)))
-
--- 0 has one digit, as 1 has
-pub length_max : (n : ℕ) → length (decimal (max n 1)) ≡ length (decimal n)
-length_max zero = rw (decimal_digit 1 (omega arith), decimal_digit 0 (omega arith)) refl
-length_max (suc n) = let same : max (suc n) 1 ≡ suc n = omega arith in rw (same) refl
+-- any number that the code has
+pub length_most : (n : ℕ) → n < 2 ^ 64 → length (decimal n) ≤ 20
+length_most n h = length-decimal 19 n (omega (arith, h))
 
 -- one number more
 pub spaced-more : (l : List ℕ) (n : ℕ) → spaced (l ++ (n ∷ [])) ≡ spaced l ++ (space ∷ decimal n)

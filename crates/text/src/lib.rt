@@ -22,11 +22,15 @@ pub fn put_decimal(out: &mut [u8], at: usize, v: u64) -> usize
 }
 
 // How many digits v has.
+#[tactic(auto, using(crate::proofs::Laws::length_digit, crate::proofs::Laws::length_decimal_more, crate::proofs::Laws::length_most))]
 pub fn decimal_length(v: u64) -> usize
     ensures { result ≡ length (decimal v) }
 {
-    let n = v.max(1).ilog10() as usize;
-    n + 1
+    if v >= 10 {
+        decimal_length(v / 10) + 1
+    } else {
+        1
+    }
 }
 
 // Writes a space before each number.
