@@ -142,9 +142,6 @@ module _ (l : List ℕ) (i : ℕ) where
 pub length_rest : (l : List ℕ) → length (rest l) ≡ length (spaced l) + 1
 length_rest l = length-append (spaced l) (line_feed ∷ [])
 
-pub length_line : (n : ℕ) (l : List ℕ) → length (line n l) ≡ length (decimal n) + length (rest l)
-length_line n l = length-append (decimal n) (rest l)
-
 pub spaced-none : length (spaced []) ≤ 0
 unfolding spaced
 spaced-none = zero-le

@@ -48,7 +48,6 @@ fn put_spaced(out: &mut [u8], at: usize, numbers: &[u64]) -> usize
 }
 
 // Writes the rest of a line: a space before each number, then a line feed.
-#[tactic(auto, using(crate::proofs::Laws::length_rest))]
 pub fn end_line(out: &mut [u8], at: usize, numbers: &[u64]) -> usize
     requires { at + length (rest numbers.now) ≤ length out.old }
     ensures { (out.new ≡ splice out.old at (rest numbers.now)) × (result ≡ at + length (rest numbers.now)) }
@@ -59,7 +58,6 @@ pub fn end_line(out: &mut [u8], at: usize, numbers: &[u64]) -> usize
 }
 
 // Writes a line of numbers: the first, then the others with a space before each, then a line feed.
-#[tactic(auto, using(crate::proofs::Laws::length_line))]
 pub fn put_line(out: &mut [u8], at: usize, first: u64, others: &[u64]) -> usize
     requires { at + length (line first others.now) ≤ length out.old }
     ensures { (out.new ≡ splice out.old at (line first others.now)) × (result ≡ at + length (line first others.now)) }

@@ -1,8 +1,7 @@
 -- `put_spaced` meets its contract. The invariant: the numbers passed are written.
-use mathlib.Core.Path.{◌≡◌, refl, sym, ◌∙◌}
+use mathlib.Core.Path.{refl, sym, ◌∙◌}
 use native.Mathlib.Omega.{arith}
-use lib.ListN.{take, length-set}
-use lib.Seq.{take_all}
+use lib.ListN.{length-set}
 use Rattle.text.specs.Text.{spaced}
 use Rattle.text.proofs.Laws.{splice-none, spaced-put, spaced_room}
 use Rattle.text.proofs.put_spaced.Goals as goal
@@ -27,10 +26,3 @@ loop-n-preserved c =
       put.0,
       put.1,
     )
-
-pub returns : goal.returns
-returns c =
-    let a = c.args in
-    let l = c.loop-n in
-    let all : take l.n-index a.numbers.now ≡ a.numbers.now = take_all l.n-index a.numbers.now (omega arith) in
-    (rw (all) at l.invariant.1, rw (all) at l.invariant.2)
