@@ -188,8 +188,8 @@ module _ (t : List ℕ) (f : Formed t) where
       pub queue-fits : n ≤ max_sessions
       queue-fits = rw (whole, e) (packed-item t f.sized f.formed x has.low has.high).fits
 
-      pub queued-session : {j : ℕ} → j < length (take n i.queue) → {s : ℕ} → s ≡ get_or (take n i.queue) j 0 → (1 ≤ s) × (s ≤ max_sessions)
-      queued-session {j} h read =
+      pub queued_session : {j : ℕ} → j < length (take n i.queue) → {s : ℕ} → s ≡ get_or (take n i.queue) j 0 → (1 ≤ s) × (s ≤ max_sessions)
+      queued_session {j} h read =
           let most = (sized-facts t f.sized).max-sessions in
           let l = rw (whole, e) at h in
           let two = within 1 (sessions_of t) (get_or (take (item t x).waiting (item t x).queue) j 0) (all_get_d (between 1 (sessions_of t)) (take (item t x).waiting (item t x).queue) j 0 lock-facts.sessions l) in

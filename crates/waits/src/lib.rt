@@ -27,6 +27,7 @@ pub struct WaitGraph<'a> {
 }
 
 // Given the places of the sessions among the items before x, writes those among the items up to x.
+#[tactic(auto, using(crate::proofs::Laws::queued_session))]
 fn mark(t: &[u8], at: &mut [u8; MAX_SESSIONS], x: u8)
     requires { Formed t.now × HasItem t.now x × (at.old ≡ places_among (x - 1) t.now) }
     ensures { at.new ≡ places_among x t.now }

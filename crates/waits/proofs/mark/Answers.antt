@@ -7,7 +7,7 @@ use lib.Seq.{take_all}
 use Rattle.table.specs.Layout.{item}
 use Rattle.waits.specs.Waits.{waits_at}
 use Rattle.waits.specs.OnTable.{locks}
-use Rattle.waits.proofs.Laws.{queue-fits, queued-session, holder-read, places-free, places-first, places-last, mark_write, mark_keep}
+use Rattle.waits.proofs.Laws.{queue-fits, queued_session, holder-read, places-free, places-first, places-last, mark_write, mark_keep}
 use Rattle.waits.proofs.mark.Goals as goal
 use Rattle.waits.proofs.mark.Goals.{then-at-k-eq0, else-at-k-eq0}
 
@@ -33,23 +33,10 @@ shared_ref_as_front-s-items c = queue-fits c.args.t.now c.requires.0 c.requires.
 pub loop-s-init : goal.loop-s-init
 loop-s-init c = c.requires.2 ∙ places-first c.args.t.now c.requires.1 (take c.from.result c.item-i.result.queue)
 
-pub overflow_sub-k : goal.overflow_sub-k
-overflow_sub-k c = (queued-session c.args.t.now c.requires.0 c.requires.1 c.item-i.ensures c.from.ensures c.loop-s-test.true c.from-k.ensures).0
-
-pub bounds-at-k : goal.bounds-at-k
-bounds-at-k c =
-    let s = queued-session c.args.t.now c.requires.0 c.requires.1 c.item-i.ensures c.from.ensures c.loop-s-test.true c.from-k.ensures in
-    omega arith
-
-pub bounds-at-k-then-at-k-eq0 : goal.bounds-at-k-then-at-k-eq0
-bounds-at-k-then-at-k-eq0 c =
-    let s = queued-session c.args.t.now c.requires.0 c.requires.1 c.item-i.ensures c.from.ensures c.loop-s-test.true c.from-k.ensures in
-    omega arith
-
 pub loop-s-preserved : goal.loop-s-preserved
 loop-s-preserved c =
     let a = c.args in
-    let s = queued-session a.t.now c.requires.0 c.requires.1 c.item-i.ensures c.from.ensures c.loop-s-test.true c.from-k.ensures in
+    let s = queued_session a.t.now c.requires.0 c.requires.1 c.item-i.ensures c.from.ensures c.loop-s-test.true c.from-k.ensures in
     let q = take c.from.result c.item-i.result.queue in
     let j = c.loop-s.s-index in
     let before : ℕ → ℕ = λ k. waits_at (a.x - 1) (locks a.t.now) (suc k) in
