@@ -8,6 +8,7 @@ use native.Mathlib.Omega.{arith}
 use lib.Dec.{eqb}
 use lib.ListN.{length}
 use Rattle.lists.specs.Lists.{sum_up_to, tabulate}
+use Rattle.lists.proofs.Laws.{tabulate-last}
 use Rattle.lists.proofs.Tests.{by_answer}
 use Rattle.lists.proofs.Searches.{sum_different}
 use Rattle.text.specs.Text.{digits, decimal}
@@ -26,7 +27,7 @@ use Rattle.waits.specs.Cycle.{wait, waits_from, cycle}
 use Rattle.cycletext.specs.Text.{lines}
 use Rattle.cycletext.specs.OnTable.{text}
 use Rattle.cycletext.specs.Statement.{longest}
-use Rattle.cycletext.proofs.Laws.{digits_of, length-line, length_more}
+use Rattle.cycletext.proofs.Laws.{digits_of, length_line, length_more}
 
 -- ---- lengths
 -- the digits of 1 to 64
@@ -40,7 +41,7 @@ unfolding lines tabulate sum_up_to
 lines-length zero m = refl
 lines-length (suc n) m =
     let last : suc n - 1 ≡ n = omega arith in
-    rw (last) (omega (arith, length_more m n, length-line (m n), lines-length n m))
+    rw (last) (omega (arith, ap (λ (l : List Wait). length (lines l)) (tabulate-last n m), length_more (tabulate n m) (m n), length_line (m n), lines-length n m))
 
 -- ---- once round
 module _ {next : ℕ → ℕ} {S : ℕ} (g : Graph next S) (t : ℕ) (low : 1 ≤ t) (on : on_cycle next S t ≡ true) where

@@ -1,67 +1,101 @@
 -- Going round a cycle, one wait at a time: what the loops of the code know.
-use mathlib.Core.Path.{◌≡◌, refl, sym, ap, ◌∙◌}
+use mathlib.Core.Path.{◌≡◌, refl, sym, ap, ◌∙◌, fun_ext}
 use mathlib.Core.Bool.{true, false}
-use mathlib.Core.List.{List, [], ◌++◌}
-use Prim.Native.Nat.{ℕ, ◌+◌, ◌≤◌, ◌<◌}
+use mathlib.Core.List.{List, [], ◌∷◌}
+use Prim.Native.Nat.{ℕ, suc, ◌+◌, ◌-◌, ◌≤◌, ◌<◌}
 use native.Mathlib.Numerals.{add-one}
 use native.Mathlib.Omega.{arith}
+use native.Mathlib.Decide.{ℕ_discrete}
+use Rattle.std.specs.Prelude.{Option, Some, None}
+use Rattle.std.specs.Iterator.{Yields, YieldsFirst}
+use Rattle.std.proofs.lemmas.Iterator.Consumers.{YieldsList-from_first, YieldsList-turn, YieldsList-end}
 use borrow.Author.Tests.{ne_eqb, lt-ltb, le-ltb}
 use lib.ListN.{length, get_or}
 use lib.Seq.{take_all}
 use Rattle.lists.specs.Lists.{tabulate}
+use Rattle.lists.proofs.Laws.{length-tabulate, get_d_tabulate}
 use Rattle.message.specs.Limits.{max_sessions}
 use Rattle.session.proofs.Seniority.{senior-weak}
 use Rattle.session.proofs.MostSenior.{Leads, leads_one, leads_new, leads-still, leads-place}
 use Rattle.table.specs.Layout as Table
-use Rattle.table.specs.Layout.{sessions_of}
+use Rattle.table.specs.Layout.{sessions_of, Formed}
 use Rattle.table.proofs.Laws.{sized-facts, senior-total}
 use Rattle.waits.specs.declared.Wait.{Wait}
 use Rattle.waits.specs.Waits.{reached, on_cycle}
 use Rattle.waits.specs.Cycle as Cycle
-use Rattle.waits.specs.Places.{WithPlaces}
-use Rattle.waits.specs.OnTable.{waits_for, cycle_length, wait, leader}
-use Rattle.waits.proofs.Laws.{graph}
+use Rattle.waits.specs.OnTable.{waits_for, cycle_length, wait, next_wait, leader}
+use Rattle.waits.proofs.Laws.{graph, waits-for-none}
 use Rattle.waits.proofs.Leaders.{around-length, around-at, leader-member}
-use Rattle.waits.proofs.Members.{member_positive, member-inside, member-length}
-use Rattle.waits.proofs.Reached.{positive_on-cycle}
+use Rattle.waits.proofs.Members.{off-cycle, on-cycle-inside, member_positive, member-length, next_positive, next-length}
+use Rattle.waits.proofs.Reached.{positive_on-cycle, reached-suc}
 use Rattle.refusal.specs.Refusal
 use Rattle.refusal.specs.Refusal.{first}
-use Rattle.cycletext.specs.Text.{line, lines}
+use Rattle.cycletext.specs.declared.Around.{Around}
+use Rattle.cycletext.specs.Text.{lines}
 use Rattle.cycletext.specs.OnTable.{text, text_causes}
 use Rattle.cycletext.specs.Parts.{OnCycle, waits_from}
-use Rattle.cycletext.proofs.Laws.{one-line-more, room-for-line}
+
+-- the waits that are left
+abbrev pub rest : Around → List Wait
+rest a = waits_from a.graph.now.table.now a.left a.session
+
+-- ---- the waits of a cycle, one after another
+module _ (t : List ℕ) where
+  pub from-length : (n s : ℕ) → length (waits_from t n s) ≡ n
+  from-length n s = length-tabulate n (λ k. wait t (reached (waits_for t) k s))
+
+  pub from-none : {n : ℕ} (s : ℕ) → n ≡ 0 → waits_from t n s ≡ []
+  unfolding tabulate
+  from-none s e = rw (e) refl
+
+  pub from-first : (n : ℕ) → (n ≡ 0 → ⊥) → {s : ℕ} {w : Wait} → w ≡ wait t s → waits_from t n s ≡ w ∷ waits_from t (n - 1) w.holder
+  unfolding tabulate reached
+  from-first n f {s} {w} e =
+      let some : n ≡ suc (n - 1) = omega arith in
+      let same = ap (tabulate (n - 1)) (fun_ext (λ k. ap (wait t) (reached-suc (waits_for t) k s))) in
+      rw (e) (ap (λ (k : ℕ). waits_from t k s) some ∙ ap (λ (l : List Wait). wait t s ∷ l) same)
+
+module _ {t : List ℕ} (f : Formed t) {s : ℕ} (o : OnCycle t s) where
+  lies_on-cycle : on_cycle (waits_for t) (sessions_of t) s ≡ true
+  lies_on-cycle = positive_on-cycle (waits_for t) (sessions_of t) s o.some
+
+  -- what the code asks of a session whose wait it reads
+  pub readable : (1 ≤ s) × (s ≤ max_sessions)
+  readable = (o.low, omega (arith, on-cycle-inside (graph t f) s o.low lies_on-cycle, (sized-facts t f.sized).max-sessions))
+
+  -- it waits
+  pub goes-on : None ≡ next_wait t s → ⊥
+  goes-on e = off-cycle (graph t f) s o.low (waits-for-none t s e) lies_on-cycle
+
+  -- for a session on the same cycle
+  pub stays-on : {w : Wait} → w ≡ wait t s → OnCycle t w.holder
+  stays-on e =
+      rw (e) (record {
+        low = next_positive (graph t f) s o.low lies_on-cycle;
+        some = omega (arith, o.some, next-length (graph t f) s o.low lies_on-cycle);
+      })
+
+-- ---- the most senior member
+-- a loop round r that has passed the waits xs: which session's wait is the next, and how many there were
+module _ {r a : Around} (whole : a ≡ r) (xs : List Wait) (b : Around) (by : Yields (YieldsFirst rest) a xs b) where
+  pub passing : {o : Option Wait} (c : Around) {w : Wait} → o ≡ Some w → YieldsFirst rest b o c
+      → (length xs < r.left) × (w.session ≡ reached (waits_for r.graph.now.table.now) (length xs) r.session)
+  passing {o} c {w} is steps =
+      let t = r.graph.now.table.now in
+      let road = YieldsList-from_first (λ (w : Wait). w) rest {s = a} (rest r) (ap rest whole) in
+      let turn = YieldsList-turn road xs b by o c w is steps in
+      let low : length xs < r.left = omega (arith, turn.0, from-length t r.left r.session) in
+      (low, ap (λ (v : Wait). v.session) (turn.1 ∙ get_d_tabulate r.left (λ k. wait t (reached (waits_for t) k r.session)) (length xs) w low))
+
+  pub passed : {o : Option Wait} (c : Around) → o ≡ None → YieldsFirst rest b o c → length xs ≡ r.left
+  passed {o} c is steps =
+      let road = YieldsList-from_first (λ (w : Wait). w) rest {s = a} (rest r) (ap rest whole) in
+      (YieldsList-end road xs b by o c is steps).1 ∙ from-length r.graph.now.table.now r.left r.session
 
 module _ (t : List ℕ) (me : ℕ) where
   -- the session k waits on
-  abbrev pub ahead : ℕ → ℕ
+  abbrev ahead : ℕ → ℕ
   ahead k = reached (waits_for t) k me
-
-  -- one wait more
-  pub one-ahead : (k : ℕ) {s h : ℕ} → s ≡ ahead k → h ≡ waits_for t s → h ≡ ahead (k + 1)
-  unfolding reached
-  one-ahead k e f = rw (add-one) (f ∙ ap (waits_for t) e)
-
-  pub none_ahead : me ≡ ahead 0
-  unfolding reached
-  none_ahead = refl
-
-  -- the wait of the session i waits on: its line is the next
-  module _ (i : ℕ) {s : ℕ} {w : Wait} (e : s ≡ ahead i) (f : w ≡ wait t s) where
-    is-ahead : w ≡ wait t (ahead i)
-    is-ahead = f ∙ ap (wait t) e
-
-    pub holder-ahead : w.holder ≡ ahead (i + 1)
-    holder-ahead = one-ahead i e (ap (λ (w : Wait). w.holder) f)
-
-    pub lines-ahead : lines (waits_from t (i + 1) me) ≡ lines (waits_from t i me) ++ line w
-    lines-ahead = rw (add-one, is-ahead) (one-line-more (λ k. wait t (ahead k)) i)
-
-    pub room-ahead : (n : ℕ) → i < n → length (lines (waits_from t i me)) + length (line w) ≤ length (lines (waits_from t n me))
-    room-ahead n h = rw (is-ahead) (room-for-line (λ k. wait t (ahead k)) i n h)
-
-  pub no_lines : lines (waits_from t 0 me) ≡ []
-  unfolding lines tabulate
-  no_lines = refl
 
   -- the sessions of the cycle
   abbrev all : List ℕ
@@ -73,38 +107,39 @@ module _ (t : List ℕ) (me : ℕ) where
     pub there : s ≡ get_or all place 0
     pub leads : Leads (Table.senior t) all i place
 
-module _ {t at : List ℕ} {me n : ℕ} (o : OnCycle t at me n) where
-  lies_on-cycle : on_cycle (waits_for t) (sessions_of t) me ≡ true
-  lies_on-cycle = positive_on-cycle (waits_for t) (sessions_of t) me (omega (arith, o.long, o.some))
-
-  -- what the code asks of a session whose wait it reads
-  pub readable : (k : ℕ) {s : ℕ} → s ≡ ahead t me k → WithPlaces t at × (1 ≤ s) × (s ≤ max_sessions)
-  readable k e =
-      let f = o.places.formed in
-      let b = sized-facts t f.sized in
-      let g = graph t f in
-      (o.places, omega (arith, e, member_positive g me o.low lies_on-cycle k), omega (arith, e, member-inside g me o.low lies_on-cycle k))
-
+module _ {t : List ℕ} (f : Formed t) {me n : ℕ} (o : OnCycle t me) (long : n ≡ cycle_length t me) where
   all-length : length (all t me) ≡ n
-  all-length = around-length (waits_for t) (sessions_of t) me ∙ sym o.long
+  all-length = around-length (waits_for t) (sessions_of t) me ∙ sym long
 
   all-ahead : (k : ℕ) → k < n → get_or (all t me) k 0 ≡ ahead t me k
-  all-ahead k h = around-at (waits_for t) (sessions_of t) me k (omega (arith, o.long))
+  all-ahead k h = around-at (waits_for t) (sessions_of t) me k (omega (arith, long))
 
-  pub best_one : Best t me 1 me
-  best_one = record { place = 0; there = none_ahead t me ∙ sym (all-ahead 0 o.some); leads = leads_one (senior-weak (Table.ranks t)) (all t me) }
+  best_one : Best t me 1 me
+  unfolding reached
+  best_one = record { place = 0; there = sym (all-ahead 0 (omega (arith, long, o.some))); leads = leads_one (senior-weak (Table.ranks t)) (all t me) }
 
-  module _ {i s r : ℕ} (b : Best t me i s) (h : i < n) (e : r ≡ ahead t me i) where
+  -- one session more, where s is the most senior of the first i, and the first of all where i is 0
+  module _ {i s r : ℕ} (none : i ≡ 0 → s ≡ me) (some : 1 ≤ i → Best t me i s) (h : i < n) (e : r ≡ ahead t me i) where
+    at-first : i ≡ 0 → {u : ℕ} → u ≡ me → Best t me (i + 1) u
+    at-first z g = rw (z, g) best_one
+
     there_too : r ≡ get_or (all t me) i 0
     there_too = e ∙ sym (all-ahead i h)
 
     pub best_new : Table.senior t r s ≡ true → Best t me (i + 1) r
-    best_new q =
-        rw (add-one) (record { place = i; there = there_too; leads = leads_new (senior-weak (Table.ranks t)) (all t me) i b.place b.leads (rw (there_too, b.there) at q) })
+    unfolding reached
+    best_new q = elim (ℕ_discrete i 0) [
+      | yes z ↦ at-first z (e ∙ ap (ahead t me) z)
+      | no z ↦ let b = some (omega arith) in
+          rw (add-one) (record { place = i; there = there_too; leads = leads_new (senior-weak (Table.ranks t)) (all t me) i b.place b.leads (rw (there_too, b.there) at q) })
+    ]
 
     pub best_still : Table.senior t r s ≡ false → Best t me (i + 1) s
-    best_still q =
-        rw (add-one) (record { place = b.place; there = b.there; leads = leads-still (senior-weak (Table.ranks t)) (all t me) i b.place b.leads (rw (there_too, b.there) at q) })
+    best_still q = elim (ℕ_discrete i 0) [
+      | yes z ↦ at-first z (none z)
+      | no z ↦ let b = some (omega arith) in
+          rw (add-one) (record { place = b.place; there = b.there; leads = leads-still (senior-weak (Table.ranks t)) (all t me) i b.place b.leads (rw (there_too, b.there) at q) })
+    ]
 
   pub best_leader : {s : ℕ} → Best t me n s → s ≡ leader t me
   unfolding Cycle.leader
@@ -112,22 +147,20 @@ module _ {t at : List ℕ} {me n : ℕ} (o : OnCycle t at me n) where
       let place = leads-place (senior-weak (Table.ranks t)) (all t me) n b.place (omega (arith, all-length)) b.leads in
       b.there ∙ ap (λ (k : ℕ). get_or (all t me) k 0) (sym (rw (take_all n (all t me) (omega (arith, all-length))) at place))
 
-  -- the most senior member lies on the same cycle
-  pub from-leader : OnCycle t at (leader t me) n
+  -- it lies on the same cycle
+  pub from-leader : OnCycle t (leader t me)
   from-leader =
-      let g = graph t o.places.formed in
-      let r = leader-member g (senior-total t o.places.formed.formed) me o.low lies_on-cycle in
+      let g = graph t f in
+      let r = leader-member g (senior-total t f.formed) me o.low (lies_on-cycle f o) in
       rw r.2 (record {
-        places = o.places;
-        low = member_positive g me o.low lies_on-cycle r.0;
-        long = o.long ∙ sym (member-length g me o.low lies_on-cycle r.0);
-        some = o.some;
+        low = member_positive g me o.low (lies_on-cycle f o) r.0;
+        some = omega (arith, o.some, member-length g me o.low (lies_on-cycle f o) r.0);
       })
 
   -- and the text begins there
   pub text-lines : text t me ≡ lines (waits_from t n (leader t me))
   unfolding Cycle.cycle
-  text-lines = rw o.long refl
+  text-lines = rw long refl
 
 -- ---- the causes of a refusal
 module _ (t : ℕ) (table buffer : List ℕ) where

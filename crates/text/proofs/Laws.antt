@@ -74,22 +74,29 @@ pub decimal_digit : (n : ℕ) → n < 10 → decimal n ≡ digit n ∷ []
 unfolding decimal digits
 decimal_digit n h = rw (lt-ltb n 10 h) refl
 
+pub length_digit : (n : ℕ) → n < 10 → length (decimal n) ≡ 1
+length_digit n h = ap length (decimal_digit n h)
+
 pub decimal-more : (n : ℕ) → 10 ≤ n → decimal n ≡ decimal (n / 10) ++ (digit (n % 10) ∷ [])
 unfolding decimal digits
 decimal-more n h =
     rw (le-ltb n 10 h) (ap (λ (l : List ℕ). l ++ (digit (n % 10) ∷ [])) (digits-room n (suc (n / 10)) (n / 10) (omega arith) (omega arith)))
 
-pub length-decimal-more : (n : ℕ) → 10 ≤ n → length (decimal n) ≡ length (decimal (n / 10)) + 1
-length-decimal-more n h = ap length (decimal-more n h) ∙ length-append (decimal (n / 10)) (digit (n % 10) ∷ [])
+pub length_decimal_more : (n : ℕ) → 10 ≤ n → length (decimal n) ≡ length (decimal (n / 10)) + 1
+length_decimal_more n h = ap length (decimal-more n h) ∙ length-append (decimal (n / 10)) (digit (n % 10) ∷ [])
 
 -- a number below 10 to the power k, k at least 1, has at most k digits
 length-by : (b : Bool) (n k : ℕ) → ltb n 10 ≡ b → (10 ≤ n → length (decimal (n / 10)) ≤ k) → length (decimal n) ≤ suc k
 length-by true n k e h = rw (decimal_digit n (ltb-true n 10 e)) (omega arith)
-length-by false n k e h = let more = ltb-false n 10 e in let l = h more in omega (arith, length-decimal-more n more)
+length-by false n k e h = let more = ltb-false n 10 e in let l = h more in omega (arith, length_decimal_more n more)
 
 pub length-decimal : (k n : ℕ) → n < 10 ^ suc k → length (decimal n) ≤ suc k
 length-decimal zero n h = length-by (ltb n 10) n 0 refl (λ more. absurd (omega (arith, pow-suc 10 0)))
 length-decimal (suc k) n h = length-by (ltb n 10) n (suc k) refl (λ more. length-decimal k (n / 10) (omega (arith, pow-suc 10 (suc k))))
+
+-- any number that the code has
+pub length_most : (n : ℕ) → n < 2 ^ 64 → length (decimal n) ≤ 20
+length_most n h = length-decimal 19 n (omega (arith, h))
 
 -- one number more
 pub spaced-more : (l : List ℕ) (n : ℕ) → spaced (l ++ (n ∷ [])) ≡ spaced l ++ (space ∷ decimal n)
@@ -116,8 +123,8 @@ module _ (l : List ℕ) (i : ℕ) where
   length-step : i < length l → length (spaced (take (i + 1) l)) ≡ length (spaced (take i l)) + (1 + length (decimal (get_or l i 0)))
   length-step h = ap length (spaced-step h) ∙ length-append (spaced (take i l)) (space ∷ decimal (get_or l i 0)) ∙ omega arith
 
-  pub spaced-room : i < length l → length (spaced (take i l)) + (1 + length (decimal (get_or l i 0))) ≤ length (spaced l)
-  spaced-room h = omega (arith, length-step h, spaced-take l (i + 1))
+  pub spaced_room : i < length l → length (spaced (take i l)) + (1 + length (decimal (get_or l i 0))) ≤ length (spaced l)
+  spaced_room h = omega (arith, length-step h, spaced-take l (i + 1))
 
   -- a space and the next number are written behind those before it
   pub spaced-put : {x y : List ℕ} {n r : ℕ} (t : List ℕ) (at : ℕ) → i < length l → at + length (spaced l) ≤ length t
@@ -126,7 +133,7 @@ module _ (l : List ℕ) (i : ℕ) where
   spaced-put {n = n} t at h room e p f q =
       let d = decimal (get_or l i 0) in
       let w = spaced (take i l) in
-      let fits : at + length w + (1 + length d) ≤ length t = omega (arith, spaced-room h) in (
+      let fits : at + length w + (1 + length d) ≤ length t = omega (arith, spaced_room h) in (
         splice_then t at (w ++ (space ∷ [])) d (rw (length-append w (space ∷ [])) (omega arith)) (set_then t at w space (omega arith) e p) (rw (length-append w (space ∷ [])) (omega arith)) f
             ∙ ap (splice t at) (append_assoc w (space ∷ []) d ∙ sym (spaced-step h)),
         omega (arith, length-step h),

@@ -6,6 +6,8 @@ ghost use Rattle.buffer.specs.Bytes.{splice};
 ghost use Rattle.text.specs.Text.{decimal, spaced, rest, line};
 
 // Writes v in decimal.
+// Kept by hand: `write!` may answer an error whatever the room, so that no contract could promise the digits.
+#[tactic(auto, using(crate::proofs::Laws::length_digit, crate::proofs::Laws::length_decimal_more))]
 pub fn put_decimal(out: &mut [u8], at: usize, v: u64) -> usize
     requires { at + length (decimal v) ≤ length out.old }
     ensures { (out.new ≡ splice out.old at (decimal v)) × (result ≡ at + length (decimal v)) }
@@ -20,29 +22,27 @@ pub fn put_decimal(out: &mut [u8], at: usize, v: u64) -> usize
 }
 
 // How many digits v has.
+#[tactic(auto, using(crate::proofs::Laws::length_digit, crate::proofs::Laws::length_decimal_more, crate::proofs::Laws::length_most))]
 pub fn decimal_length(v: u64) -> usize
     ensures { result ≡ length (decimal v) }
 {
-    let mut n: usize = 1;
-    let mut left = v;
-    while left >= 10 {
-        left /= 10;
-        n += 1;
+    if v >= 10 {
+        decimal_length(v / 10) + 1
+    } else {
+        1
     }
-    n
 }
 
 // Writes a space before each number.
+#[tactic(auto, using(crate::proofs::Laws::spaced_room))]
 fn put_spaced(out: &mut [u8], at: usize, numbers: &[u64]) -> usize
     requires { at + length (spaced numbers.now) ≤ length out.old }
     ensures { (out.new ≡ splice out.old at (spaced numbers.now)) × (result ≡ at + length (spaced numbers.now)) }
 {
     let mut next = at;
-    let mut i: usize = 0;
-    while i < numbers.len() {
+    for n in numbers {
         out[next] = b' ';
-        next = put_decimal(out, next + 1, numbers[i]);
-        i += 1;
+        next = put_decimal(out, next + 1, *n);
     }
     next
 }

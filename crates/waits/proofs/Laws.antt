@@ -2,12 +2,14 @@
 use mathlib.Core.Path.{◌≡◌, refl, sym, ap, ◌∙◌}
 use mathlib.Core.Bool.{Bool, true, false, cond, not, ◌&&◌, ◌||◌, and-false}
 use mathlib.Core.List.{List}
+use Rattle.std.specs.Prelude.{Some, None}
+use Rattle.std.proofs.lemmas.Option.{none-some, same_Some}
 use Prim.Native.Nat.{ℕ, zero, suc, ◌+◌, ◌-◌, ◌*◌, ◌≤◌, ◌<◌, zero-le}
+use native.Mathlib.Numerals.{add-one}
 use native.Mathlib.Omega.{arith}
 use borrow.Author.Tests.{eq-eqb, ne_eqb, eqb-true, eqb-false, not-true}
 use lib.Dec.{eqb, eqb-suc-zero}
 use lib.ListN.{length, get_or, take, set, replicate}
-use lib.Seq.{length-take-le, get_or-take}
 use Rattle.lists.specs.Lists.{between, lowest, member, tabulate}
 use Rattle.lists.proofs.Laws.{all_get_d, all-member, get_d_tabulate, member-more, set-tabulate, tabulate-same}
 use Rattle.lists.proofs.Tests.{and_both, by-test, within}
@@ -17,9 +19,10 @@ use Rattle.item.specs.declared.Item.{Item}
 use Rattle.item.specs.Record as ItemRecord
 use Rattle.item.specs.Record.{Lock, unpacked}
 use Rattle.table.specs.Layout.{sessions_of, items_of, item, Formed, HasItem}
-use Rattle.table.proofs.Laws.{sized-facts, well_formed-item, queue-length, packed-item}
+use Rattle.table.proofs.Laws.{sized-facts, well_formed-item, packed-item}
 use Rattle.waits.specs.Waits.{queued_at, waits_at, waits_for, reached, cycle_length}
-use Rattle.waits.specs.Walk.{one_more, walk_from_session, walk_from_item}
+use Rattle.waits.specs.declared.Wait.{Wait}
+use Rattle.waits.specs.Walk.{one_more, unless_zero, walk_from_session, walk_from_item}
 use Rattle.waits.specs.OnTable as OnTable
 use Rattle.item.proofs.WellFormed.{LockWellFormed}
 use Rattle.item.proofs.WellFormed.{unpacked-lock}
@@ -93,27 +96,56 @@ module _ (M : ℕ) (locks : ℕ → Lock) where
 left : (n : ℕ) → (n ≡ 0 → ⊥) → n ≡ suc (n - 1)
 left n f = omega arith
 
-module _ (M : ℕ) (locks : ℕ → Lock) (me : ℕ) where
-  pub none_left : (s : ℕ) → walk_from_session 0 M locks me s ≡ 0
+-- what the two halves answer
+module _ (M : ℕ) (locks : ℕ → Lock) (me : ℕ) {n : ℕ} where
+  pub session-spent : n ≡ 0 → (s : ℕ) → None ≡ unless_zero (walk_from_session n M locks me s)
   unfolding walk_from_session
-  none_left s = refl
+  session-spent e s = rw (e) refl
 
-  pub none-left-item : (x : ℕ) → walk_from_item 0 M locks me x ≡ 0
+  pub item-spent : n ≡ 0 → (x : ℕ) → None ≡ unless_zero (walk_from_item n M locks me x)
   unfolding walk_from_session
-  none-left-item x = refl
+  item-spent e x = rw (e) refl
 
-  module _ (n : ℕ) (f : n ≡ 0 → ⊥) where
-    pub session-step : (s : ℕ) → walk_from_session n M locks me s ≡ cond (eqb (waits_at M locks s) 0) 0 (walk_from_item (n - 1) M locks me (waits_at M locks s))
+  module _ (f : n ≡ 0 → ⊥) where
+    session-step : (s : ℕ) → walk_from_session n M locks me s ≡ cond (eqb (waits_at M locks s) 0) 0 (walk_from_item (n - 1) M locks me (waits_at M locks s))
     unfolding walk_from_session
     session-step s = ap (λ (k : ℕ). walk_from_session k M locks me s) (left n f)
 
-    pub item-step : (x : ℕ) → walk_from_item n M locks me x ≡ cond (eqb (locks x).holder me) 1 (one_more (walk_from_session (n - 1) M locks me (locks x).holder))
+    item-step : (x : ℕ) → walk_from_item n M locks me x ≡ cond (eqb (locks x).holder me) 1 (one_more (walk_from_session (n - 1) M locks me (locks x).holder))
     unfolding walk_from_session
     item-step x = ap (λ (k : ℕ). walk_from_item k M locks me x) (left n f)
 
-pub one_more_is : (r : ℕ) → (r ≡ 0 → ⊥) → one_more r ≡ r + 1
-one_more_is zero f = absurd (f refl)
-one_more_is (suc r) f = omega arith
+    pub session-stays : (s : ℕ) → waits_at M locks s ≡ 0 → None ≡ unless_zero (walk_from_session n M locks me s)
+    session-stays s e = rw (session-step s, e) refl
+
+    pub session-goes : (s : ℕ) → (waits_at M locks s ≡ 0 → ⊥) → walk_from_session n M locks me s ≡ walk_from_item (n - 1) M locks me (waits_at M locks s)
+    session-goes s g = rw (session-step s, ne_eqb (waits_at M locks s) 0 g) refl
+
+    pub item-back : {x h : ℕ} → h ≡ (locks x).holder → h ≡ me → Some 1 ≡ unless_zero (walk_from_item n M locks me x)
+    item-back {x} {h} read e = rw (item-step x, ← read, eq-eqb h me e) refl
+
+    pub item-goes : {x h : ℕ} → h ≡ (locks x).holder → (h ≡ me → ⊥) → walk_from_item n M locks me x ≡ one_more (walk_from_session (n - 1) M locks me h)
+    item-goes {x} {h} read g = rw (item-step x, ← read, ne_eqb h me g) refl
+
+pub more-none : (w : ℕ) → None ≡ unless_zero w → None ≡ unless_zero (one_more w)
+more-none zero e = refl
+more-none (suc w) e = absurd (none-some (suc w) e)
+
+pub more-some : (w : ℕ) {r : ℕ} → Some r ≡ unless_zero w → Some (r + 1) ≡ unless_zero (one_more w)
+more-some zero {r} e = absurd (none-some r (sym e))
+more-some (suc w) {r} e = let same = same_Some r (suc w) e in rw (same, add-one) refl
+
+pub unless-zero-is : (w : ℕ) {r : ℕ} → Some r ≡ unless_zero w → r ≡ w
+unless-zero-is zero {r} e = absurd (none-some r (sym e))
+unless-zero-is (suc w) {r} e = same_Some r (suc w) e
+
+pub unless-zero-some : (w : ℕ) {r : ℕ} → Some r ≡ unless_zero w → w ≡ 0 → ⊥
+unless-zero-some zero {r} e z = none-some r (sym e)
+unless-zero-some (suc w) e z = absurd (omega (arith, z))
+
+pub unless-zero-none : (w : ℕ) → None ≡ unless_zero w → w ≡ 0
+unless-zero-none zero e = refl
+unless-zero-none (suc w) e = absurd (none-some (suc w) e)
 
 -- no more waits than steps
 pick_le : (b : Bool) (x n : ℕ) → x ≤ n → cond b 0 x ≤ n
@@ -139,12 +171,6 @@ mutual
       more_le (eqb (locks x).holder me) (walk_from_session n M locks me (locks x).holder) n (session_le n M locks me (locks x).holder)
 
 -- ---- what a well-formed table says
--- what a record's queue says
-pub record Queue (i : Item) : Type 0 where
-  pub fits : i.waiting ≤ max_sessions
-  pub whole : length i.queue ≡ max_sessions
-  pub session : (j : ℕ) → j < i.waiting → (1 ≤ get_or i.queue j 0) × (get_or i.queue j 0 ≤ max_sessions)
-
 module _ (t : List ℕ) (f : Formed t) where
   module _ {x : ℕ} (has : HasItem t x) where
     in_form : ItemRecord.well_formed (sessions_of t) (item t x) ≡ true
@@ -157,31 +183,17 @@ module _ (t : List ℕ) (f : Formed t) where
     unfolding locks
     holder-high = let b = sized-facts t f.sized in let k = lock-facts in omega arith
 
-    -- a record as it was read
-    pub item-queue : {i : Item} → i ≡ item t x → Queue i
-    item-queue e = rw (e) (record { fits = fits; whole = whole; session = sessions })
-      where
-        n : ℕ
-        n = (item t x).waiting
+    -- a record as it was read, of which the first n places of the queue are taken
+    module _ {i : Item} (e : i ≡ item t x) {n : ℕ} (whole : n ≡ i.waiting) where
+      pub queue-fits : n ≤ max_sessions
+      queue-fits = rw (whole, e) (packed-item t f.sized f.formed x has.low has.high).fits
 
-        q : List ℕ
-        q = (item t x).queue
-
-        most : sessions_of t ≤ max_sessions
-        most = (sized-facts t f.sized).max-sessions
-
-        whole : length q ≡ max_sessions
-        whole = queue-length t f.sized x has.low has.high
-
-        fits : n ≤ max_sessions
-        fits = (packed-item t f.sized f.formed x has.low has.high).fits
-
-        sessions : (j : ℕ) → j < n → (1 ≤ get_or q j 0) × (get_or q j 0 ≤ max_sessions)
-        sessions j m =
-            let all-length = length-take-le n q (omega (arith, fits, whole)) in
-            let test = all_get_d (between 1 (sessions_of t)) (take n q) j 0 lock-facts.sessions (omega arith) in
-            let two = within 1 (sessions_of t) (get_or q j 0) (rw (get_or-take n q j 0 m) at test) in
-            (two.0, omega (arith, most))
+      pub queued_session : {j : ℕ} → j < length (take n i.queue) → {s : ℕ} → s ≡ get_or (take n i.queue) j 0 → (1 ≤ s) × (s ≤ max_sessions)
+      queued_session {j} h read =
+          let most = (sized-facts t f.sized).max-sessions in
+          let l = rw (whole, e) at h in
+          let two = within 1 (sessions_of t) (get_or (take (item t x).waiting (item t x).queue) j 0) (all_get_d (between 1 (sessions_of t)) (take (item t x).waiting (item t x).queue) j 0 lock-facts.sessions l) in
+          rw (read, whole, e) (two.0, omega (arith, two.1, most))
 
     none-queued : queued_at (items_of t) (locks t) 0 x ≡ false
     unfolding queued_at locks
@@ -221,19 +233,38 @@ pub waits-at-item : (t : List ℕ) → Formed t → (s : ℕ) → (OnTable.waits
 waits-at-item t f s some = record { sized = f.sized; low = omega arith; high = waits_at_le (items_of t) (locks t) s }
 
 -- the places read at a session
-pub place_of : {t at : List ℕ} → WithPlaces t at → (s : ℕ) → 1 ≤ s → s ≤ max_sessions → get_or at (s - 1) 0 ≡ OnTable.waits_at t s
-place_of {t} {at} p s l h =
-    let one : suc (s - 1) ≡ s = omega arith in
-    rw (p.read, get_d_tabulate max_sessions (λ k. OnTable.waits_at t (suc k)) (s - 1) 0 (omega arith), one) refl
+pub place_of : {t at : List ℕ} → WithPlaces t at → (s : ℕ) → (1 ≤ s) × (s ≤ max_sessions) → {k : ℕ} → k ≡ s → get_or at (k - 1) 0 ≡ OnTable.waits_at t s
+place_of {t} {at} p s h e =
+    let one : suc (s - 1) ≡ s = omega (arith, h.0) in
+    rw (e, p.read, get_d_tabulate max_sessions (λ k. OnTable.waits_at t (suc k)) (s - 1) 0 (omega (arith, h)), one) refl
 
 module _ (t : List ℕ) (s : ℕ) {x : ℕ} (e : x ≡ OnTable.waits_at t s) where
-  pub wait-none : x ≡ 0 → record { session = s; item = 0; holder = 0 } ≡ OnTable.wait t s
-  unfolding waits_for
+  pub wait-none : x ≡ 0 → None ≡ OnTable.next_wait t s
   wait-none z = rw (← e, z) refl
 
-  pub wait-some : (x ≡ 0 → ⊥) → {h : ℕ} → h ≡ (item t x).holder → record { session = s; item = x; holder = h } ≡ OnTable.wait t s
+  pub wait-some : (x ≡ 0 → ⊥) → {h : ℕ} → h ≡ (item t x).holder → Some (record { session = s; item = x; holder = h }) ≡ OnTable.next_wait t s
   unfolding waits_for locks
   wait-some f held = rw (← e, ne_eqb x 0 f, held) refl
+
+-- what that answer says
+waits-test : (b : Bool) {w v : Wait} → Some w ≡ cond b None (Some v) → (b ≡ false) × (w ≡ v)
+waits-test true {w} e = absurd (none-some w (sym e))
+waits-test false {w} {v} e = (refl, same_Some w v e)
+
+stays-test : (b : Bool) (v : Wait) → None ≡ cond b None (Some v) → b ≡ true
+stays-test true v e = refl
+stays-test false v e = absurd (none-some v e)
+
+module _ (t : List ℕ) (s : ℕ) where
+  pub wait-is : {w : Wait} → Some w ≡ OnTable.next_wait t s → (OnTable.waits_at t s ≡ 0 → ⊥) × (w ≡ OnTable.wait t s)
+  wait-is e = let b = waits-test (eqb (OnTable.waits_at t s) 0) e in (eqb-false (OnTable.waits_at t s) 0 b.0, b.1)
+
+  pub waits-nowhere : None ≡ OnTable.next_wait t s → OnTable.waits_at t s ≡ 0
+  waits-nowhere e = eqb-true (OnTable.waits_at t s) 0 (stays-test (eqb (OnTable.waits_at t s) 0) (OnTable.wait t s) e)
+
+  pub waits-for-none : None ≡ OnTable.next_wait t s → OnTable.waits_for t s ≡ 0
+  unfolding waits_for
+  waits-for-none e = rw (waits-nowhere e) refl
 
 -- ---- the places of sessions among the first items
 -- the place of session s once the sessions l of the queue of item x are marked; p is its place among the items before x
@@ -283,34 +314,34 @@ module _ (x : ℕ) (q : List ℕ) (p : ℕ → ℕ) (j : ℕ) (h : j < length q)
   after_more : (k : ℕ) → after (j + 1) k ≡ cond (eqb (get_or q j 0) (suc k) && eqb (after j k) 0) x (after j k)
   after_more k = rw (member-more (suc k) q j h) (turn x (p k) (member (suc k) (take j q)) (eqb (get_or q j 0) (suc k)))
 
-  module _ (l : 1 ≤ get_or q j 0) (m : get_or q j 0 ≤ max_sessions) where
-    others : (k : ℕ) → (k ≡ get_or q j 0 - 1 → ⊥) → after j k ≡ after (j + 1) k
-    others k f = rw (after_more k, ne_eqb (get_or q j 0) (suc k) (λ z. f (omega arith))) refl
+  module _ {s : ℕ} (read : s ≡ get_or q j 0) (in_range : (1 ≤ s) × (s ≤ max_sessions)) where
+    others : (k : ℕ) → (k ≡ s - 1 → ⊥) → after j k ≡ after (j + 1) k
+    others k f = rw (after_more k, ← read, ne_eqb s (suc k) (λ z. f (omega arith))) refl
 
-    here : after (j + 1) (get_or q j 0 - 1) ≡ cond (eqb (after j (get_or q j 0 - 1)) 0) x (after j (get_or q j 0 - 1))
-    here = rw (after_more (get_or q j 0 - 1), eq-eqb (get_or q j 0) (suc (get_or q j 0 - 1)) (omega arith)) refl
+    here : after (j + 1) (s - 1) ≡ cond (eqb (after j (s - 1)) 0) x (after j (s - 1))
+    here = rw (after_more (s - 1), ← read, eq-eqb s (suc (s - 1)) (omega (arith, in_range.0))) refl
 
     -- a session with no place gets one
-    pub mark_write : {at : List ℕ} → at ≡ tabulate max_sessions (after j) → get_or at (get_or q j 0 - 1) 0 ≡ 0 → set at (get_or q j 0 - 1) x ≡ tabulate max_sessions (after (j + 1))
+    pub mark_write : {at : List ℕ} → at ≡ tabulate max_sessions (after j) → get_or at (s - 1) 0 ≡ 0 → set at (s - 1) x ≡ tabulate max_sessions (after (j + 1))
     mark_write e f =
-        let k = get_or q j 0 - 1 in
-        let none = sym (get_d_tabulate max_sessions (after j) k 0 (omega arith)) ∙ (rw (e) at f) in
-        rw (e) (set-tabulate max_sessions (after j) (after (j + 1)) k x (omega arith) (rw (here, eq-eqb (after j k) 0 none) refl) (λ i b. others i))
+        let k = s - 1 in
+        let none = sym (get_d_tabulate max_sessions (after j) k 0 (omega (arith, in_range))) ∙ (rw (e) at f) in
+        rw (e) (set-tabulate max_sessions (after j) (after (j + 1)) k x (omega (arith, in_range)) (rw (here, eq-eqb (after j k) 0 none) refl) (λ i b. others i))
 
     -- any other keeps it
-    pub mark_keep : {at : List ℕ} → at ≡ tabulate max_sessions (after j) → (get_or at (get_or q j 0 - 1) 0 ≡ 0 → ⊥) → at ≡ tabulate max_sessions (after (j + 1))
-    mark_keep {at} e f = e ∙ tabulate-same max_sessions (after j) (after (j + 1)) (λ k b. each k (eqb k (get_or q j 0 - 1)) refl)
+    pub mark_keep : {at : List ℕ} → at ≡ tabulate max_sessions (after j) → (get_or at (s - 1) 0 ≡ 0 → ⊥) → at ≡ tabulate max_sessions (after (j + 1))
+    mark_keep {at} e f = e ∙ tabulate-same max_sessions (after j) (after (j + 1)) (λ k b. each k (eqb k (s - 1)) refl)
       where
-        each : (k : ℕ) (b : Bool) → eqb k (get_or q j 0 - 1) ≡ b → after j k ≡ after (j + 1) k
-        each k false n = others k (eqb-false k (get_or q j 0 - 1) n)
+        each : (k : ℕ) (b : Bool) → eqb k (s - 1) ≡ b → after j k ≡ after (j + 1) k
+        each k false n = others k (eqb-false k (s - 1) n)
         each k true n =
-            let i = get_or q j 0 - 1 in
-            let some : after j i ≡ 0 → ⊥ = λ z. f (rw (e) (get_d_tabulate max_sessions (after j) i 0 (omega arith) ∙ z)) in
+            let i = s - 1 in
+            let some : after j i ≡ 0 → ⊥ = λ z. f (rw (e) (get_d_tabulate max_sessions (after j) i 0 (omega (arith, in_range)) ∙ z)) in
             rw (eqb-true k i n, here, ne_eqb (after j i) 0 some) refl
 
--- the places among the items before x, when j sessions of the queue of item x, read as i, are marked
-abbrev pub places_marked : ℕ → List ℕ → Item → ℕ → List ℕ
-places_marked x t i j = tabulate max_sessions (λ k. marked x (take j i.queue) (waits_at (x - 1) (locks t) (suc k)) (suc k))
+-- the places among the items before x, when the first j sessions of the queue q are marked
+abbrev pub places_marked : ℕ → List ℕ → List ℕ → ℕ → List ℕ
+places_marked x t q j = tabulate max_sessions (λ k. marked x (take j q) (waits_at (x - 1) (locks t) (suc k)) (suc k))
 
 pub places-none : (t : List ℕ) → replicate max_sessions 0 ≡ places_among 0 t
 unfolding tabulate waits_at lowest
@@ -321,14 +352,14 @@ module _ (t : List ℕ) {x : ℕ} (has : HasItem t x) where
   places-free e =
       tabulate-same max_sessions (λ k. waits_at (x - 1) (locks t) (suc k)) (λ k. waits_at x (locks t) (suc k)) (λ k b. sym (waits-free (locks t) x has.low (suc k) e))
 
-  pub places-first : (i : Item) → places_among (x - 1) t ≡ places_marked x t i 0
+  pub places-first : (q : List ℕ) → places_among (x - 1) t ≡ places_marked x t q 0
   unfolding member
-  places-first i =
-      tabulate-same max_sessions (λ k. waits_at (x - 1) (locks t) (suc k)) (λ k. marked x (take 0 i.queue) (waits_at (x - 1) (locks t) (suc k)) (suc k))
+  places-first q =
+      tabulate-same max_sessions (λ k. waits_at (x - 1) (locks t) (suc k)) (λ k. marked x (take 0 q) (waits_at (x - 1) (locks t) (suc k)) (suc k))
       (λ k b. sym (zero-pick (waits_at (x - 1) (locks t) (suc k))))
 
-  pub places-last : ((locks t x).holder ≡ 0 → ⊥) → {i : Item} → i ≡ item t x → places_marked x t i i.waiting ≡ places_among x t
+  pub places-last : ((locks t x).holder ≡ 0 → ⊥) → {i : Item} → i ≡ item t x → (q : List ℕ) (j : ℕ) → take j q ≡ take i.waiting i.queue → places_marked x t q j ≡ places_among x t
   unfolding locks
-  places-last f {i} e =
-      tabulate-same max_sessions (λ k. marked x (take i.waiting i.queue) (waits_at (x - 1) (locks t) (suc k)) (suc k)) (λ k. waits_at x (locks t) (suc k))
-      (λ k b. rw (e) (sym (waits-held (locks t) x has.low (suc k) f)))
+  places-last f {i} e q j all =
+      tabulate-same max_sessions (λ k. marked x (take j q) (waits_at (x - 1) (locks t) (suc k)) (suc k)) (λ k. waits_at x (locks t) (suc k))
+      (λ k b. rw (all, e) (sym (waits-held (locks t) x has.low (suc k) f)))

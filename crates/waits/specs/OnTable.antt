@@ -1,5 +1,5 @@
 -- Waits and cycles of a table.
-use Rattle.std.specs.Prelude.{ℕ, Bool, List}
+use Rattle.std.specs.Prelude.{ℕ, Bool, cond, List, Option, None, Some, eqb}
 use Rattle.item.specs.Record.{Lock, unpacked}
 use Rattle.table.specs.Layout as Table
 use Rattle.waits.specs.declared.Wait.{Wait}
@@ -29,6 +29,10 @@ cycles table = Waits.cycles (waits_for table) (Table.sessions_of table) (Table.s
 -- session t, the item at which it waits, and the session for which it waits
 abbrev pub wait : List ℕ → ℕ → Wait
 wait table t = Cycle.wait (waits_at table) (waits_for table) t
+
+-- the wait of session t, if it waits
+abbrev pub next_wait : List ℕ → ℕ → Option Wait
+next_wait table t = cond (eqb (waits_at table t) 0) None (Some (wait table t))
 
 -- the most senior member of the cycle on which t lies
 abbrev pub leader : List ℕ → ℕ → ℕ

@@ -14,7 +14,7 @@ places_among n table = tabulate max_sessions (λ k. Waits.waits_at n (locks tabl
 abbrev pub places : List ℕ → List ℕ
 places table = places_among (items_of table) table
 
--- what the code that goes from wait to wait asks of a table, and of the places read from it
+-- what a graph of waits keeps of its table, and of the places read from it
 pub record WithPlaces (table at : List ℕ) : Type 0 where
   pub formed : Formed table
   pub read : at ≡ places table

@@ -1,7 +1,12 @@
 -- The chain of waits alternates, session to its item and item to its holder: two halves that call each other with the steps left falling.
-use Rattle.std.specs.Prelude.{ℕ, zero, suc, cond, eqb}
+use Rattle.std.specs.Prelude.{ℕ, zero, suc, cond, eqb, Option, None, Some}
 use Rattle.item.specs.Record.{Lock}
 use Rattle.waits.specs.Waits.{waits_at}
+
+-- a number of waits as the code answers it: none in place of 0
+abbrev pub unless_zero : ℕ → Option ℕ
+unless_zero zero = None
+unless_zero (suc n) = Some (suc n)
 
 -- one wait more, where there is a way
 abbrev pub one_more : ℕ → ℕ

@@ -4,13 +4,13 @@
 ghost use Rattle.std.specs.Prelude.{◌≡◌, ◌-◌, ◌≤◌};
 ghost use Rattle.message.specs.Limits.{max_sessions};
 ghost use Rattle.table.specs.Layout.{sessions_of, items_of, Formed, HasItem};
-ghost use Rattle.waits.specs.Walk.{walk_from_session, walk_from_item};
-ghost use Rattle.waits.specs.OnTable.{locks, cycle_length, wait};
+ghost use Rattle.waits.specs.Walk.{walk_from_session, walk_from_item, unless_zero};
+ghost use Rattle.waits.specs.OnTable.{locks, cycle_length, next_wait};
 ghost use Rattle.waits.specs.Places.{places, places_among, WithPlaces};
 
 use message::MAX_SESSIONS;
 
-// A session, the item at which it waits and the holder of that item. Item and holder are 0 where it waits for none.
+// A session, the item at which it waits and the holder of that item.
 #[derive(Clone, Copy)]
 pub struct Wait {
     pub session: u8,
@@ -18,7 +18,16 @@ pub struct Wait {
     pub holder: u8,
 }
 
+// A table as a graph of waits: the table, and the places of its sessions, read from it once.
+#[derive(Drop)]
+pub struct WaitGraph<'a> {
+    pub table: &'a [u8],
+    pub at: [u8; MAX_SESSIONS],
+    pub ghost read: { WithPlaces table.now at },
+}
+
 // Given the places of the sessions among the items before x, writes those among the items up to x.
+#[tactic(auto, using(crate::proofs::Laws::queued_session))]
 fn mark(t: &[u8], at: &mut [u8; MAX_SESSIONS], x: u8)
     requires { Formed t.now × HasItem t.now x × (at.old ≡ places_among (x - 1) t.now) }
     ensures { at.new ≡ places_among x t.now }
@@ -31,91 +40,92 @@ fn mark(t: &[u8], at: &mut [u8; MAX_SESSIONS], x: u8)
         return;
     }
     let i = table::item(t, x);
-    let mut j: usize = 0;
-    while j < i.waiting as usize {
-        let k = i.queue[j] as usize - 1;
+    for s in &i.queue[..usize::from(i.waiting)] {
+        let k = usize::from(*s) - 1;
         if at[k] == 0 {
             at[k] = x;
         }
-        j += 1;
     }
 }
 
 // For each session 1 to MAX_SESSIONS the item at which it waits, or 0: one pass over the item records.
+// Kept as numbers: 0 is none as in the records, and a place is one byte.
 pub fn places(t: &[u8]) -> [u8; MAX_SESSIONS]
     requires { Formed t.now }
     ensures { result ≡ places t.now }
 {
-    let items = table::items(t);
     let mut at = [0u8; MAX_SESSIONS];
-    let mut x: u8 = 1;
-    while x <= items {
+    for x in 1..=table::items(t) {
         mark(t, &mut at, x);
-        x += 1;
     }
     at
 }
 
-// The wait of session s.
-pub fn next(t: &[u8], at: &[u8; MAX_SESSIONS], s: u8) -> Wait
-    requires { WithPlaces t.now at.now × (1 ≤ s) × (s ≤ max_sessions) }
-    ensures { result ≡ wait t.now s }
-{
-    let k = s as usize - 1;
-    let item = at[k];
-    if item == 0 {
-        return Wait {
+impl<'a> WaitGraph<'a> {
+    pub fn of(table: &'a [u8]) -> WaitGraph<'a>
+        requires { Formed table.now }
+        ensures { result.table.now ≡ table.now }
+    {
+        WaitGraph {
+            table,
+            at: places(table),
+        }
+    }
+
+    // The wait of session s, if it waits.
+    pub fn next(&self, s: u8) -> Option<Wait>
+        requires { (1 ≤ s) × (s ≤ max_sessions) }
+        ensures { result ≡ next_wait self.now.table.now s }
+    {
+        let k = usize::from(s) - 1;
+        let item = self.at[k];
+        if item == 0 {
+            return None;
+        }
+        Some(Wait {
             session: s,
-            item: 0,
-            holder: 0,
-        };
+            item,
+            holder: table::holder(self.table, item),
+        })
     }
-    Wait {
-        session: s,
-        item,
-        holder: table::holder(t, item),
-    }
-}
 
-// From session s to its item.
-#[cycle(walk_from_item_walk_from_session)]
-fn walk_from_session(t: &[u8], at: &[u8; MAX_SESSIONS], me: u8, s: u8, steps: u8) -> u8
-    requires { WithPlaces t.now at.now × (1 ≤ s) × (s ≤ max_sessions) }
-    ensures { result ≡ walk_from_session steps (items_of t.now) (locks t.now) me s }
-{
-    if steps == 0 {
-        return 0;
+    // From session s to its item.
+    #[cycle(walk_from_item_walk_from_session)]
+    fn walk_from_session(&self, me: u8, s: u8, steps: u8) -> Option<u8>
+        requires { (1 ≤ s) × (s ≤ max_sessions) }
+        ensures { result ≡ unless_zero (walk_from_session steps (items_of self.now.table.now) (locks self.now.table.now) me s) }
+    {
+        if steps == 0 {
+            return None;
+        }
+        let w = self.next(s)?;
+        self.walk_from_item(me, w.item, steps - 1)
     }
-    let w = next(t, at, s);
-    if w.item == 0 {
-        return 0;
-    }
-    walk_from_item(t, at, me, w.item, steps - 1)
-}
 
-// From item x, which is held, to its holder.
-#[cycle(walk_from_item_walk_from_session)]
-fn walk_from_item(t: &[u8], at: &[u8; MAX_SESSIONS], me: u8, x: u8, steps: u8) -> u8
-    requires { WithPlaces t.now at.now × HasItem t.now x × ((locks t.now x).holder ≡ 0 → ⊥) }
-    ensures { result ≡ walk_from_item steps (items_of t.now) (locks t.now) me x }
-{
-    if steps == 0 {
-        return 0;
+    // From item x, which is held, to its holder.
+    #[cycle(walk_from_item_walk_from_session)]
+    fn walk_from_item(&self, me: u8, x: u8, steps: u8) -> Option<u8>
+        requires { HasItem self.now.table.now x × ((locks self.now.table.now x).holder ≡ 0 → ⊥) }
+        ensures { result ≡ unless_zero (walk_from_item steps (items_of self.now.table.now) (locks self.now.table.now) me x) }
+    {
+        if steps == 0 {
+            return None;
+        }
+        let h = table::holder(self.table, x);
+        if h == me {
+            return Some(1);
+        }
+        let r = self.walk_from_session(me, h, steps - 1)?;
+        Some(r + 1)
     }
-    let h = table::holder(t, x);
-    if h == me {
-        return 1;
-    }
-    let r = walk_from_session(t, at, me, h, steps - 1);
-    if r == 0 { 0 } else { r + 1 }
-}
 
-// The length of the cycle on which session `me` lies, or 0, where the places are read already.
-pub fn cycle_length_at(t: &[u8], at: &[u8; MAX_SESSIONS], me: u8) -> u8
-    requires { WithPlaces t.now at.now × (1 ≤ me) × (me ≤ sessions_of t.now) }
-    ensures { result ≡ cycle_length t.now me }
-{
-    walk_from_session(t, at, me, me, 2 * table::sessions(t))
+    // The length of the cycle on which session `me` lies, if it lies on one.
+    pub fn cycle_length(&self, me: u8) -> Option<u8>
+        requires { (1 ≤ me) × (me ≤ sessions_of self.now.table.now) }
+        ensures { result ≡ unless_zero (cycle_length self.now.table.now me) }
+    {
+        self.walk_from_session(me, me, 2 * table::sessions(self.table))
+    }
 }
 
 // The length of the cycle on which session `me` lies, or 0.
@@ -123,6 +133,5 @@ pub fn cycle_length(t: &[u8], me: u8) -> u8
     requires { Formed t.now × (1 ≤ me) × (me ≤ sessions_of t.now) }
     ensures { result ≡ cycle_length t.now me }
 {
-    let at = places(t);
-    cycle_length_at(t, &at, me)
+    WaitGraph::of(t).cycle_length(me).unwrap_or(0)
 }

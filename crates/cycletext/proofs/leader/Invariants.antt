@@ -1,13 +1,13 @@
--- `leader` meets its contract. The invariant: `first` is the most senior of the first i sessions, of which s is the last.
+-- `leader` meets its contract. The invariant: `first` is the most senior of the sessions passed, and at first the first.
 use mathlib.Core.Path.{◌≡◌}
-use Prim.Native.Nat.{◌-◌, ◌≤◌}
+use Prim.Native.Nat.{◌≤◌}
+use lib.ListN.{length}
 use Rattle.table.specs.Layout as Table
-use Rattle.cycletext.proofs.Round.{ahead, Best}
+use Rattle.cycletext.proofs.Round.{Best}
 use Rattle.cycletext.proofs.leader.Given as goal
 
-abbrev pub invariant-loop-i : goal.invariant-loop-i
-invariant-loop-i l =
-    (1 ≤ l.i) × (l.i ≤ l.n) × (l.s ≡ ahead l.t l.me (l.i - 1)) × Best l.t l.me l.i l.first × (l.ranks ≡ Table.ranks l.t)
-
-abbrev pub decreases-loop-i : goal.decreases-loop-i
-decreases-loop-i l = l.n - l.i
+abbrev pub invariant-loop-w : goal.invariant-loop-w
+invariant-loop-w l =
+    (l.ranks ≡ Table.ranks l.fn.round.graph.now.table.now)
+    × (length l.yielded ≡ 0 → l.first ≡ l.fn.round.session)
+    × (1 ≤ length l.yielded → Best l.fn.round.graph.now.table.now l.fn.round.session (length l.yielded) l.first)

@@ -6,21 +6,6 @@ use Rattle.text.specs.Text.{line_feed, spaced}
 use Rattle.text.proofs.Laws.{set_then}
 use Rattle.text.proofs.end_line.Goals as goal
 
-pub put_spaced-next-requires : goal.put_spaced-next-requires
-put_spaced-next-requires c =
-    let a = c.args in
-    let len = length-append (spaced a.numbers.now) (line_feed ∷ []) in omega arith
-
-pub bounds-out-next : goal.bounds-out-next
-bounds-out-next c =
-    let a = c.args in
-    let len = length-append (spaced a.numbers.now) (line_feed ∷ []) in omega arith
-
-pub overflow_add-result : goal.overflow_add-result
-overflow_add-result c =
-    let a = c.args in
-    let len = length-append (spaced a.numbers.now) (line_feed ∷ []) in omega arith
-
 pub returns : goal.returns
 returns c =
     let a = c.args in

@@ -5,17 +5,6 @@ use Rattle.text.specs.Text.{decimal, rest}
 use Rattle.text.proofs.Laws.{splice_then}
 use Rattle.text.proofs.put_line.Goals as goal
 
-pub put_decimal-next-requires : goal.put_decimal-next-requires
-put_decimal-next-requires c =
-    let a = c.args in
-    let len = length-append (decimal a.first) (rest a.others.now) in omega arith
-
-pub end_line-requires : goal.end_line-requires
-end_line-requires c =
-    let a = c.args in
-    let p = c.put_decimal-next in
-    let len = length-append (decimal a.first) (rest a.others.now) in omega (arith, p.ensures.1, p.auto.out)
-
 pub returns : goal.returns
 returns c =
     let a = c.args in
