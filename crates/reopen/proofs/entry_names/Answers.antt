@@ -25,9 +25,6 @@ unasked t low e p = go (Kind.carries e.kind) refl
         let z = p q in
         rw (zero-differs t low e.a z.0, zero-differs t low e.b z.1) (or-false (eqb e.session t || false))
 
-pub message_to_item-m-requires : goal.message_to_item-m-requires
-message_to_item-m-requires c = record { kept = c.requires.0.kept; inside = c.requires.1 }
-
 pub returns : goal.returns
 returns c =
     let a = c.args in
