@@ -1,5 +1,6 @@
 -- `take_step` meets its contract: the stages read before and after say whether the session was rolled back.
-use mathlib.Core.Path.{◌≡◌, refl}
+use mathlib.Core.Path.{◌≡◌}
+use Rattle.std.proofs.Common.{rules}
 use Rattle.step.specs.Step.{stepped}
 use Rattle.lockmgr.specs.Calls.{step}
 use Rattle.tally.proofs.Steps.{formed-after, adds_step}
@@ -18,4 +19,4 @@ is_rolled_back-after-requires c =
 pub returns : goal.returns
 returns c =
     let a = c.args in
-    rw c.add.ensures (adds_step a.c a.table.now a.mail.now c.requires.0 (did (goal.at.returns c).After-lockmgr_step-answer) (rw (c.is_rolled_back-before.ensures, c.is_rolled_back-after.ensures) refl) a.t.now)
+    rw c.add.ensures (adds_step a.c a.table.now a.mail.now c.requires.0 (did (goal.at.returns c).After-lockmgr_step-answer) (search rules) a.t.now)
