@@ -53,14 +53,13 @@ fn well_formed(input: &[u8]) -> bool
     if input.len() < HEADER {
         return false;
     }
-    let s = input[0];
-    let m = input[1];
+    let s = usize::from(input[0]);
+    let m = usize::from(input[1]);
     let n = buffer::get16(input, 2) as usize;
-    (s >= 1)
-        & (s as usize <= MAX_SESSIONS)
-        & ((m >= 1) & (m as usize <= MAX_ITEMS))
-        & (n <= MAX_STEPS)
-        & (input.len() == HEADER + 3 * n)
+    (1..=MAX_SESSIONS).contains(&s)
+        && (1..=MAX_ITEMS).contains(&m)
+        && n <= MAX_STEPS
+        && input.len() == HEADER + 3 * n
 }
 
 // A well-formed input and its number of steps.
