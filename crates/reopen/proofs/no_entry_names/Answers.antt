@@ -8,7 +8,7 @@ use Rattle.lists.proofs.Laws.{all-tabulate}
 use Rattle.mailbox.specs.Layout.{count_of, entry_at, entries_of}
 use Rattle.mailbox.proofs.Laws.{kept-length}
 use Rattle.reopen.specs.Reopening.{entry_names, no_entry_names}
-use Rattle.reopen.proofs.Ranges.{all_below_n}
+use Rattle.lists.proofs.Ranges.{all_below_n}
 use Rattle.reopen.proofs.no_entry_names.Goals as goal
 
 pub count-n-requires : goal.count-n-requires

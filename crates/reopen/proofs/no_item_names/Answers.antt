@@ -5,7 +5,7 @@ use Rattle.std.proofs.iter.Serving.{serving}
 use Rattle.table.specs.Layout as Table
 use Rattle.table.proofs.Laws.{header-fits, packed-item}
 use Rattle.reopen.specs.Reopening.{item_names, no_item_names}
-use Rattle.reopen.proofs.Ranges.{all_up_to}
+use Rattle.lists.proofs.Ranges.{all_up_to}
 use Rattle.reopen.proofs.no_item_names.Goals as goal
 
 pub items-requires : goal.items-requires

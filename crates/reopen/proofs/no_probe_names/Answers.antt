@@ -4,7 +4,7 @@ use Rattle.std.proofs.Common.{rules, tests}
 use Rattle.table.specs.Layout as Table
 use Rattle.table.proofs.Laws.{header-fits}
 use Rattle.reopen.specs.Reopening.{stored_names, no_probe_names}
-use Rattle.reopen.proofs.Ranges.{all_up_to}
+use Rattle.lists.proofs.Ranges.{all_up_to}
 use Rattle.reopen.proofs.no_probe_names.Goals as goal
 
 pub sessions-requires : goal.sessions-requires
