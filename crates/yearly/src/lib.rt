@@ -12,6 +12,8 @@ ghost use Rattle.yearly.specs.Printed.{sums, refusal, day_lines, longest, longes
 ghost use Rattle.yearly.specs.Parts.{Days, max_value};
 ghost use Rattle.yearly.specs.Claims.{read_size};
 
+use std::cmp::Ordering;
+
 const MAX_DAYS: usize = 366;
 
 // The longest input: the number of days, and two values for each day, of 2 bytes each.
@@ -150,13 +152,11 @@ fn rate(rollbacks: u64, sessions: u64) -> u64
     let scaled = 1000 * rollbacks;
     let quotient = scaled / sessions;
     let remainder = scaled % sessions;
-    if 2 * remainder < sessions {
-        return quotient;
+    match (2 * remainder).cmp(&sessions) {
+        Ordering::Less => quotient,
+        Ordering::Equal => quotient + quotient % 2,
+        Ordering::Greater => quotient + 1,
     }
-    if 2 * remainder > sessions {
-        return quotient + 1;
-    }
-    quotient + quotient % 2
 }
 
 // Writes the lines of the days.
