@@ -37,7 +37,7 @@ fn stored_names(t: u8, s: Session) -> bool
     ensures { result ≡ stored_names t s }
 {
     let juniors = s.juniors;
-    let as_initiator = juniors[t as usize - 1] != 0;
+    let as_initiator = juniors[usize::from(t) - 1] != 0;
     as_initiator | row_has(juniors, t)
 }
 

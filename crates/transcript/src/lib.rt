@@ -173,6 +173,7 @@ fn play(script: &Script, table: &mut [u8], mail: &mut [u8], out: &mut [u8]) -> u
 pub fn write(input: &[u8], out: &mut [u8]) -> usize
     ensures { (output result out.new ≡ at_start longest (transcript input.now) out.old) × IsPrefixLen result out.new }
 {
+    // Kept by hand, as in `yearly`: a trait over both programs would save this test, and ask for a constant, a ghost text and a type of each.
     if out.len() < LONGEST {
         return 0;
     }

@@ -188,6 +188,7 @@ fn put_statement(out: &mut [u8], input: &[u8]) -> usize
 pub fn write(input: &[u8], out: &mut [u8]) -> usize
     ensures { (output result out.new ≡ at_start longest (statement input.now) out.old) × IsPrefixLen result out.new }
 {
+    // Kept by hand, as in `transcript`: a trait over both programs would save this test, and ask for a constant, a ghost text and a type of each.
     if out.len() < LONGEST {
         return 0;
     }
