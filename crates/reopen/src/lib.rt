@@ -64,7 +64,7 @@ fn no_probe_names(t: u8, table: &[u8]) -> bool
     requires { IsSession t × Table.Formed table.now }
     ensures { result ≡ no_probe_names t table.now }
 {
-    (1..=table::sessions(table)).all(|k| !stored_names(t, table::session(table, k)))
+    (0..table::sessions(table)).all(|k| !stored_names(t, table::session(table, k + 1)))
 }
 
 // Whether no item names session t.
@@ -72,7 +72,7 @@ fn no_item_names(t: u8, table: &[u8]) -> bool
     requires { (1 ≤ t) × Table.Formed table.now }
     ensures { result ≡ no_item_names t table.now }
 {
-    (1..=table::items(table)).all(|x| !item_names(t, table::item(table, x)))
+    (0..table::items(table)).all(|x| !item_names(t, table::item(table, x + 1)))
 }
 
 // Whether no entry names session t.

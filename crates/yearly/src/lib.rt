@@ -105,7 +105,7 @@ impl<'a> DayList<'a> {
     fn is_consistent(&self) -> bool
         ensures { result ≡ Input.consistent self.now.input.now }
     {
-        (1..=self.n).all(|day| self.is_day_consistent(day))
+        (0..self.n).all(|k| self.is_day_consistent(k + 1))
     }
 
     // The sums of the records of all days.

@@ -18,5 +18,4 @@ pub returns : goal.returns
 unfolding no_item_names
 returns c =
     let a = c.args in
-    all_up_to (λ x. not (item_names a.t (Table.item a.table.now x))) _ (Table.items_of a.table.now) c.all.result c.new.result _ c.new.ensures.start (search rules) c.new.ensures.exhausted
-    c.all.ensures.ran (λ x b q k. search (rules, tests))
+    all_up_to (λ x. not (item_names a.t (Table.item a.table.now x))) _ (Table.items_of a.table.now) c.all.result _ _ (search rules) c.all.ensures.ran (λ x b q k. search (rules, tests))

@@ -14,5 +14,4 @@ pub returns : goal.returns
 unfolding no_probe_names
 returns c =
     let a = c.args in
-    all_up_to (λ k. not (stored_names a.t (Table.session a.table.now k))) _ (Table.sessions_of a.table.now) c.all.result c.new.result _ c.new.ensures.start (search rules) c.new.ensures.exhausted
-    c.all.ensures.ran (λ x b q k. search (rules, tests))
+    all_up_to (λ k. not (stored_names a.t (Table.session a.table.now k))) _ (Table.sessions_of a.table.now) c.all.result _ _ (search rules) c.all.ensures.ran (λ x b q k. search (rules, tests))

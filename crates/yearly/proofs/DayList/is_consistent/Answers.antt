@@ -9,5 +9,4 @@ pub returns : goal.returns
 unfolding consistent
 returns c =
     let s = c.args.self.now in
-    all_up_to (consistent_day s.input.now) _ (days_in s.input.now) c.all.result c.new.result _ c.new.ensures.start (c.new.ensures.end ∙ s.sized.count) c.new.ensures.exhausted
-    c.all.ensures.ran (λ x b q k. search (rules, tests))
+    all_up_to (consistent_day s.input.now) _ (days_in s.input.now) c.all.result _ _ (search rules) c.all.ensures.ran (λ x b q k. search (rules, tests))
