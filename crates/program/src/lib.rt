@@ -14,6 +14,7 @@ pub fn read_full<R: Read>(input: &mut R, room: &mut [u8]) -> io::Result<usize>
     ensures bytes { IfOk result (λ n. Consumes (R.remaining input.old) (R.remaining input.new) (take n room.new)) }
     ensures all { IfOk result (λ n. n < length room.new → IsAtEnd (R.remaining input.new)) }
 {
+    // Kept by hand: std's `read_exact` fails where the input ends early, and `read_to_end` needs a heap.
     let mut done: usize = 0;
     while done < room.len() {
         let n = input.read(&mut room[done..])?;

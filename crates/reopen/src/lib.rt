@@ -1,20 +1,19 @@
 // A session is reopened (02: session numbers used again): whether nothing names it any more, and the record that begins anew.
 #![tactic(auto)]
 
-ghost use Rattle.std.specs.Prelude.{◌≡◌, ◌≤◌};
+ghost use Rattle.std.specs.Prelude.{◌≡◌, ◌≤◌, ◌<◌};
 ghost use Rattle.lists.specs.Lists.{member};
 ghost use Rattle.refusal.specs.Refusal.{first};
 ghost use Rattle.message.specs.Limits.{IsSession};
 ghost use Rattle.item.specs.Record.{Packed};
-ghost use Rattle.mailbox.specs.Entry.{Entry, seen_by_item};
-ghost use Rattle.mailbox.specs.Layout.{entries_of};
+ghost use Rattle.mailbox.specs.Layout.{count_of, entry_at, entries_of};
 ghost use Rattle.table.specs.Layout as Table;
 ghost use Rattle.step.specs.Step.{Formed};
 ghost use Rattle.reopen.specs.Reopening.{is_over, stored_names, item_names, entry_names, no_probe_names, no_item_names, no_entry_names, may_reopen, reopen_causes, reopened, unless_refused};
-ghost use Rattle.reopen.specs.Parts.{Plain, Searchable};
+ghost use Rattle.reopen.specs.Parts.{Searchable};
 
 use item::Item;
-use message::{MAX_SESSIONS, Message};
+use message::MAX_SESSIONS;
 use session::Session;
 
 // Whether the session's work is over: stage 3 with nothing held, or stage 6.
@@ -29,13 +28,7 @@ fn is_over(s: Session) -> bool
 fn row_has(row: [u8; MAX_SESSIONS], t: u8) -> bool
     ensures { result ≡ member t row }
 {
-    let mut found = false;
-    let mut i: usize = 0;
-    while i < MAX_SESSIONS {
-        found = found | (row[i] == t);
-        i += 1;
-    }
-    found
+    row.iter().fold(false, |found, k| found | (*k == t))
 }
 
 // Whether a probe that the record stores names session t.
@@ -44,7 +37,7 @@ fn stored_names(t: u8, s: Session) -> bool
     ensures { result ≡ stored_names t s }
 {
     let juniors = s.juniors;
-    let as_initiator = juniors[t as usize - 1] != 0;
+    let as_initiator = juniors[usize::from(t) - 1] != 0;
     as_initiator | row_has(juniors, t)
 }
 
@@ -57,11 +50,12 @@ fn item_names(t: u8, i: Item) -> bool
     (i.holder == t) | row_has(queue, t)
 }
 
-// Whether an entry, as its item sees it, names session t: where its kind carries no sessions there are zeros.
-fn entry_names(t: u8, m: Message) -> bool
-    requires { 1 ≤ t }
-    ensures { (e : Entry) → Plain e → m ≡ seen_by_item e → result ≡ entry_names t e }
+// Whether entry k, as its item sees it, names session t: where its kind carries no sessions there are zeros.
+fn entry_names(t: u8, mail: &[u8], k: usize) -> bool
+    requires { Searchable t mail.now × (k < count_of mail.now) }
+    ensures { result ≡ entry_names t (entry_at mail.now k) }
 {
+    let m = mailbox::message_to_item(mail, k);
     (m.peer == t) | (m.a == t) | (m.b == t)
 }
 
@@ -70,15 +64,7 @@ fn no_probe_names(t: u8, table: &[u8]) -> bool
     requires { IsSession t × Table.Formed table.now }
     ensures { result ≡ no_probe_names t table.now }
 {
-    let n = table::sessions(table);
-    let mut k: u8 = 0;
-    while k < n {
-        if stored_names(t, table::session(table, k + 1)) {
-            return false;
-        }
-        k += 1;
-    }
-    true
+    (0..table::sessions(table)).all(|k| !stored_names(t, table::session(table, k + 1)))
 }
 
 // Whether no item names session t.
@@ -86,15 +72,7 @@ fn no_item_names(t: u8, table: &[u8]) -> bool
     requires { (1 ≤ t) × Table.Formed table.now }
     ensures { result ≡ no_item_names t table.now }
 {
-    let n = table::items(table);
-    let mut x: u8 = 0;
-    while x < n {
-        if item_names(t, table::item(table, x + 1)) {
-            return false;
-        }
-        x += 1;
-    }
-    true
+    (0..table::items(table)).all(|x| !item_names(t, table::item(table, x + 1)))
 }
 
 // Whether no entry names session t.
@@ -103,14 +81,7 @@ fn no_entry_names(t: u8, mail: &[u8]) -> bool
     ensures { result ≡ no_entry_names t (entries_of mail.now) }
 {
     let n = mailbox::count(mail);
-    let mut k: usize = 0;
-    while k < n {
-        if entry_names(t, mailbox::message_to_item(mail, k)) {
-            return false;
-        }
-        k += 1;
-    }
-    true
+    (0..n).all(|k| !entry_names(t, mail, k))
 }
 
 // Whether session t may be reopened.
@@ -118,16 +89,10 @@ fn may_reopen(t: u8, table: &[u8], mail: &[u8]) -> bool
     requires { Formed table.now mail.now × Table.HasSession table.now t }
     ensures { result ≡ may_reopen t table.now mail.now }
 {
-    if !is_over(table::session(table, t)) {
-        return false;
-    }
-    if !no_probe_names(t, table) {
-        return false;
-    }
-    if !no_item_names(t, table) {
-        return false;
-    }
-    no_entry_names(t, mail)
+    is_over(table::session(table, t))
+        && no_probe_names(t, table)
+        && no_item_names(t, table)
+        && no_entry_names(t, mail)
 }
 
 // Reopens session t, on buffers that were judged: the number of the refusal, or 0.

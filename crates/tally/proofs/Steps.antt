@@ -24,8 +24,7 @@ use Rattle.lockmgr.proofs.Form.{step_keeps_form}
 use Rattle.tally.specs.declared.Tally.{Tally}
 use Rattle.tally.specs.Tally.{added}
 use Rattle.tally.specs.declared.Step.{Step}
-use Rattle.tally.specs.declared.Counted.{Counted}
-use Rattle.tally.specs.Steps.{step_of, tally_of, stage_or0, Counts, Tallied}
+use Rattle.tally.specs.Steps.{step_of, tally_of, is_rolled_back, Tallied}
 
 abbrev pub step_table : Stepped → List ℕ
 step_table r = r.table
@@ -61,16 +60,10 @@ module _ (verb t x : ℕ) (table mail : List ℕ) where
     abbrev after : List ℕ
     after = (step verb t x table mail).table
 
-    -- whether the session is rolled back, from the stages read before and after
-    rolls-back : (b : Bool) → between 1 (sessions_of table) t ≡ b
-        → not (eqb (stage_or0 table t) Stage.rolled_back) && eqb (stage_or0 after t) Stage.rolled_back ≡ rolls_back t table after
+    -- whether the step rolls the session back, from the tables before and after
+    rolls-back : (b : Bool) → between 1 (sessions_of table) t ≡ b → not (is_rolled_back table t) && is_rolled_back after t ≡ rolls_back t table after
     rolls-back true e = rw (ap (λ (c : Table.Config). c.sessions) (step_keeps_form verb t x table mail f).config, e) refl
     rolls-back false e = rw (unnumbered e, e) (sym (never_both (eqb (Table.session table t).stage Stage.rolled_back)))
-
--- with a step's answer added the tally is as the step leaves it
-pub adds_step : (c : Step) (table mail : List ℕ) {d : Counted} {table' mail' : List ℕ} → Counts (step_of c) table mail d table' mail'
-    → (t : Tally) → Tallied (step_of c) table mail t d.answer (added d.answer d.rolled_back t) table' mail'
-adds_step c table mail n t = record { did = n.did; tally = rw (n.rolled, ap answer_of n.did, ap step_table n.did) refl }
 
 module _ (c : Step) (table mail : List ℕ) (f : Formed table mail) where
   abbrev did : Stepped
@@ -82,15 +75,13 @@ module _ (c : Step) (table mail : List ℕ) (f : Formed table mail) where
   pub formed-after : {a : Answer} {table' mail' : List ℕ} → stepped a table' mail' ≡ did → Formed table' mail'
   formed-after e = rw (ap step_table e, ap step_mail e) kept.formed
 
-  -- the code finds what a step answers and whether it rolls back
-  pub counts_step : {d : Counted} {table' mail' : List ℕ} {before later : ℕ} → stepped d.answer table' mail' ≡ did
-      → before ≡ stage_or0 table c.session → later ≡ stage_or0 table' c.session
-      → d.rolled_back ≡ not (eqb before Stage.rolled_back) && eqb later Stage.rolled_back → Counts (step_of c) table mail d table' mail'
-  counts_step e b l r =
-      record {
-        did = e;
-        rolled = rw (r, b, l, ap step_table e) (rolls-back c.verb c.session c.item table mail f (between 1 (sessions_of table) c.session) refl);
-      }
+  -- with its answer added the tally is as the step leaves it
+  pub adds_step : {a : Answer} {rolled : Bool} {table' mail' : List ℕ} → stepped a table' mail' ≡ did
+      → rolled ≡ not (is_rolled_back table c.session) && is_rolled_back table' c.session
+      → (t : Tally) → Tallied (step_of c) table mail t a (added a rolled t) table' mail'
+  adds_step {rolled = rolled} e r t =
+      let rolls : rolled ≡ rolls_back c.session table did.table = rw (r, ap step_table e) (rolls-back c.verb c.session c.item table mail f (between 1 (sessions_of table) c.session) refl) in
+      record { did = e; tally = rw (rolls, ap answer_of e) refl }
 
   -- the tally grows by one at most
   pub few-more : (t : Tally) {u : Tally} → tally_of u ≡ counted c.session table did (tally_of t)

@@ -1,6 +1,7 @@
 -- What the code of a step does, as the lock manager's definitions have it.
-use Rattle.std.specs.Prelude.{ℕ, ◌≡◌, cond, List}
+use Rattle.std.specs.Prelude.{ℕ, ◌≡◌, Bool, ◌&&◌, List, eqb}
 use Rattle.lists.specs.Lists.{between}
+use Rattle.session.specs.Stage
 use Rattle.table.specs.Layout as Table
 use Rattle.step.specs.declared.Answer.{Answer}
 use Rattle.step.specs.Step.{stepped}
@@ -8,7 +9,6 @@ use Rattle.lockmgr.specs.Calls.{step}
 use Rattle.lockmgr.specs.Run as Run
 use Rattle.tally.specs.declared.Tally.{Tally}
 use Rattle.tally.specs.declared.Step.{Step}
-use Rattle.tally.specs.declared.Counted.{Counted}
 
 abbrev pub step_of : Step → Run.Step
 step_of c = record { verb = c.verb; session = c.session; item = c.item }
@@ -16,14 +16,9 @@ step_of c = record { verb = c.verb; session = c.session; item = c.item }
 abbrev pub tally_of : Tally → Run.Tally
 tally_of t = record { closed = t.closed; declared = t.declared; rolled_back = t.rolled_back }
 
--- the stage of session t, or 0 where there is no such session
-abbrev pub stage_or0 : List ℕ → ℕ → ℕ
-stage_or0 table t = cond (between 1 (Table.sessions_of table) t) (Table.session table t).stage 0
-
--- what a step answers, whether it rolled its session back, and both buffers after
-pub record Counts (c : Run.Step) (table mail : List ℕ) (d : Counted) (table' mail' : List ℕ) : Type 0 where
-  pub did : stepped d.answer table' mail' ≡ step c.verb c.session c.item table mail
-  pub rolled : d.rolled_back ≡ Run.rolls_back c.session table table'
+-- there is a session t, and it is at stage 6
+abbrev pub is_rolled_back : List ℕ → ℕ → Bool
+is_rolled_back table t = between 1 (Table.sessions_of table) t && eqb (Table.session table t).stage Stage.rolled_back
 
 -- what a step answers, and the tally and both buffers after
 pub record Tallied (c : Run.Step) (table mail : List ℕ) (t : Tally) (a : Answer) (u : Tally) (table' mail' : List ℕ) : Type 0 where

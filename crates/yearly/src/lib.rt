@@ -1,16 +1,18 @@
 // What the statement program prints, as one call from the bytes of its input to the bytes of its output.
 #![tactic(auto)]
 
-ghost use Rattle.std.specs.Prelude.{◌≡◌, ◌+◌, ◌*◌, ◌≤◌, length};
+ghost use Rattle.std.specs.Prelude.{◌≡◌, true, ◌+◌, ◌*◌, ◌≤◌, length};
 ghost use Rattle.buffer.specs.Bytes.{splice};
 ghost use Rattle.std.specs.Counts.{IsPrefixLen};
 ghost use Rattle.program.specs.Program.{output, at_start};
 ghost use Rattle.yearly.specs.Input as Input;
-ghost use Rattle.yearly.specs.Input.{value_at, record_at, max_days};
+ghost use Rattle.yearly.specs.Input.{value_at, record_at, consistent_day, max_days};
 ghost use Rattle.yearly.specs.Rate.{rate};
 ghost use Rattle.yearly.specs.Printed.{sums, refusal, day_lines, longest, longest_line, statement};
 ghost use Rattle.yearly.specs.Parts.{Days, max_value};
 ghost use Rattle.yearly.specs.Claims.{read_size};
+
+use std::cmp::Ordering;
 
 const MAX_DAYS: usize = 366;
 
@@ -56,55 +58,70 @@ fn sized(input: &[u8]) -> bool
         return false;
     }
     let n = value(input, 0) as usize;
-    (n >= 1) & (n <= MAX_DAYS) & (input.len() == 2 * (1 + 2 * n))
+    (1..=MAX_DAYS).contains(&n) && input.len() == 2 * (1 + 2 * n)
 }
 
-// The record of one of n days, from 1.
-fn read_day(input: &[u8], n: usize, day: usize) -> Record
-    requires { Days input.now n × (1 ≤ day) × (day ≤ n) }
-    ensures { (result ≡ record_at input.now day) × (result.sessions ≤ max_value) × (result.rollbacks ≤ max_value) }
-{
-    let sessions = value(input, day);
-    let rollbacks = value(input, n + day);
-    Record {
-        sessions,
-        rollbacks,
-    }
+// An input that is sized, and its number of days.
+#[derive(Clone, Copy)]
+struct DayList<'a> {
+    input: &'a [u8],
+    n: usize,
+    ghost sized: { Days input.now n },
 }
 
-// Whether no day has more rolled back than taken part.
-fn consistent(input: &[u8], n: usize) -> bool
-    requires { Days input.now n }
-    ensures { result ≡ Input.consistent input.now }
-{
-    let mut day: usize = 1;
-    while day <= n {
-        let r = read_day(input, n, day);
-        if r.rollbacks > r.sessions {
-            return false;
+impl<'a> DayList<'a> {
+    fn of(input: &'a [u8]) -> DayList<'a>
+        requires { Input.sized input.now ≡ true }
+        ensures { result.input.now ≡ input.now }
+    {
+        DayList {
+            input,
+            n: value(input, 0) as usize,
         }
-        day += 1;
     }
-    true
-}
 
-// The sums of the records of all days.
-fn sums(input: &[u8], days: usize) -> Record
-    requires { Days input.now days }
-    ensures { (result ≡ sums input.now) × (result.sessions ≤ max_days * max_value) }
-{
-    let mut sessions: u64 = 0;
-    let mut rollbacks: u64 = 0;
-    let mut day: usize = 1;
-    while day <= days {
-        let r = read_day(input, days, day);
-        sessions += r.sessions;
-        rollbacks += r.rollbacks;
-        day += 1;
+    // The record of a day, from 1.
+    fn day(&self, day: usize) -> Record
+        requires { (1 ≤ day) × (day ≤ self.now.n) }
+        ensures { (result ≡ record_at self.now.input.now day) × (result.sessions ≤ max_value) × (result.rollbacks ≤ max_value) }
+    {
+        let sessions = value(self.input, day);
+        let rollbacks = value(self.input, self.n + day);
+        Record {
+            sessions,
+            rollbacks,
+        }
     }
-    Record {
-        sessions,
-        rollbacks,
+
+    // Whether no more rolled back than took part on that day.
+    fn is_day_consistent(&self, day: usize) -> bool
+        requires { (1 ≤ day) × (day ≤ self.now.n) }
+        ensures { result ≡ consistent_day self.now.input.now day }
+    {
+        let r = self.day(day);
+        r.rollbacks <= r.sessions
+    }
+
+    fn is_consistent(&self) -> bool
+        ensures { result ≡ Input.consistent self.now.input.now }
+    {
+        (0..self.n).all(|k| self.is_day_consistent(k + 1))
+    }
+
+    // The sums of the records of all days.
+    fn sums(&self) -> Record
+        ensures { (result ≡ sums self.now.input.now) × (result.sessions ≤ max_days * max_value) }
+    {
+        let mut sum = Record {
+            sessions: 0,
+            rollbacks: 0,
+        };
+        for day in 1..self.n + 1 {
+            let r = self.day(day);
+            sum.sessions += r.sessions;
+            sum.rollbacks += r.rollbacks;
+        }
+        sum
     }
 }
 
@@ -115,9 +132,9 @@ fn judge(input: &[u8]) -> u8
     if !sized(input) {
         return refusal::BAD_LIST;
     }
-    let n = value(input, 0) as usize;
-    let inconsistent = !consistent(input, n);
-    let nobody = sums(input, n).sessions == 0;
+    let days = DayList::of(input);
+    let inconsistent = !days.is_consistent();
+    let nobody = days.sums().sessions == 0;
     if inconsistent {
         return refusal::BAD_LIST;
     }
@@ -135,27 +152,22 @@ fn rate(rollbacks: u64, sessions: u64) -> u64
     let scaled = 1000 * rollbacks;
     let quotient = scaled / sessions;
     let remainder = scaled % sessions;
-    if 2 * remainder < sessions {
-        return quotient;
+    match (2 * remainder).cmp(&sessions) {
+        Ordering::Less => quotient,
+        Ordering::Equal => quotient + quotient % 2,
+        Ordering::Greater => quotient + 1,
     }
-    if 2 * remainder > sessions {
-        return quotient + 1;
-    }
-    quotient + quotient % 2
 }
 
-// Writes the lines of n days.
-fn put_days(out: &mut [u8], input: &[u8], n: usize) -> usize
-    requires { Days input.now n × (longest ≤ length out.old) }
-    ensures { (out.new ≡ splice out.old 0 (day_lines input.now n)) × (result ≡ length (day_lines input.now n)) × (result ≤ longest_line * n) }
+// Writes the lines of the days.
+fn put_days(out: &mut [u8], days: &DayList) -> usize
+    requires { longest ≤ length out.old }
+    ensures { (out.new ≡ splice out.old 0 (day_lines days.now.input.now days.now.n)) × (result ≡ length (day_lines days.now.input.now days.now.n)) × (result ≤ longest_line * days.now.n) }
 {
     let mut at: usize = 0;
-    let mut day: usize = 1;
-    while day <= n {
-        let r = read_day(input, n, day);
-        let numbers = [r.sessions, r.rollbacks];
-        at = text::put_line(out, at, day as u64, &numbers);
-        day += 1;
+    for day in 1..days.n + 1 {
+        let r = days.day(day);
+        at = text::put_line(out, at, day as u64, &[r.sessions, r.rollbacks]);
     }
     at
 }
@@ -165,9 +177,9 @@ fn put_statement(out: &mut [u8], input: &[u8]) -> usize
     requires { (refusal input.now ≡ 0) × (longest ≤ length out.old) }
     ensures { (out.new ≡ splice out.old 0 (statement input.now)) × (result ≡ length (statement input.now)) × (result ≤ longest) }
 {
-    let n = value(input, 0) as usize;
-    let total = sums(input, n);
-    let at = put_days(out, input, n);
+    let days = DayList::of(input);
+    let total = days.sums();
+    let at = put_days(out, &days);
     let numbers = [total.rollbacks, rate(total.rollbacks, total.sessions)];
     text::put_line(out, at, total.sessions, &numbers)
 }
@@ -176,6 +188,7 @@ fn put_statement(out: &mut [u8], input: &[u8]) -> usize
 pub fn write(input: &[u8], out: &mut [u8]) -> usize
     ensures { (output result out.new ≡ at_start longest (statement input.now) out.old) × IsPrefixLen result out.new }
 {
+    // Kept by hand, as in `transcript`: a trait over both programs would save this test, and ask for a constant, a ghost text and a type of each.
     if out.len() < LONGEST {
         return 0;
     }

@@ -7,6 +7,7 @@ use lib.Dec.{eqb}
 use borrow.Author.Tests.{ne_eqb}
 use Rattle.message.specs.Kind
 use Rattle.mailbox.specs.Entry.{Entry}
+use Rattle.mailbox.specs.Layout.{entry_at}
 use Rattle.reopen.specs.Reopening.{entry_names}
 use Rattle.reopen.specs.Parts.{Plain}
 use Rattle.reopen.proofs.entry_names.Goals as goal
@@ -25,4 +26,7 @@ unasked t low e p = go (Kind.carries e.kind) refl
         rw (zero-differs t low e.a z.0, zero-differs t low e.b z.1) (or-false (eqb e.session t || false))
 
 pub returns : goal.returns
-returns c = λ e p q. rw (q) (unasked c.args.t c.requires e p)
+returns c =
+    let a = c.args in
+    let q = c.requires.0 in
+    rw (c.message_to_item-m.ensures) (unasked a.t q.low (entry_at a.mail.now a.k) (q.plain a.k c.requires.1))

@@ -1,25 +1,16 @@
--- `row_has` meets its contract. The loop's invariant: whether t stands among the bytes that were passed.
-use mathlib.Core.Path.{◌≡◌, refl, sym}
-use native.Mathlib.Omega.{arith}
-use lib.ListN.{length}
-use lib.Seq.{take_all}
+-- `row_has` meets its contract: each byte is tested, and what was found stays.
+use mathlib.Core.Path.{◌≡◌, refl}
+use mathlib.Core.Bool.{false}
+use Rattle.std.proofs.Common.{rules, tests}
+use Rattle.std.proofs.iter.Yields.{fronts}
+use Rattle.std.proofs.lemmas.Fn.{fold_over}
+use Rattle.std.proofs.lemmas.Iterator.{YieldsList-from_slice}
 use Rattle.lists.specs.Lists.{member}
-use Rattle.lists.proofs.Laws.{member-more}
-use Rattle.message.specs.Limits.{max_sessions}
+use Rattle.lists.proofs.Laws.{member-last}
 use Rattle.reopen.proofs.row_has.Goals as goal
 
-pub loop-i-init : goal.loop-i-init
-unfolding member
-loop-i-init c = (omega arith, refl)
-
-pub loop-i-preserved : goal.loop-i-preserved
-loop-i-preserved c =
-    let whole : length c.args.row ≡ max_sessions = c.well_formed.0.1.0.1 in
-    let l = c.loop-i in
-    (omega arith, rw l.invariant.1 (sym (member-more c.args.t c.args.row l.i (omega (arith, whole)))))
-
 pub returns : goal.returns
+unfolding member
 returns c =
-    let whole : length c.args.row ≡ max_sessions = c.well_formed.0.1.0.1 in
-    let all : c.loop-i.i ≡ max_sessions = omega arith in
-    rw (all, take_all max_sessions c.args.row (omega (arith, whole))) at c.loop-i.invariant.1
+    let t = c.args.t in
+    fold_over fronts (λ x. x.now) _ (λ l b. b ≡ member t l) _ (λ ys b x r q e k. rw (member-last t ys x.now, ← e) (search (rules, tests))) c.iter.result c.args.row false c.fold.result (YieldsList-from_slice c.args.row (search rules)).runs refl c.fold.ensures.ran

@@ -5,4 +5,4 @@ use Rattle.reopen.proofs.stored_names.Goals as goal
 
 pub returns : goal.returns
 unfolding stored_names
-returns c = rw c.row_has.ensures refl
+returns c = rw (c.row_has.ensures, c.from.ensures) refl

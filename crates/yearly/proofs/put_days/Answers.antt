@@ -15,38 +15,36 @@ pub loop-day-init : goal.loop-day-init
 unfolding append_up_to
 loop-day-init c = (0, refl, omega arith, refl, sym (splice-none c.args.out.now 0), refl, omega arith)
 
-pub read_day-r-requires : goal.read_day-r-requires
-read_day-r-requires c = let l = c.loop-day in (c.requires.0, omega (arith, l.invariant.1), omega arith)
+pub day-r-requires : goal.day-r-requires
+day-r-requires c = let l = c.loop-day in (omega (arith, l.invariant.1), omega arith)
 
 pub put_line-at-requires : goal.put_line-at-requires
 unfolding day_line
 put_line-at-requires c =
+    let a = c.args in
     let l = c.loop-day in
-    let r = c.read_day-r in
-    let short = day_short l.day r.result (omega (arith, c.requires.0.few)) r.ensures.1 r.ensures.2 in
-    omega (arith, short, l.invariant.1, l.invariant.2, l.invariant.3, l.invariant.6, c.requires.0.few, c.requires.1)
-
-pub overflow_add-day : goal.overflow_add-day
-overflow_add-day c = omega (arith, c.requires.0.few)
+    let r = c.day-r in
+    let short = day_short l.day r.result (omega (arith, a.days.now.sized.few)) r.ensures.1 r.ensures.2 in
+    omega (arith, short, l.invariant.1, l.invariant.2, l.invariant.3, l.invariant.6, a.days.now.sized.few, c.requires)
 
 pub loop-day-preserved : goal.loop-day-preserved
 unfolding append_up_to day_line
 loop-day-preserved c =
     let a = c.args in
     let l = c.loop-day in
-    let r = c.read_day-r in
+    let r = c.day-r in
     let k = l.invariant.0 in
     let w = c.put_line-at in
-    let now = day_line (suc k) (record_at a.input.now (suc k)) in
-    let before = day_lines a.input.now k in
+    let now = day_line (suc k) (record_at a.days.now.input.now (suc k)) in
+    let before = day_lines a.days.now.input.now k in
     let day : day_line l.day r.result ≡ now = rw (r.ensures.0, l.invariant.1) refl in
-    let short = day_short l.day r.result (omega (arith, c.requires.0.few)) r.ensures.1 r.ensures.2 in
+    let short = day_short l.day r.result (omega (arith, a.days.now.sized.few)) r.ensures.1 r.ensures.2 in
     let len = length-append before now in (
       suc k,
       omega (arith, l.invariant.1),
       omega (arith, l.invariant.1),
       w.auto.out ∙ l.invariant.3,
-      splice_then a.out.now 0 before now (omega (arith, l.invariant.2, l.invariant.5, l.invariant.6, c.requires.0.few, c.requires.1, ap length day)) l.invariant.4 (omega (arith, l.invariant.5)) (w.ensures.0 ∙ ap (splice l.out l.at) day),
+      splice_then a.out.now 0 before now (omega (arith, l.invariant.2, l.invariant.5, l.invariant.6, a.days.now.sized.few, c.requires, ap length day)) l.invariant.4 (omega (arith, l.invariant.5)) (w.ensures.0 ∙ ap (splice l.out l.at) day),
       omega (arith, w.ensures.1, l.invariant.5, ap length day),
       omega (arith, w.ensures.1, l.invariant.6),
     )
@@ -57,6 +55,6 @@ shape_of-out c = c.loop-day.invariant.3
 pub returns : goal.returns
 returns c =
     let l = c.loop-day in
-    let n = c.args.n in
+    let n = c.args.days.now.n in
     let all : l.invariant.0 ≡ n = omega (arith, l.invariant.1, l.invariant.2, c.loop-day-test.false) in
     (rw all at l.invariant.4, rw all at l.invariant.5, omega (arith, l.invariant.6))

@@ -8,12 +8,12 @@ use Rattle.buffer.specs.Bytes.{splice}
 use Rattle.text.specs.Text.{line}
 use Rattle.text.proofs.Laws.{splice_then}
 use Rattle.yearly.specs.declared.Record.{Record}
-use Rattle.yearly.specs.Input.{days_in, max_days}
+use Rattle.yearly.specs.Input.{max_days}
 use Rattle.yearly.specs.Rate.{rate}
 use Rattle.yearly.specs.Printed as Printed
 use Rattle.yearly.specs.Printed.{sums, day_lines, last_line, longest_last}
 use Rattle.yearly.specs.Parts.{max_value}
-use Rattle.yearly.proofs.Laws.{Accepted, accepted, days, statement-accepted, last_short}
+use Rattle.yearly.proofs.Laws.{Accepted, accepted, statement-accepted, last_short}
 use Rattle.yearly.proofs.put_statement.Goals as goal
 
 -- the sums are those of a list that is not refused
@@ -32,48 +32,35 @@ last : {q : ℕ} (r : Record) → q ≡ rate r.rollbacks r.sessions → line r.s
 unfolding last_line
 last r e = rw e refl
 
-pub value-n-requires : goal.value-n-requires
-value-n-requires c =
-    let t = c.args.input.now in
-    let d = days t (days_in t) refl (accepted t c.requires.0).whole in omega (arith, d.whole)
-
-pub sums-total-requires : goal.sums-total-requires
-sums-total-requires c =
-    let t = c.args.input.now in days t c.value-n.result c.value-n.ensures.0 (accepted t c.requires.0).whole
-
-pub put_days-at-requires : goal.put_days-at-requires
-put_days-at-requires c =
-    let t = c.args.input.now in (days t c.value-n.result c.value-n.ensures.0 (accepted t c.requires.0).whole, c.requires.1)
+pub of-days-requires : goal.of-days-requires
+of-days-requires c = (accepted c.args.input.now c.requires.0).whole
 
 pub rate-requires : goal.rate-requires
 rate-requires c =
-    let r = c.sums-total in
-    let h = total (accepted c.args.input.now c.requires.0) r.ensures.0 in (h.0, h.1, r.ensures.1)
+    let r = rw c.of-days.ensures at c.sums-total.ensures in
+    let h = total (accepted c.args.input.now c.requires.0) r.0 in (h.0, h.1, r.1)
 
 pub put_line-requires : goal.put_line-requires
 put_line-requires c =
-    let t = c.args.input.now in
-    let k = accepted t c.requires.0 in
-    let list = days t c.value-n.result c.value-n.ensures.0 k.whole in
+    let k = accepted c.args.input.now c.requires.0 in
     let d = c.put_days-at in
-    let r = c.sums-total in
-    omega (arith, ap length (last r.result c.rate.ensures), short k r.ensures.0 r.ensures.1, d.ensures.2, d.auto.out, list.few, c.requires.1)
+    let r = rw c.of-days.ensures at c.sums-total.ensures in
+    omega (arith, ap length (last c.sums-total.result c.rate.ensures), short k r.0 r.1, d.ensures.2, d.auto.out, c.of-days.result.sized.few, c.requires.1)
 
 pub returns : goal.returns
 returns c =
     let input = c.args.input.now in
     let out = c.args.out.now in
-    let n = c.value-n in
     let k = accepted input c.requires.0 in
-    let list = days input n.result n.ensures.0 k.whole in
-    let r = c.sums-total in
+    let list = c.of-days.result.sized in
+    let r = rw c.of-days.ensures at c.sums-total.ensures in
     let d = c.put_days-at in
     let w = c.put_line.ensures in
-    let lines = day_lines input n.result in
-    let end = last_line r.result in
-    let all : lines ++ end ≡ Printed.statement input = rw (n.ensures.0, r.ensures.0) (sym (statement-accepted input c.requires.0)) in
-    let few = short k r.ensures.0 r.ensures.1 in
-    let same = last r.result c.rate.ensures in
+    let lines = day_lines c.of-days.result.input.now c.of-days.result.n in
+    let end = last_line c.sums-total.result in
+    let all : lines ++ end ≡ Printed.statement input = rw (list.count, c.of-days.ensures, r.0) (sym (statement-accepted input c.requires.0)) in
+    let few = short k r.0 r.1 in
+    let same = last c.sums-total.result c.rate.ensures in
     let line = ap length same in
     let len = length-append lines end in (
       splice_then out 0 lines end (omega (arith, d.ensures.1, d.ensures.2, list.few, c.requires.1)) d.ensures.0 (omega (arith, d.ensures.1)) (w.0 ∙ ap (splice d.new.out d.result) same) ∙ ap (splice out 0) all,

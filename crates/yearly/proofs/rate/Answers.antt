@@ -3,6 +3,7 @@ use mathlib.Core.Path.{◌≡◌}
 use Prim.Native.Nat.{ℕ, ◌*◌, ◌/◌, ◌%◌, ◌≤◌, ◌<◌}
 use native.Mathlib.Nat.{div-le_self, mod-lt}
 use native.Mathlib.Omega.{arith}
+use Rattle.std.proofs.Common.{rules}
 use Rattle.yearly.specs.Input.{max_days}
 use Rattle.yearly.specs.Rate.{rate}
 use Rattle.yearly.specs.Parts.{max_value}
@@ -24,26 +25,26 @@ module _ {rollbacks sessions : ℕ} (h : (1 ≤ sessions) × (rollbacks ≤ sess
 pub overflow_mul-remainder : goal.overflow_mul-remainder
 overflow_mul-remainder c = omega (arith, (few c.requires).1)
 
-pub returns-then-remainder-sessions : goal.returns-then-remainder-sessions
-returns-then-remainder-sessions c =
-    let a = c.args in
-    omega (arith, is-rate c.requires _ (below_half (1000 * a.rollbacks) a.sessions c.requires.0 (omega (arith, c.if-remainder-sessions.true))))
-
-pub overflow_mul-remainder-2 : goal.overflow_mul-remainder-2
-overflow_mul-remainder-2 c = omega (arith, (few c.requires).1)
-
 pub overflow_add-result : goal.overflow_add-result
 overflow_add-result c = omega (arith, (few c.requires).0)
 
-pub returns-then-remainder-sessions-2 : goal.returns-then-remainder-sessions-2
-returns-then-remainder-sessions-2 c =
-    let a = c.args in
-    omega (arith, is-rate c.requires _ (above_half (1000 * a.rollbacks) a.sessions c.requires.0 (omega (arith, c.if-remainder-sessions-2.true))))
+pub overflow_add-result-in-Greater : goal.overflow_add-result-in-Greater
+overflow_add-result-in-Greater c = omega (arith, (few c.requires).0)
 
-pub overflow_add-result-2 : goal.overflow_add-result-2
-overflow_add-result-2 c = omega (arith, (few c.requires).0)
-
-pub returns : goal.returns
-returns c =
+pub returns-in-Less : goal.returns-in-Less
+returns-in-Less c =
     let a = c.args in
-    omega (arith, is-rate c.requires _ (at-half (1000 * a.rollbacks) a.sessions c.requires.0 (omega (arith, c.if-remainder-sessions.false, c.if-remainder-sessions-2.false))))
+    let below : 2 * (1000 * a.rollbacks % a.sessions) < a.sessions = search rules in
+    is-rate c.requires _ (below_half (1000 * a.rollbacks) a.sessions c.requires.0 below)
+
+pub returns-in-Equal : goal.returns-in-Equal
+returns-in-Equal c =
+    let a = c.args in
+    let half : 2 * (1000 * a.rollbacks % a.sessions) ≡ a.sessions = search rules in
+    is-rate c.requires _ (at-half (1000 * a.rollbacks) a.sessions c.requires.0 half)
+
+pub returns-in-Greater : goal.returns-in-Greater
+returns-in-Greater c =
+    let a = c.args in
+    let above : a.sessions < 2 * (1000 * a.rollbacks % a.sessions) = search rules in
+    is-rate c.requires _ (above_half (1000 * a.rollbacks) a.sessions c.requires.0 above)

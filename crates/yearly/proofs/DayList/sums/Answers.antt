@@ -6,32 +6,29 @@ use Rattle.lists.specs.Lists.{sum_up_to}
 use Rattle.yearly.specs.declared.Record.{Record}
 use Rattle.yearly.specs.Input.{days_in}
 use Rattle.yearly.specs.Printed.{sums}
-use Rattle.yearly.proofs.sums.Goals as goal
+use Rattle.yearly.proofs.DayList.sums.Goals as goal
 
 pub loop-day-init : goal.loop-day-init
 unfolding sum_up_to
 loop-day-init c = (0, refl, omega arith, refl, refl, omega arith, omega arith)
 
-pub read_day-r-requires : goal.read_day-r-requires
-read_day-r-requires c = let l = c.loop-day in (c.requires, omega (arith, l.invariant.1), omega arith)
+pub day-r-requires : goal.day-r-requires
+day-r-requires c = let l = c.loop-day in (omega (arith, l.invariant.1), omega arith)
 
-pub overflow_add-sessions : goal.overflow_add-sessions
-overflow_add-sessions c =
+pub overflow_add-sum : goal.overflow_add-sum
+overflow_add-sum c =
     let l = c.loop-day in
-    omega (arith, c.requires.few, l.invariant.2, l.invariant.5, c.read_day-r.ensures.1)
+    omega (arith, c.args.self.now.sized.few, l.invariant.2, l.invariant.5, c.day-r.ensures.1)
 
-pub overflow_add-rollbacks : goal.overflow_add-rollbacks
-overflow_add-rollbacks c =
+pub overflow_add-sum-in-loop-day : goal.overflow_add-sum-in-loop-day
+overflow_add-sum-in-loop-day c =
     let l = c.loop-day in
-    omega (arith, c.requires.few, l.invariant.2, l.invariant.6, c.read_day-r.ensures.2)
-
-pub overflow_add-day : goal.overflow_add-day
-overflow_add-day c = omega (arith, c.requires.few)
+    omega (arith, c.args.self.now.sized.few, l.invariant.2, l.invariant.6, c.day-r.ensures.2)
 
 pub loop-day-preserved : goal.loop-day-preserved
 unfolding sum_up_to
 loop-day-preserved c =
-    let r = c.read_day-r.ensures in
+    let r = c.day-r.ensures in
     let l = c.loop-day in
     let e = rw l.invariant.1 at r.0 in (
       suc l.invariant.0,
@@ -47,5 +44,5 @@ pub returns : goal.returns
 unfolding sums
 returns c =
     let l = c.loop-day in
-    let all : l.invariant.0 ≡ days_in c.args.input.now = omega (arith, l.invariant.1, l.invariant.2, c.loop-day-test.false, c.requires.count) in
-    (rw (rw all at l.invariant.3, rw all at l.invariant.4) refl, omega (arith, l.invariant.2, l.invariant.5, c.requires.few))
+    let all : l.invariant.0 ≡ days_in c.args.self.now.input.now = omega (arith, l.invariant.1, l.invariant.2, c.loop-day-test.false, c.args.self.now.sized.count) in
+    (rw (rw all at l.invariant.3, rw all at l.invariant.4) refl, omega (arith, l.invariant.2, l.invariant.5, c.args.self.now.sized.few))
