@@ -1,7 +1,7 @@
 -- The route is searched for a delivery alone.
-use mathlib.Core.Path.{refl, sym, ◌∙◌}
+use mathlib.Core.Path.{sym, ◌∙◌}
+use mathlib.Core.Logic.{inl, inr}
 use native.Mathlib.Omega.{arith}
-use borrow.Author.Tests.{ne_eqb}
 use Rattle.mailbox.proofs.Laws.{kept-length, length-entries}
 use Rattle.step.specs.Step.{delivered}
 use Rattle.step.proofs.delivered.Goals as goal
@@ -10,14 +10,16 @@ pub count-requires : goal.count-requires
 count-requires c =
     omega (arith, kept-length c.args.mail.now c.requires)
 
-pub returns-in-3 : goal.returns-in-3
+pub returns-in-DeliverToItem : goal.returns-in-DeliverToItem
 unfolding delivered
-returns-in-3 c = c.earliest.ensures ∙ rw c.in-3.is refl
+returns-in-DeliverToItem c = rw (c.in-DeliverToItem.is) c.earliest.ensures
 
-pub returns-in-4 : goal.returns-in-4
+pub returns-in-DeliverToSession : goal.returns-in-DeliverToSession
 unfolding delivered
-returns-in-4 c = c.earliest-in-4.ensures ∙ rw c.in-4.is refl
+returns-in-DeliverToSession c = rw (c.in-DeliverToSession.is) c.earliest-in-DeliverToSession.ensures
 
-pub returns-in_default : goal.returns-in_default
+pub returns-in-Request : goal.returns-in-Request
 unfolding delivered
-returns-in_default c = c.count.ensures ∙ sym (length-entries c.args.mail.now) ∙ rw (ne_eqb c.args.verb 3 (λ e. omega arith), ne_eqb c.args.verb 4 (λ e. omega arith)) refl
+returns-in-Request c =
+    elim c.in-Request.is
+    [ inl e ↦ rw (e) (c.count.ensures ∙ sym (length-entries c.args.mail.now)) | inr e ↦ rw (e) (c.count.ensures ∙ sym (length-entries c.args.mail.now)) ]
