@@ -1,7 +1,7 @@
 -- Laws of what a call that can be refused answers.
 use mathlib.Core.Path.{◌≡◌, refl}
 use native.Mathlib.Omega.{arith}
-use Rattle.std.specs.Prelude.{Result}
+use Rattle.std.specs.Prelude.{Result, Err}
 use Rattle.std.specs.Result.{IsErrAnd}
 use Rattle.std.proofs.lemmas.Result.{err_from_is_err_and}
 use Rattle.refusal.specs.declared.Refusal.{Refusal}
@@ -26,6 +26,6 @@ number-positive Nobody e = omega arith
 number-positive BadRanks e = omega arith
 number-positive InUse e = omega arith
 
--- a refusal that is passed on keeps its number
-pub outcome-passed : {A : Type 0} (x : Refusal) (r : Result A Refusal) → IsErrAnd r (λ y. y ≡ x) → outcome r ≡ number x
-outcome-passed x r h = let p = err_from_is_err_and r h in rw (p.1, p.2) refl
+-- a refusal that is passed on stays the same
+pub passed-on : {A : Type 0} (x : Refusal) (r : Result A Refusal) → IsErrAnd r (λ y. y ≡ x) → r ≡ Err x
+passed-on x r h = let p = err_from_is_err_and r h in rw (p.1, p.2) refl

@@ -1,4 +1,3 @@
 pub mod Acting
 pub mod Form
-pub mod Refused
 pub mod Frame

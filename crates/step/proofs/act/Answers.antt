@@ -2,6 +2,7 @@
 use mathlib.Core.List.{List}
 use mathlib.Core.Path.{◌≡◌, refl, sym, ap, ◌∙◌}
 use mathlib.Core.Logic.{◌⊎◌, inl, inr}
+use Rattle.std.proofs.Common.{rules}
 use native.Mathlib.Omega.{arith}
 use Prim.Native.Nat.{ℕ, ◌≤◌, ◌<◌}
 use lib.ListN.{get_or}
@@ -15,7 +16,7 @@ use Rattle.mailbox.proofs.Laws.{get_d_entries, length-entries}
 use Rattle.table.specs.Layout.{session, senior}
 use Rattle.waits.specs.OnTable.{locks}
 use Rattle.refusal.specs.Refusal.{first}
-use Rattle.refusal.proofs.Outcome.{number-positive}
+use Rattle.refusal.proofs.Outcome.{number-positive, passed-on}
 use Rattle.step.specs.declared.Verb.{Verb}
 use Rattle.step.specs.declared.Verb.TheVariants.{Request, Release, DeliverToItem, DeliverToSession}
 use Rattle.step.specs.Verb.{verb_number}
@@ -23,7 +24,6 @@ use Rattle.step.specs.Step.{request, release, deliver_to_item, delivered, step_c
 use Rattle.step.specs.Parts.{Unhindered, Judged}
 use Rattle.step.proofs.Acting.{unhindered, mail-kept, juniors-whole, has-session, has-item, for-item, acts_few, acted-refused, acted-concluded, delivers, item_acts, session_acting}
 use Rattle.step.proofs.Form.{plan_keeps}
-use Rattle.step.proofs.Refused.{told-passed}
 use Rattle.step.proofs.act.Goals as goal
 
 verb-bounds : (v : Verb) → (1 ≤ verb_number v) × (verb_number v ≤ 4)
@@ -58,21 +58,21 @@ read : (mail : List ℕ) (k : ℕ) (f : Entry → ItemStep) {s : ItemStep} → k
 read mail k f i e = rw (get_d_entries mail k i) e
 
 pub delivered-k-requires : goal.delivered-k-requires
-delivered-k-requires c = mail-kept c.args.t c.args.x c.args.table.now c.args.mail.now c.requires (λ i h. omega (arith, c.slice_known-2-1.given i))
+delivered-k-requires c = mail-kept c.args.t c.args.x c.args.table.now c.args.mail.now c.requires (search rules)
 
 pub returns-in_err-step_refusal : goal.returns-in_err-step_refusal
 returns-in_err-step_refusal c =
     let is = c.in_err-step_refusal.ensures in
-    rw (told-passed _ _ c.from_residual.ensures.1, is, acted-refused (senior c.args.table.now) (verb_number c.args.verb) c.args.t c.args.x c.args.table.now c.args.mail.now (λ z. number-positive c.in_err-step_refusal.field-0.0 (is ∙ z))) refl
+    rw (passed-on _ _ c.from_residual.ensures.1, is, acted-refused (senior c.args.table.now) (verb_number c.args.verb) c.args.t c.args.x c.args.table.now c.args.mail.now (λ z. number-positive c.in_err-step_refusal.field-0.0 (is ∙ z))) refl
 
 pub item_receives-r-requires : goal.item_receives-r-requires
 item_receives-r-requires c =
-    let kept = mail-kept c.args.t c.args.x c.args.table.now c.args.mail.now c.requires (λ i h. omega (arith, c.slice_known-2-1.given i)) in
+    let kept = mail-kept c.args.t c.args.x c.args.table.now c.args.mail.now c.requires (search rules) in
     for-item c.args.t c.args.x c.args.table.now c.args.mail.now c.requires c.delivered-k.result (record { kept = kept; inside = inside-item c.args.verb c.requires c.delivered-k.ensures c.in_ok-step_refusal.ensures (ap verb_number c.in-DeliverToItem.is) })
 
 pub commit_item-requires : goal.commit_item-requires
 commit_item-requires c =
-    let kept = mail-kept c.args.t c.args.x c.args.table.now c.args.mail.now c.requires (λ i h. omega (arith, c.slice_known-2-1.given i)) in
+    let kept = mail-kept c.args.t c.args.x c.args.table.now c.args.mail.now c.requires (search rules) in
     let received = read c.args.mail.now c.delivered-k.result (λ e. Item.step_of (item_receives (senior c.args.table.now) (locks c.args.table.now c.args.x) e)) (inside-item c.args.verb c.requires c.delivered-k.ensures c.in_ok-step_refusal.ensures (ap verb_number c.in-DeliverToItem.is)) c.item_receives-r.ensures.0 in
     let p = verb-bounds c.args.verb in
     let formed = (plan_keeps c.args.t c.args.x c.args.table.now c.args.mail.now c.requires (verb_number c.args.verb) p.0 p.1 (free c.args.verb c.requires c.delivered-k.ensures c.in_ok-step_refusal.ensures)).formed in
@@ -90,7 +90,7 @@ session_acts-r-requires c = record { judged = c.requires; place = c.delivered-k.
 
 pub commit_session-requires : goal.commit_session-requires
 commit_session-requires c =
-    let kept = mail-kept c.args.t c.args.x c.args.table.now c.args.mail.now c.requires (λ i h. omega (arith, c.slice_known-2-1.given i)) in
+    let kept = mail-kept c.args.t c.args.x c.args.table.now c.args.mail.now c.requires (search rules) in
     let few = acts_few (senior c.args.table.now) c.args.t (session c.args.table.now c.args.t) (juniors-whole c.args.t c.args.x c.args.table.now c.args.mail.now c.requires) (get_or (entries_of c.args.mail.now) c.delivered-k.result unused) (verb_number c.args.verb) c.args.x in
     (has-session c.args.t c.args.x c.args.table.now c.args.mail.now c.requires, kept, omega (arith, ap (λ (r : SessionStep). r.outbox.n) c.session_acts-r.ensures, few))
 

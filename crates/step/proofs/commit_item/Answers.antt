@@ -4,9 +4,8 @@ use lib.ListN.{length}
 use Rattle.table.proofs.Laws.{sized-with_item, sessions_of-with_item}
 use Rattle.item.specs.declared.ItemStep.{ItemStep}
 use Rattle.mailbox.specs.Entry.{from_item}
-use Rattle.refusal.proofs.Outcome.{number-positive}
+use Rattle.refusal.proofs.Outcome.{number-positive, passed-on}
 use Rattle.step.proofs.Acting.{has_room, no_room, room-filled}
-use Rattle.step.proofs.Refused.{told-passed}
 use native.Mathlib.Omega.{arith}
 use Rattle.step.proofs.commit_item.Goals as goal
 
@@ -31,4 +30,4 @@ returns c w e =
 pub returns-in_err-make_room : goal.returns-in_err-make_room
 returns-in_err-make_room c w e =
     let p = no_room c.args.mail.now c.args.k _ c.in_err-make_room.ensures (number-positive c.in_err-make_room.field-0.0) (from_item c.args.x) w.sends (ap (λ (r : ItemStep). r.outbox.n) e) in
-    rw (told-passed _ _ c.from_residual.ensures.1, p.1, p.2, p.0) refl
+    rw (passed-on _ _ c.from_residual.ensures.1, p.1, p.2, p.0) refl

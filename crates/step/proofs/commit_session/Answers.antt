@@ -2,9 +2,8 @@
 use mathlib.Core.Path.{refl, ap}
 use Rattle.session.specs.declared.SessionStep.{SessionStep}
 use Rattle.mailbox.specs.Entry.{from_session}
-use Rattle.refusal.proofs.Outcome.{number-positive}
+use Rattle.refusal.proofs.Outcome.{number-positive, passed-on}
 use Rattle.step.proofs.Acting.{has_room, no_room, room-filled}
-use Rattle.step.proofs.Refused.{told-passed}
 use Rattle.step.proofs.commit_session.Goals as goal
 
 pub post-requires : goal.post-requires
@@ -19,4 +18,4 @@ returns c w e =
 pub returns-in_err-make_room : goal.returns-in_err-make_room
 returns-in_err-make_room c w e =
     let p = no_room c.args.mail.now c.args.k _ c.in_err-make_room.ensures (number-positive c.in_err-make_room.field-0.0) (from_session c.args.t) w.sends (ap (λ (r : SessionStep). r.outbox.n) e) in
-    rw (told-passed _ _ c.from_residual.ensures.1, p.1, p.2, p.0) refl
+    rw (passed-on _ _ c.from_residual.ensures.1, p.1, p.2, p.0) refl
