@@ -8,9 +8,11 @@ ghost use Rattle.waits.specs.OnTable.{leader};
 ghost use Rattle.refusal.specs.Refusal.{first};
 ghost use Rattle.cycletext.specs.Text.{line, lines};
 ghost use Rattle.cycletext.specs.OnTable.{text, text_causes, described, text_answer, unless_refused};
+ghost use Rattle.cycletext.specs.Told.{told};
 ghost use Rattle.cycletext.specs.Parts.{longest_line, OnCycle, waits_from};
 
 use message::MAX_SESSIONS;
+use refusal::Refusal;
 use session::Session;
 use waits::Wait;
 
@@ -112,25 +114,21 @@ fn put_lines(out: &mut [u8], t: &[u8], at: &[u8; MAX_SESSIONS], me: u8, n: u8) -
     free
 }
 
-// Writes the text of the cycle on which session `me` lies at the start of the buffer.
-pub fn describe(me: u8, t: &[u8], out: &mut [u8]) -> Text
+// Writes the text of the cycle on which session `me` lies at the start of the buffer: its length.
+pub fn describe(me: u8, t: &[u8], out: &mut [u8]) -> Result<u16, Refusal>
     requires { Formed t.now × (1 ≤ me) × (me ≤ sessions_of t.now) }
-    ensures { described result out.new ≡ unless_refused (first (text_causes me t.now out.old)) (text t.now me) out.old }
+    ensures { described (told result) out.new ≡ unless_refused (first (text_causes me t.now out.old)) (text t.now me) out.old }
 {
     let at = waits::places(t);
     let n = waits::cycle_length_at(t, &at, me);
     if n == 0 {
-        return Text::refused(refusal::NO_CYCLE);
+        return Err(Refusal::NoCycle);
     }
     let from = leader(t, &at, me, n);
     if out.len() < LONGEST {
         if out.len() < lines_length(t, &at, from, n) {
-            return Text::refused(refusal::SHORT_BUFFER);
+            return Err(Refusal::ShortBuffer);
         }
     }
-    let length = put_lines(out, t, &at, from, n);
-    Text {
-        refusal: 0,
-        length: length as u16,
-    }
+    Ok(put_lines(out, t, &at, from, n) as u16)
 }

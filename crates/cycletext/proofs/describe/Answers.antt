@@ -31,7 +31,7 @@ pub returns-then-n-eq0 : goal.returns-then-n-eq0
 returns-then-n-eq0 c =
     let a = c.args in
     let e = refused_no_cycle a.me a.t.now a.out.now (sym c.cycle_length_at-n.ensures ∙ c.if-n-eq0.true) in
-    rw (e, c.refused.ensures) refl
+    rw e refl
 
 pub lines_length-requires : goal.lines_length-requires
 lines_length-requires c = on-leader c.requires c.places-at.ensures c.cycle_length_at-n.ensures c.if-n-eq0.false c.leader-from.ensures
@@ -42,10 +42,10 @@ returns-then-out-lines_length c =
     let w = whole c.requires c.places-at.ensures c.cycle_length_at-n.ensures c.if-n-eq0.false c.leader-from.ensures in
     let round : cycle_length a.t.now a.me ≡ 0 → ⊥ = λ z. c.if-n-eq0.false (c.cycle_length_at-n.ensures ∙ z) in
     let e = refused_short a.me a.t.now a.out.now round (omega (arith, c.lines_length.ensures, ap length w, c.if-out-lines_length.true)) in
-    rw (e, c.refused-then-out-lines_length.ensures) refl
+    rw e refl
 
-pub put_lines-length-requires : goal.put_lines-length-requires
-put_lines-length-requires c =
+pub put_lines-requires : goal.put_lines-requires
+put_lines-requires c =
     let a = c.args in
     let w = whole c.requires c.places-at.ensures c.cycle_length_at-n.ensures c.if-n-eq0.false c.leader-from.ensures in
     let room : length (text a.t.now a.me) ≤ length a.out.now =
@@ -59,13 +59,13 @@ pub overflow_cast-result : goal.overflow_cast-result
 overflow_cast-result c =
     let a = c.args in
     let w = whole c.requires c.places-at.ensures c.cycle_length_at-n.ensures c.if-n-eq0.false c.leader-from.ensures in
-    omega (arith, c.put_lines-length.ensures.1, ap length w, fits a.t.now c.requires.0 a.me c.requires.1)
+    omega (arith, c.put_lines.ensures.1, ap length w, fits a.t.now c.requires.0 a.me c.requires.1)
 
 pub returns : goal.returns
 returns c =
     let a = c.args in
     let w = whole c.requires c.places-at.ensures c.cycle_length_at-n.ensures c.if-n-eq0.false c.leader-from.ensures in
-    let p = c.put_lines-length in
+    let p = c.put_lines in
     let round : cycle_length a.t.now a.me ≡ 0 → ⊥ = λ z. c.if-n-eq0.false (c.cycle_length_at-n.ensures ∙ z) in
     let room : length (text a.t.now a.me) ≤ length a.out.now =
     elim c.if-out-lt-LONGEST.branch [
