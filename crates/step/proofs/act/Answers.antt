@@ -24,13 +24,8 @@ use Rattle.step.specs.Step.{request, release, deliver_to_item, delivered, step_c
 use Rattle.step.specs.Parts.{Unhindered, Judged}
 use Rattle.step.proofs.Acting.{unhindered, mail-kept, juniors-whole, has-session, has-item, for-item, acts_few, acted-refused, acted-concluded, delivers, item_acts, session_acting}
 use Rattle.step.proofs.Form.{plan_keeps}
+use Rattle.step.proofs.Verbs.{verb-bounds}
 use Rattle.step.proofs.act.Goals as goal
-
-verb-bounds : (v : Verb) → (1 ≤ verb_number v) × (verb_number v ≤ 4)
-verb-bounds Request = (omega arith, omega arith)
-verb-bounds Release = (omega arith, omega arith)
-verb-bounds DeliverToItem = (omega arith, omega arith)
-verb-bounds DeliverToSession = (omega arith, omega arith)
 
 -- what is known of a step on judged buffers that nothing hinders
 module _ (v : Verb) {t x k : ℕ} {table mail : List ℕ} (judged : Judged t x table mail) (place : k ≡ delivered (verb_number v) t x (entries_of mail)) (none : 0 ≡ first (step_causes (verb_number v) t x table (entries_of mail))) where
