@@ -1,6 +1,5 @@
 -- Turn after turn the rest of the drain is ahead, until it has ended.
-use mathlib.Core.Path.{◌≡◌, refl, sym, subst, ◌∙◌}
-use Prim.Native.Nat.{ℕ, ◌≤◌, ◌+◌}
+use mathlib.Core.Path.{refl, sym, subst}
 use native.Mathlib.Omega.{arith}
 use Rattle.std.proofs.Common.{rules}
 use Rattle.table.specs.Layout as Table
@@ -11,7 +10,6 @@ use Rattle.drain.specs.Parts.{closed_up}
 use Rattle.drain.proofs.Gaps.{none-spent}
 use Rattle.lockmgr.specs.Run.{buffers}
 use Rattle.lockmgr.specs.Parts.{Turned}
-use Rattle.refusal.proofs.Outcome.{number-positive}
 use Rattle.lockmgr.proofs.Judging.{buffers-zero}
 use Rattle.lockmgr.proofs.Draining.{turn-formed, ahead-all, turn-taken, drained, ending-positive}
 use Rattle.lockmgr.proofs.deliver_all.Goals as goal

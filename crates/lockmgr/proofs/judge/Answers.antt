@@ -1,10 +1,7 @@
 -- The causes of the verb, of the buffers and of the numbers, one after another.
 use mathlib.Core.Path.{◌≡◌, refl, sym, ap, ◌∙◌}
-use mathlib.Core.Bool.{false, true≢false}
 use Prim.Native.Nat.{ℕ, ◌≤◌}
 use native.Mathlib.Omega.{arith}
-use Rattle.lists.specs.Lists.{between}
-use Rattle.lists.proofs.Tests.{between_intro}
 use Rattle.step.specs.declared.Verb.{Verb}
 use Rattle.step.specs.Verb.{verb_number}
 use Rattle.table.proofs.Laws as TableLaws

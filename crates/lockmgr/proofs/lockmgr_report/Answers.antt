@@ -1,5 +1,5 @@
 -- `lockmgr_report` meets its contract: a report that is not refused names a session of a well-formed table.
-use mathlib.Core.Path.{◌≡◌, refl, sym, ◌∙◌}
+use mathlib.Core.Path.{refl, sym}
 use borrow.Author.Tests.{ne_eqb}
 use Rattle.refusal.proofs.Outcome.{number-positive}
 use Rattle.lockmgr.specs.Calls.{report}

@@ -1,5 +1,5 @@
 -- A text is judged as a report is, and then for its own causes.
-use mathlib.Core.Path.{◌≡◌, sym, ap, ◌∙◌}
+use mathlib.Core.Path.{sym, ap, ◌∙◌}
 use Prim.Native.Nat.{ℕ}
 use Rattle.refusal.proofs.Outcome.{number-positive, passed-on}
 use Rattle.cycletext.specs.OnTable.{text_answer, described}

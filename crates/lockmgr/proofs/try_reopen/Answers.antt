@@ -1,9 +1,9 @@
 -- The causes of the buffers and of the number, then those of the reopening itself.
-use mathlib.Core.Path.{◌≡◌, sym, ap, ◌∙◌}
+use mathlib.Core.Path.{sym, ap, ◌∙◌}
 use Prim.Native.Nat.{ℕ}
 use native.Mathlib.Omega.{arith}
 use Rattle.table.proofs.Laws as TableLaws
-use Rattle.refusal.specs.Number.{number, outcome}
+use Rattle.refusal.specs.Number.{number}
 use Rattle.refusal.proofs.Outcome.{number-positive, passed-on}
 use Rattle.reopen.specs.Reopening.{reopened}
 use Rattle.lockmgr.proofs.Judging.{buffers-zero, reopen-buffers, reopen-number, reopen-judged}

@@ -1,10 +1,8 @@
 -- A step that `judge` does not refuse has what `act` asks for.
-use mathlib.Core.Path.{◌≡◌, sym, ap, ◌∙◌}
+use mathlib.Core.Path.{sym, ap, ◌∙◌}
 use Prim.Native.Nat.{ℕ}
-use Rattle.refusal.specs.Number.{number}
 use Rattle.refusal.proofs.Outcome.{number-positive, passed-on}
 use Rattle.step.specs.Step.{stepped, refused_answer}
-use Rattle.step.specs.Told.{told}
 use Rattle.lockmgr.proofs.Judging.{judged-zero, step-refused, step_acts}
 use Rattle.lockmgr.proofs.try_step.Goals as goal
 
