@@ -1,5 +1,6 @@
 pub mod Text
 pub mod Reading
 pub mod OnTable
+pub mod Told
 pub mod Parts
 pub mod Statement

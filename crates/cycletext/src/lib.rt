@@ -9,8 +9,10 @@ ghost use Rattle.waits.specs.OnTable.{cycle_length, leader};
 ghost use Rattle.refusal.specs.Refusal.{first};
 ghost use Rattle.cycletext.specs.Text.{line, lines};
 ghost use Rattle.cycletext.specs.OnTable.{text, text_causes, described, text_answer, unless_refused};
+ghost use Rattle.cycletext.specs.Told.{told};
 ghost use Rattle.cycletext.specs.Parts.{longest_line, OnCycle, waits_from};
 
+use refusal::Refusal;
 use session::Session;
 use waits::{Wait, WaitGraph};
 
@@ -127,14 +129,14 @@ fn put_lines(out: &mut [u8], round: Around) -> usize
     free
 }
 
-// Writes the text of the cycle on which session `me` lies at the start of the buffer.
-pub fn describe(me: u8, t: &[u8], out: &mut [u8]) -> Text
+// Writes the text of the cycle on which session `me` lies at the start of the buffer: its length.
+pub fn describe(me: u8, t: &[u8], out: &mut [u8]) -> Result<u16, Refusal>
     requires { Formed t.now × (1 ≤ me) × (me ≤ sessions_of t.now) }
-    ensures { described result out.new ≡ unless_refused (first (text_causes me t.now out.old)) (text t.now me) out.old }
+    ensures { described (told result) out.new ≡ unless_refused (first (text_causes me t.now out.old)) (text t.now me) out.old }
 {
     let graph = WaitGraph::of(t);
     let Some(n) = graph.cycle_length(me) else {
-        return Text::refused(refusal::NO_CYCLE);
+        return Err(Refusal::NoCycle);
     };
     let mut round = Around {
         graph: &graph,
@@ -143,11 +145,7 @@ pub fn describe(me: u8, t: &[u8], out: &mut [u8]) -> Text
     };
     round.session = leader(round);
     if out.len() < LONGEST && out.len() < lines_length(round) {
-        return Text::refused(refusal::SHORT_BUFFER);
+        return Err(Refusal::ShortBuffer);
     }
-    let length = put_lines(out, round);
-    Text {
-        refusal: 0,
-        length: length as u16,
-    }
+    Ok(put_lines(out, round) as u16)
 }

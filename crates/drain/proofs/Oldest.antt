@@ -19,7 +19,10 @@ use Rattle.mailbox.proofs.Laws as MailLaws
 use Rattle.mailbox.proofs.EntryLaws.{EntryFacts, entry-facts}
 use Rattle.table.specs.Layout as Table
 use Rattle.waits.specs.OnTable.{locks}
-use Rattle.refusal.specs.Refusal
+use Rattle.std.specs.Prelude.{Option, Some, None, Result, Ok, Err, IfOk, is_some}
+use Rattle.refusal.specs.declared.Refusal.{Refusal}
+use Rattle.refusal.specs.Number as Number
+use Rattle.refusal.specs.Refusal as Refusal
 use Rattle.refusal.specs.Refusal.{first}
 use Rattle.step.specs.Step as Step
 use Rattle.step.specs.Step.{Plan, Stepped, Formed, delivered, item_receives, session_receives, session_acts, session_plan, item_plan, plan, step_causes, overfull, stepped, refused_answer}
@@ -28,9 +31,16 @@ use Rattle.step.proofs.Acting as Acting
 use Rattle.step.proofs.Acting.{acted-concluded, length-sent, deliverable, item-packed}
 use Rattle.drain.specs.Oldest.{verb_of, EarliestAt, acted_at}
 use Rattle.drain.specs.declared.Gap.{Gap}
-use Rattle.drain.specs.declared.Delivery.{Delivery}
-use Rattle.drain.specs.Parts.{in_use, closed_up, GapIn, Due, longer, fits, refusal_of, Admitted, Outcome, outcome, outcome_of, Delivers}
+use Rattle.drain.specs.Parts.{in_use, closed_up, GapIn, Due, longer, fits, refusal_of, is_made, gap_after, Admitted, Outcome, outcome, outcome_of, Delivers}
 use Rattle.drain.proofs.Gaps.{left, some_left, entry-left, others-left, filled-spent, filled-left}
+
+-- a delivery that is not refused is made where it is allowed
+allowed_is : (d : Result (Option Gap) Refusal) (fit allowed : Bool) → Number.outcome d ≡ refusal_of fit → is_made d ≡ fit && allowed → IfOk d (λ h. is_some h ≡ allowed)
+allowed_is (Ok (Some h)) true allowed e m = m
+allowed_is (Ok (Some h)) false allowed e m = absurd (true≢false m)
+allowed_is (Ok None) true allowed e m = m
+allowed_is (Ok None) false allowed e m = absurd (omega (arith, e))
+allowed_is (Err x) fit allowed e m = tt
 
 -- what a step comes to that only room can hinder: p is what it plans
 module _ (t : ℕ) (table mail : List ℕ) (p : Plan) where
@@ -191,24 +201,25 @@ module _ (g : Gap) (table mail : List ℕ) (due : Due g table mail) where
     by_tests true false e h = only-judged due_entry.session table (closed_up g mail) planned (room-left e)
     by_tests true true e h = absurd (true≢false h)
 
-    module _ (allowed : Bool) (d : Delivery) (mail' : List ℕ) (a : Admitted g n allowed d mail mail') where
-      pub told_stopped : d.made ≡ false → Delivers g allowed table mail done d table mail'
+    module _ (allowed : Bool) (d : Result (Option Gap) Refusal) (mail' : List ℕ) (a : Admitted g n allowed d mail mail') where
+      pub told_stopped : is_made d ≡ false → Delivers g allowed table mail done d table mail'
       told_stopped e =
           let s = a.stays e in
-          rw (a.refusal, s.0, s.1) (due.spent, refl, by_tests (fits (longer g) n mail) allowed refl (sym a.made ∙ e))
+          rw (a.refusal, s.0, s.1) (due.spent, refl, by_tests (fits (longer g) n mail) allowed refl (sym a.made ∙ e), allowed_is d (fits (longer g) n mail) allowed a.refusal a.made)
 
-      both : d.made ≡ true → (fits (longer g) n mail ≡ true) × (allowed ≡ true)
+      both : is_made d ≡ true → (fits (longer g) n mail ≡ true) × (allowed ≡ true)
       both e = and_both (fits (longer g) n mail) allowed (sym a.made ∙ e)
 
       -- or what is sent is added, and the record written
-      pub told-made : d.made ≡ true → {filled : List ℕ} → filled ≡ mail_bytes (capacity_of mail') (entries_of mail' ++ map f l)
+      pub told-made : is_made d ≡ true → {filled : List ℕ} → filled ≡ mail_bytes (capacity_of mail') (entries_of mail' ++ map f l)
           → Delivers g allowed table mail done d after filled
       told-made e q =
           let p = a.placed e in
           let b = both e in
           let count : length (map f l) ≡ n = length-map l f ∙ sym few in (
-            filled-spent (longer g) n d.gap mail mail' p (map f l) count q,
+            filled-spent (longer g) n (gap_after g d) mail mail' p (map f l) count q,
             p.front,
-            rw (a.refusal, b.0, b.1, filled-left (longer g) n d.gap mail mail' p (map f l) count q)
+            rw (a.refusal, b.0, b.1, filled-left (longer g) n (gap_after g d) mail mail' p (map f l) count q)
                 (ap (λ (C : ℕ). outcome 0 after (mail_bytes C (others_due ++ map f l))) (sym same-capacity) ∙ made due_entry.session table (closed_up g mail) planned (room-left b.0)),
+            allowed_is d (fits (longer g) n mail) allowed a.refusal a.made,
           )

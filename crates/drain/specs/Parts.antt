@@ -1,13 +1,14 @@
 -- What the parts of the code ask of each other and leave. No part of the promise.
 -- The entries that a drain has delivered, spent ones, stand in a gap of the mailbox until they go out all at once: before it stand entries that are kept, behind it those that are pending.
-use Rattle.std.specs.Prelude.{ℕ, ◌+◌, ◌≤◌, ◌<◌, ◌≡◌, Bool, true, false, cond, ◌&&◌, List, leb, length}
+use Rattle.std.specs.Prelude.{ℕ, ◌+◌, ◌≤◌, ◌<◌, ◌≡◌, Bool, true, false, cond, ◌&&◌, List, leb, length, Option, Some, None, Result, Ok, Err, IfOk, is_some}
 use Rattle.lists.specs.Lists.{without_places}
 use Rattle.mailbox.specs.Entry.{Entry}
 use Rattle.mailbox.specs.Layout.{capacity_of, count_of, entries_of, mail_bytes, Kept}
+use Rattle.refusal.specs.declared.Refusal.{Refusal}
+use Rattle.refusal.specs.Number as Number
 use Rattle.refusal.specs.Refusal.{mail_full}
 use Rattle.step.specs.Step.{Stepped, Formed}
 use Rattle.drain.specs.declared.Gap.{Gap}
-use Rattle.drain.specs.declared.Delivery.{Delivery}
 use Rattle.drain.specs.Oldest.{EarliestAt}
 
 -- the entries in use, all but the spent ones
@@ -51,12 +52,24 @@ fits g n mail = leb (length (in_use g mail) + n) (capacity_of mail)
 abbrev pub refusal_of : Bool → ℕ
 refusal_of fit = cond fit 0 mail_full
 
+-- a delivery is made, only judged, or refused
+abbrev pub is_made : Result (Option Gap) Refusal → Bool
+is_made (Ok (Some h)) = true
+is_made (Ok None) = false
+is_made (Err e) = false
+
+-- the gap after it
+abbrev pub gap_after : Gap → Result (Option Gap) Refusal → Gap
+gap_after g (Ok (Some h)) = h
+gap_after g (Ok None) = g
+gap_after g (Err e) = g
+
 -- the delivery of the entry behind gap g, which sends n messages, is made if they have room and it is allowed
-pub record Admitted (g : Gap) (n : ℕ) (allowed : Bool) (d : Delivery) (before after : List ℕ) : Type 0 where
-  pub refusal : d.refusal ≡ refusal_of (fits (longer g) n before)
-  pub made : d.made ≡ fits (longer g) n before && allowed
-  pub stays : d.made ≡ false → (after ≡ before) × (d.gap ≡ g)
-  pub placed : d.made ≡ true → Placed (longer g) n d.gap before after
+pub record Admitted (g : Gap) (n : ℕ) (allowed : Bool) (d : Result (Option Gap) Refusal) (before after : List ℕ) : Type 0 where
+  pub refusal : Number.outcome d ≡ refusal_of (fits (longer g) n before)
+  pub made : is_made d ≡ fits (longer g) n before && allowed
+  pub stays : is_made d ≡ false → (after ≡ before) × (gap_after g d ≡ g)
+  pub placed : is_made d ≡ true → Placed (longer g) n (gap_after g d) before after
 
 -- what a delivery is refused with, or 0, and what it leaves, without the spent entries
 pub record Outcome : Type 0 where
@@ -71,7 +84,9 @@ outcome n table mail = record { refusal = n; table = table; mail = mail }
 abbrev pub outcome_of : Bool → List ℕ → List ℕ → Stepped → Outcome
 outcome_of allowed table mail r = outcome r.answer.refusal (cond allowed r.table table) (cond allowed r.mail mail)
 
--- a delivery leaves a gap that begins where it did, and without it what step r leaves or, where it is only judged, what was there
-abbrev pub Delivers : Gap → Bool → List ℕ → List ℕ → Stepped → Delivery → List ℕ → List ℕ → Type 0
+-- a delivery leaves a gap that begins where it did, and without it what step r leaves or, where it is only judged, what was there; one that is not refused is made where it is allowed
+abbrev pub Delivers : Gap → Bool → List ℕ → List ℕ → Stepped → Result (Option Gap) Refusal → List ℕ → List ℕ → Type 0
 Delivers g allowed table mail r d table' mail' =
-    GapIn d.gap mail' × (d.gap.from ≡ g.from) × (outcome d.refusal table' (closed_up d.gap mail') ≡ outcome_of allowed table (closed_up g mail) r)
+    GapIn (gap_after g d) mail' × ((gap_after g d).from ≡ g.from)
+    × (outcome (Number.outcome d) table' (closed_up (gap_after g d) mail') ≡ outcome_of allowed table (closed_up g mail) r)
+    × IfOk d (λ h. is_some h ≡ allowed)

@@ -9,7 +9,9 @@ ghost use Rattle.waits.specs.OnTable.{locks};
 ghost use Rattle.step.specs.Step.{item_receives, session_receives, session_plan, item_plan};
 ghost use Rattle.step.specs.Parts.{concluded};
 ghost use Rattle.drain.specs.Oldest.{acted_at};
-ghost use Rattle.drain.specs.Parts.{in_use, closed_up, longer, GapIn, Due, Placed, fits, refusal_of, Admitted, Delivers};
+ghost use Rattle.drain.specs.Parts.{in_use, closed_up, longer, GapIn, Due, Placed, fits, Admitted, Delivers};
+
+use refusal::Refusal;
 
 // The places from `from` on and before `to`, of spent entries. Those before it are kept, those from `to` on are pending.
 #[derive(Clone, Copy)]
@@ -18,23 +20,12 @@ pub struct Gap {
     pub to: usize,
 }
 
-// What a delivery is refused with, or 0, whether it is made, and the gap after it.
-#[derive(Clone, Copy)]
-pub struct Delivery {
-    pub refusal: u8,
-    pub made: bool,
-    pub gap: Gap,
-}
-
-// What is answered where n entries more are to have room once the gap is closed: 9, or 0.
-fn room_refusal(mail: &[u8], gap: Gap, n: usize) -> u8
+// Whether n entries more have room once the gap is closed.
+fn has_room(mail: &[u8], gap: Gap, n: usize) -> bool
     requires { GapIn gap mail.now × (n ≤ room) }
-    ensures { result ≡ refusal_of (fits gap n mail.now) }
+    ensures { result ≡ fits gap n mail.now }
 {
-    if mailbox::count(mail) - (gap.to - gap.from) + n <= mailbox::capacity(mail) {
-        return 0;
-    }
-    refusal::MAIL_FULL
+    mailbox::count(mail) - (gap.to - gap.from) + n <= mailbox::capacity(mail)
 }
 
 // Makes places for n entries more: the gap is closed where the free places are too few. The gap after.
@@ -52,8 +43,8 @@ fn make_places(mail: &mut [u8], gap: Gap, n: usize) -> Gap
     }
 }
 
-// Judges whether the n messages that the delivery of the entry behind the gap sends have room. If they do and it is allowed, makes places for them.
-fn admit(mail: &mut [u8], gap: Gap, n: usize, allowed: bool) -> Delivery
+// Judges whether the n messages that the delivery of the entry behind the gap sends have room. If they do and it is allowed, makes places for them: the gap after.
+fn admit(mail: &mut [u8], gap: Gap, n: usize, allowed: bool) -> Result<Option<Gap>, Refusal>
     requires { GapIn (longer gap) mail.old × (n ≤ room) }
     ensures { Admitted gap n allowed result mail.old mail.new }
 {
@@ -61,58 +52,66 @@ fn admit(mail: &mut [u8], gap: Gap, n: usize, allowed: bool) -> Delivery
         from: gap.from,
         to: gap.to + 1,
     };
-    let refusal = room_refusal(mail, after, n);
-    if (refusal != 0) | !allowed {
-        return Delivery {
-            refusal,
-            made: false,
-            gap,
-        };
+    if !has_room(mail, after, n) {
+        return Err(Refusal::MailFull);
     }
-    let places = make_places(mail, after, n);
-    Delivery {
-        refusal: 0,
-        made: true,
-        gap: places,
+    if !allowed {
+        return Ok(None);
     }
+    Ok(Some(make_places(mail, after, n)))
 }
 
 // Delivers the entry behind the gap to session t.
-fn deliver_to_session(t: u8, gap: Gap, allowed: bool, table: &mut [u8], mail: &mut [u8]) -> Delivery
+fn deliver_to_session(
+    t: u8,
+    gap: Gap,
+    allowed: bool,
+    table: &mut [u8],
+    mail: &mut [u8],
+) -> Result<Option<Gap>, Refusal>
     requires { Due gap table.old mail.old × (t ≡ (entry_at mail.old gap.to).session) }
     ensures { Delivers gap allowed table.old mail.old
         (concluded t table.old (closed_up gap mail.old) (session_plan t table.old (in_use (longer gap) mail.old) (session_receives (senior table.old) t (session table.old t) (entry_at mail.old gap.to))))
         result table.new mail.new }
 {
     let r = step::session_receives(t, gap.to, table, mail);
-    let d = admit(mail, gap, r.outbox.n, allowed);
-    if !d.made {
-        return d;
-    }
+    let Some(after) = admit(mail, gap, r.outbox.n, allowed)? else {
+        return Ok(None);
+    };
     mailbox::post(mail, mailbox::TO_ITEM, t, r.outbox);
     table::put_session(table, t, r.session);
-    d
+    Ok(Some(after))
 }
 
 // Delivers the entry behind the gap to item x.
-fn deliver_to_item(x: u8, gap: Gap, allowed: bool, table: &mut [u8], mail: &mut [u8]) -> Delivery
+fn deliver_to_item(
+    x: u8,
+    gap: Gap,
+    allowed: bool,
+    table: &mut [u8],
+    mail: &mut [u8],
+) -> Result<Option<Gap>, Refusal>
     requires { Due gap table.old mail.old × (x ≡ (entry_at mail.old gap.to).item) }
     ensures { Delivers gap allowed table.old mail.old
         (concluded (entry_at mail.old gap.to).session table.old (closed_up gap mail.old) (item_plan x table.old (in_use (longer gap) mail.old) (item_receives (senior table.old) (locks table.old x) (entry_at mail.old gap.to))))
         result table.new mail.new }
 {
     let r = step::item_receives(x, gap.to, table, mail);
-    let d = admit(mail, gap, r.outbox.n, allowed);
-    if !d.made {
-        return d;
-    }
+    let Some(after) = admit(mail, gap, r.outbox.n, allowed)? else {
+        return Ok(None);
+    };
     mailbox::post(mail, mailbox::TO_SESSION, x, r.outbox);
     table::put_item(table, x, r.item);
-    d
+    Ok(Some(after))
 }
 
-// Delivers the entry behind the gap, the earliest of its route. Where it is not allowed, only what it would be refused with is judged.
-pub fn deliver(gap: Gap, allowed: bool, table: &mut [u8], mail: &mut [u8]) -> Delivery
+// Delivers the entry behind the gap, the earliest of its route: the gap after. Where it is not allowed, only what it would be refused with is judged.
+pub fn deliver(
+    gap: Gap,
+    allowed: bool,
+    table: &mut [u8],
+    mail: &mut [u8],
+) -> Result<Option<Gap>, Refusal>
     requires { Due gap table.old mail.old }
     ensures { Delivers gap allowed table.old mail.old
         (acted_at gap.from table.old (closed_up gap mail.old))

@@ -18,6 +18,9 @@ use Rattle.drain.specs.Parts.{Outcome, outcome, outcome_of}
 use Rattle.drain.proofs.Oldest.{oldest-earliest, entry-judged, refused_or_accepted}
 use Rattle.lockmgr.specs.Run.{Buffers, buffers, done_on, left_by, left}
 use Rattle.lockmgr.specs.Drain.{oldest, empty, full, limited, ending, deliveries, drain_refusal, drain_steps, drain_answer, drain_result, drain}
+use Rattle.lockmgr.specs.declared.Ending.{Ending}
+use Rattle.lockmgr.specs.declared.Ending.TheVariants.{Empty, Full, Limited}
+use Rattle.lockmgr.specs.Ending.{ending_number}
 use Rattle.lockmgr.specs.Parts.{Turned, turned, turn_of, Ahead, Ended}
 use Rattle.lockmgr.proofs.Judging.{judged-none, step_acts, formed-zero}
 use Rattle.lockmgr.proofs.Form.{step_keeps_form}
@@ -111,6 +114,12 @@ pub turn-empty : (limit made : ℕ) (table mail : List ℕ) → count_of mail �
 turn-empty limit made table mail e = rw (ends-empty table mail e, and-false (ltb made limit)) refl
 
 -- ---- turns
+-- every ending has a number other than 0
+pub ending-positive : (e : Ending) → ending_number e ≡ 0 → ⊥
+ending-positive Empty q = omega arith
+ending-positive Full q = omega arith
+ending-positive Limited q = omega arith
+
 -- a turn leaves well-formed buffers
 pub turn-formed : (limit made : ℕ) (b : Buffers) → Formed b.table b.mail → Formed (turn_of limit made b).left.table (turn_of limit made b).left.mail
 turn-formed limit made b f =
@@ -187,17 +196,6 @@ module _ (limit j : ℕ) (from to : Buffers) (a : Ahead limit j from to) where
 
   pub turn-taken : (t : Turned) → t ≡ turn_of limit j to → After t
   turn-taken t e = subst After (sym e) turn-either
-
-  -- each is nearer to the end
-  abbrev Nearer : Turned → Type 0
-  Nearer t = limit - t.made + (1 - t.ending) < limit - j + 1
-
-  pub turn_nearer : (t : Turned) → t ≡ turn_of limit j to → Nearer t
-  turn_nearer t e =
-      subst Nearer (sym e)
-      (by-test Nearer (ltb j limit && eqb (ending to) limited)
-      (λ q. omega (arith, ltb-true j limit (and_both (ltb j limit) (eqb (ending to) limited) q).0))
-      (λ _. omega (arith, never_zero)))
 
 -- ---- the whole drain
 module _ (limit : ℕ) (table mail : List ℕ) where

@@ -2,3 +2,4 @@ pub mod Judging
 pub mod Form
 pub mod Draining
 pub mod PlainRanks
+pub mod Numbers

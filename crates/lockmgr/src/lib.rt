@@ -1,21 +1,30 @@
 // The lock manager (01: the desk): start, step, report, reopen, cycle text and drain on lent bytes. Crate lockmgr_c exports them to C.
 #![tactic(auto)]
 
-ghost use Rattle.std.specs.Prelude.{◌≡◌};
+ghost use Rattle.std.specs.Prelude.{◌≡◌, ◌≤◌, false, IfOk, MatchResult};
+ghost use Rattle.lists.specs.Lists.{between};
 ghost use Rattle.refusal.specs.Refusal.{first};
+ghost use Rattle.refusal.specs.Number.{outcome};
+ghost use Rattle.refusal.specs.declared.Refusal.TheVariants.{BadNumber};
+ghost use Rattle.step.specs.Verb.{verb_number};
+ghost use Rattle.step.specs.Told.{told};
 ghost use Rattle.step.specs.Step.{stepped, Formed};
 ghost use Rattle.drain.specs.Parts.{closed_up, GapIn};
 ghost use Rattle.reopen.specs.Reopening.{reopened};
 ghost use Rattle.cycletext.specs.OnTable.{described};
+ghost use Rattle.cycletext.specs.Told.{told as text_told};
 ghost use Rattle.lockmgr.specs.Calls.{config, sizes_fit, start_refusal, start_result, start, buffer_causes, judged, step, report_refusal, report, reopen, cycle_text};
 ghost use Rattle.lockmgr.specs.Run.{buffers};
+ghost use Rattle.lockmgr.specs.Ending.{ending_number};
 ghost use Rattle.lockmgr.specs.Drain.{drain_refusal, drain_answer, drain_result, drain};
-ghost use Rattle.lockmgr.specs.Parts.{turned, turn_of};
+ghost use Rattle.lockmgr.specs.Parts.{turned, turn_of, turn_ending, turn_made, turn_gap};
 
 pub use cycletext::Text;
 use drain::Gap;
 use message::{MAX_ITEMS, MAX_SESSIONS};
+use refusal::Refusal;
 pub use step::Answer;
+use step::Verb;
 
 // The answer of a report.
 #[repr(C)]
@@ -48,22 +57,24 @@ fn sizes_fit(
         & (mail.len() == mailbox::size(capacity as usize))
 }
 
-// The first of the causes of a start, or 0. Its lists are looked at only where their lengths are right.
-fn start_refusal(
+// Whether a start is refused. Its lists are looked at only where their lengths are right.
+fn judge_start(
     sessions: u64,
     items: u64,
     capacity: u64,
     ranks: &[u8],
     table: &[u8],
     mail: &[u8],
-) -> u8
-    ensures { result ≡ start_refusal (config sessions items capacity ranks.now) table.now mail.now }
+) -> Result<(), Refusal>
+    ensures { outcome result ≡ start_refusal (config sessions items capacity ranks.now) table.now mail.now }
 {
     if !sizes_fit(sessions, items, capacity, ranks, table, mail) {
-        return refusal::BAD_SIZE;
+        return Err(Refusal::BadSize);
     }
-    let ranked = form::ranks(ranks);
-    refusal::cause(!ranked, refusal::BAD_RANKS, 0)
+    if !form::ranks(ranks) {
+        return Err(Refusal::BadRanks);
+    }
+    Ok(())
 }
 
 // Opens a lock manager in two lent buffers; byte k of the list, from 1, is the rank of session k.
@@ -77,136 +88,155 @@ pub fn lockmgr_start(
 ) -> u8
     ensures { start_result result table.new mail.new ≡ start (config sessions items capacity ranks.now) table.old mail.old }
 {
-    let cause = start_refusal(sessions, items, capacity, ranks, table, mail);
-    if cause != 0 {
-        return cause;
+    match judge_start(sessions, items, capacity, ranks, table, mail) {
+        Ok(()) => {
+            table::clear(table, sessions as u8, items as u8, ranks);
+            mailbox::clear(mail, capacity as usize);
+            0
+        }
+        Err(cause) => cause.into(),
     }
-    table::clear(table, sessions as u8, items as u8, ranks);
-    mailbox::clear(mail, capacity as usize);
-    0
 }
 
-// The first of the causes that lie in the buffers, or 0.
-fn buffers_refusal(table: &[u8], mail: &[u8]) -> u8
-    ensures { result ≡ first (buffer_causes table.now mail.now) }
+// Whether a call is refused for its buffers.
+fn judge_buffers(table: &[u8], mail: &[u8]) -> Result<(), Refusal>
+    ensures { outcome result ≡ first (buffer_causes table.now mail.now) }
 {
     if !table::sized(table) {
-        return refusal::BAD_SIZE;
+        return Err(Refusal::BadSize);
     }
     if !mailbox::sized(mail) {
-        return refusal::BAD_SIZE;
+        return Err(Refusal::BadSize);
     }
     if !table::well_formed(table) {
-        return refusal::BAD_TABLE;
+        return Err(Refusal::BadTable);
     }
     if !mailbox::well_formed(mail, table::sessions(table), table::items(table)) {
-        return refusal::BAD_MAIL;
+        return Err(Refusal::BadMail);
     }
-    0
+    Ok(())
 }
 
-// The first of the causes that are judged before the step itself is looked at, or 0.
-fn judge(verb: u64, session: u64, item: u64, table: &[u8], mail: &[u8]) -> u8
-    ensures { result ≡ judged verb session item table.now mail.now }
+// The session or the item of this number, of so many.
+fn named(number: u64, top: u8) -> Result<u8, Refusal>
+    ensures { MatchResult result (λ k. (k ≡ number) × (1 ≤ number) × (number ≤ top)) (λ e. (e ≡ BadNumber) × (between 1 top number ≡ false)) }
 {
-    if verb < step::REQUEST {
-        return refusal::BAD_VERB;
+    if number < 1 {
+        return Err(Refusal::BadNumber);
     }
-    if step::DELIVER_TO_SESSION < verb {
-        return refusal::BAD_VERB;
+    if u64::from(top) < number {
+        return Err(Refusal::BadNumber);
     }
-    let cause = buffers_refusal(table, mail);
-    if cause != 0 {
-        return cause;
-    }
-    if session < 1 {
-        return refusal::BAD_NUMBER;
-    }
-    if (table::sessions(table) as u64) < session {
-        return refusal::BAD_NUMBER;
-    }
-    if item < 1 {
-        return refusal::BAD_NUMBER;
-    }
-    if (table::items(table) as u64) < item {
-        return refusal::BAD_NUMBER;
-    }
-    0
+    Ok(number as u8)
+}
+
+// Judges what is judged before the step itself is looked at: the verb, the session and the item that are named.
+fn judge(
+    verb: u64,
+    session: u64,
+    item: u64,
+    table: &[u8],
+    mail: &[u8],
+) -> Result<(Verb, u8, u8), Refusal>
+    ensures number { outcome result ≡ judged verb session item table.now mail.now }
+    ensures named { IfOk result (λ j. (verb_number j.0 ≡ verb) × (j.1 ≡ session) × (j.2 ≡ item)) }
+{
+    let verb = Verb::try_from(verb)?;
+    judge_buffers(table, mail)?;
+    let session = named(session, table::sessions(table))?;
+    let item = named(item, table::items(table))?;
+    Ok((verb, session, item))
+}
+
+// One step that may be refused.
+fn try_step(
+    verb: u64,
+    session: u64,
+    item: u64,
+    table: &mut [u8],
+    mail: &mut [u8],
+) -> Result<Answer, Refusal>
+    ensures { stepped (told result) table.new mail.new ≡ step verb session item table.old mail.old }
+{
+    let (verb, session, item) = judge(verb, session, item, table, mail)?;
+    step::act(verb, session, item, table, mail)
 }
 
 // One step: a request, a release or a delivery.
 pub fn lockmgr_step(verb: u64, session: u64, item: u64, table: &mut [u8], mail: &mut [u8]) -> Answer
     ensures { stepped result table.new mail.new ≡ step verb session item table.old mail.old }
 {
-    let cause = judge(verb, session, item, table, mail);
-    if cause != 0 {
-        return Answer::refused(cause);
+    match try_step(verb, session, item, table, mail) {
+        Ok(answer) => answer,
+        Err(cause) => Answer::refused(cause.into()),
     }
-    step::act(verb, session as u8, item as u8, table, mail)
 }
 
-// Whether a report is refused: its number, or 0.
-fn report_refusal(session: u64, table: &[u8]) -> u8
-    ensures { result ≡ report_refusal session table.now }
+// Judges a call that reads the table alone: the session that is named.
+fn judge_report(session: u64, table: &[u8]) -> Result<u8, Refusal>
+    ensures number { outcome result ≡ report_refusal session table.now }
+    ensures named { IfOk result (λ t. t ≡ session) }
 {
     if !table::sized(table) {
-        return refusal::BAD_SIZE;
+        return Err(Refusal::BadSize);
     }
     if !table::well_formed(table) {
-        return refusal::BAD_TABLE;
+        return Err(Refusal::BadTable);
     }
-    if session < 1 {
-        return refusal::BAD_NUMBER;
-    }
-    if (table::sessions(table) as u64) < session {
-        return refusal::BAD_NUMBER;
-    }
-    0
+    named(session, table::sessions(table))
 }
 
 // The length of the cycle on which a session lies, or 0.
 pub fn lockmgr_report(session: u64, table: &[u8]) -> Cycle
     ensures { result ≡ report session table.now }
 {
-    let cause = report_refusal(session, table);
-    if cause != 0 {
-        return Cycle {
-            refusal: cause,
+    match judge_report(session, table) {
+        Ok(session) => {
+            let length = waits::cycle_length(table, session);
+            Cycle { refusal: 0, length }
+        }
+        Err(cause) => Cycle {
+            refusal: cause.into(),
             length: 0,
-        };
+        },
     }
-    Cycle {
-        refusal: 0,
-        length: waits::cycle_length(table, session as u8),
-    }
+}
+
+// A reopening that may be refused.
+fn try_reopen(session: u64, table: &mut [u8], mail: &[u8]) -> Result<(), Refusal>
+    ensures { reopened (outcome result) table.new ≡ reopen session table.old mail.now }
+{
+    judge_buffers(table, mail)?;
+    let session = named(session, table::sessions(table))?;
+    reopen::reopen(session, table, mail)
 }
 
 // Reopens a session whose work is over and that nothing names: it begins anew. The mail is read, never written.
 pub fn lockmgr_reopen(session: u64, table: &mut [u8], mail: &[u8]) -> u8
     ensures { reopened result table.new ≡ reopen session table.old mail.now }
 {
-    let cause = buffers_refusal(table, mail);
-    if cause != 0 {
-        return cause;
+    match try_reopen(session, table, mail) {
+        Ok(()) => 0,
+        Err(cause) => cause.into(),
     }
-    if session < 1 {
-        return refusal::BAD_NUMBER;
-    }
-    if (table::sessions(table) as u64) < session {
-        return refusal::BAD_NUMBER;
-    }
-    reopen::reopen(session as u8, table, mail)
+}
+
+// A text that may be refused: its length.
+fn try_cycle_text(session: u64, table: &[u8], text: &mut [u8]) -> Result<u16, Refusal>
+    ensures { described (text_told result) text.new ≡ cycle_text session table.now text.old }
+{
+    let session = judge_report(session, table)?;
+    cycletext::describe(session, table, text)
 }
 
 // The text of the cycle on which a session lies, a line for each member, at the start of a lent buffer.
 pub fn lockmgr_cycle_text(session: u64, table: &[u8], text: &mut [u8]) -> Text
     ensures { described result text.new ≡ cycle_text session table.now text.old }
 {
-    let cause = report_refusal(session, table);
-    if cause != 0 {
-        return Text::refused(cause);
+    match try_cycle_text(session, table, text) {
+        Ok(length) => Text { refusal: 0, length },
+        Err(cause) => Text::refused(cause.into()),
     }
-    cycletext::describe(session as u8, table, text)
 }
 
 // The answer of a drain: how many deliveries it made, and why it ended.
@@ -218,14 +248,15 @@ pub struct Drained {
     pub ending: u8,
 }
 
+// Why a drain ends: no mail is left, the next delivery would be refused with 9, or so many are made.
+#[derive(Clone, Copy, Debug, PartialEq, Eq)]
+pub enum Ending {
+    Empty = 1,
+    Full,
+    Limited,
+}
+
 impl Drained {
-    // The endings.
-    pub const EMPTY: u8 = 1;
-
-    pub const FULL: u8 = 2;
-
-    pub const LIMITED: u8 = 3;
-
     fn refused(refusal: u8) -> Drained
         ensures { result ≡ drain_answer refusal 0 0 }
     {
@@ -236,58 +267,36 @@ impl Drained {
         }
     }
 
-    fn accepted(made: u64, ending: u8) -> Drained
-        ensures { result ≡ drain_answer 0 made ending }
+    fn accepted(made: u64, ending: Ending) -> Drained
+        ensures { result ≡ drain_answer 0 made (ending_number ending) }
     {
         Drained {
             refusal: 0,
             made,
-            ending,
+            ending: ending as u8,
         }
     }
 }
 
-// Why a drain ends here, or 0 where a delivery was made, how many were made so far, and the gap after it.
-#[derive(Clone, Copy)]
-struct Turn {
-    ending: u8,
+// Delivers the oldest entry, the one behind the gap, if one more is allowed: the gap after it, or why the drain ends here. The gap begins at the front.
+fn take_turn(
+    limit: u64,
     made: u64,
     gap: Gap,
-}
-
-// Delivers the oldest entry, the one behind the gap, if one more is allowed; the gap begins at the front.
-fn take_turn(limit: u64, made: u64, gap: Gap, table: &mut [u8], mail: &mut [u8]) -> Turn
+    table: &mut [u8],
+    mail: &mut [u8],
+) -> Result<Gap, Ending>
     requires { (gap.from ≡ 0) × GapIn gap mail.old × Formed table.old (closed_up gap mail.old) }
-    ensures { (result.gap.from ≡ 0) × GapIn result.gap mail.new × (turned result.ending result.made table.new (closed_up result.gap mail.new) ≡ turn_of limit made (buffers table.old (closed_up gap mail.old))) }
+    ensures { ((turn_gap gap result).from ≡ 0) × GapIn (turn_gap gap result) mail.new × (turned (turn_ending result) (turn_made made result) table.new (closed_up (turn_gap gap result) mail.new) ≡ turn_of limit made (buffers table.old (closed_up gap mail.old))) }
 {
     if mailbox::count(mail) <= gap.to {
-        return Turn {
-            ending: Drained::EMPTY,
-            made,
-            gap,
-        };
+        return Err(Ending::Empty);
     }
     let allowed = made < limit;
-    let d = drain::deliver(gap, allowed, table, mail);
-    let after = d.gap;
-    if d.refusal != 0 {
-        return Turn {
-            ending: Drained::FULL,
-            made,
-            gap: after,
-        };
-    }
-    if allowed {
-        return Turn {
-            ending: 0,
-            made: made + 1,
-            gap: after,
-        };
-    }
-    Turn {
-        ending: Drained::LIMITED,
-        made,
-        gap: after,
+    match drain::deliver(gap, allowed, table, mail) {
+        Ok(Some(after)) => Ok(after),
+        Ok(None) => Err(Ending::Limited),
+        Err(_) => Err(Ending::Full),
     }
 }
 
@@ -296,15 +305,17 @@ fn deliver_all(limit: u64, table: &mut [u8], mail: &mut [u8]) -> Drained
     requires { drain_refusal (buffers table.old mail.old) ≡ 0 }
     ensures { drain_result result table.new mail.new ≡ drain limit table.old mail.old }
 {
-    let mut ending: u8 = 0;
     let mut made: u64 = 0;
     let mut gap = Gap { from: 0, to: 0 };
-    while ending == 0 {
-        let turn = take_turn(limit, made, gap, table, mail);
-        ending = turn.ending;
-        made = turn.made;
-        gap = turn.gap;
-    }
+    let ending = loop {
+        match take_turn(limit, made, gap, table, mail) {
+            Ok(after) => {
+                gap = after;
+                made += 1;
+            }
+            Err(ending) => break ending,
+        }
+    };
     drain::close_gap(mail, gap);
     Drained::accepted(made, ending)
 }
@@ -313,9 +324,8 @@ fn deliver_all(limit: u64, table: &mut [u8], mail: &mut [u8]) -> Drained
 pub fn lockmgr_drain(limit: u64, table: &mut [u8], mail: &mut [u8]) -> Drained
     ensures { drain_result result table.new mail.new ≡ drain limit table.old mail.old }
 {
-    let cause = buffers_refusal(table, mail);
-    if cause != 0 {
-        return Drained::refused(cause);
+    match judge_buffers(table, mail) {
+        Ok(()) => deliver_all(limit, table, mail),
+        Err(cause) => Drained::refused(cause.into()),
     }
-    deliver_all(limit, table, mail)
 }

@@ -1,41 +1,33 @@
-// The causes for which a call or a list of days is refused, by number, and the first of them that holds.
+// The causes for which a call or a list of days is refused.
 #![tactic(auto)]
 
-ghost use Rattle.std.specs.Prelude.{◌≡◌, cond};
+ghost use Rattle.std.specs.Prelude.{◌≡◌};
+ghost use Rattle.refusal.specs.Number.{number};
 
-pub const BAD_VERB: u8 = 1;
+// A cause; its number is that of document 02 and of the header.
+#[derive(Clone, Copy, Debug, PartialEq, Eq)]
+pub enum Refusal {
+    BadVerb = 1,
+    BadSize,
+    BadTable,
+    BadMail,
+    BadNumber,
+    WrongStage,
+    WrongItem,
+    NoMessage,
+    MailFull,
+    NoCycle,
+    ShortBuffer,
+    BadList,
+    Nobody,
+    BadRanks,
+    InUse,
+}
 
-pub const BAD_SIZE: u8 = 2;
+impl From<Refusal> for u8 {
+    ghost from_gives = { λ r n. n ≡ number r };
 
-pub const BAD_TABLE: u8 = 3;
-
-pub const BAD_MAIL: u8 = 4;
-
-pub const BAD_NUMBER: u8 = 5;
-
-pub const WRONG_STAGE: u8 = 6;
-
-pub const WRONG_ITEM: u8 = 7;
-
-pub const NO_MESSAGE: u8 = 8;
-
-pub const MAIL_FULL: u8 = 9;
-
-pub const NO_CYCLE: u8 = 10;
-
-pub const SHORT_BUFFER: u8 = 11;
-
-pub const BAD_LIST: u8 = 12;
-
-pub const NOBODY: u8 = 13;
-
-pub const BAD_RANKS: u8 = 14;
-
-pub const IN_USE: u8 = 15;
-
-// The number of a cause that holds, else that of the causes behind it.
-pub fn cause(holds: bool, number: u8, rest: u8) -> u8
-    ensures { result ≡ cond holds number rest }
-{
-    if holds { number } else { rest }
+    fn from(refusal: Refusal) -> u8 {
+        refusal as u8
+    }
 }

@@ -4,6 +4,7 @@
 ghost use Rattle.std.specs.Prelude.{◌≡◌, ◌≤◌, ◌<◌};
 ghost use Rattle.lists.specs.Lists.{member};
 ghost use Rattle.refusal.specs.Refusal.{first};
+ghost use Rattle.refusal.specs.Number.{outcome};
 ghost use Rattle.message.specs.Limits.{IsSession};
 ghost use Rattle.item.specs.Record.{Packed};
 ghost use Rattle.mailbox.specs.Layout.{count_of, entry_at, entries_of};
@@ -14,6 +15,7 @@ ghost use Rattle.reopen.specs.Parts.{Searchable};
 
 use item::Item;
 use message::MAX_SESSIONS;
+use refusal::Refusal;
 use session::Session;
 
 // Whether the session's work is over: stage 3 with nothing held, or stage 6.
@@ -95,13 +97,13 @@ fn may_reopen(t: u8, table: &[u8], mail: &[u8]) -> bool
         && no_entry_names(t, mail)
 }
 
-// Reopens session t, on buffers that were judged: the number of the refusal, or 0.
-pub fn reopen(t: u8, table: &mut [u8], mail: &[u8]) -> u8
+// Reopens session t, on buffers that were judged.
+pub fn reopen(t: u8, table: &mut [u8], mail: &[u8]) -> Result<(), Refusal>
     requires { Formed table.old mail.now × Table.HasSession table.old t }
-    ensures { reopened result table.new ≡ unless_refused (first (reopen_causes t table.old mail.now)) t table.old }
+    ensures { reopened (outcome result) table.new ≡ unless_refused (first (reopen_causes t table.old mail.now)) t table.old }
 {
     if !may_reopen(t, table, mail) {
-        return refusal::IN_USE;
+        return Err(Refusal::InUse);
     }
     let mut s = table::session(table, t);
     s.stage = Session::GROWING;
@@ -109,5 +111,5 @@ pub fn reopen(t: u8, table: &mut [u8], mail: &[u8]) -> u8
     s.held = 0;
     s.juniors = [0u8; MAX_SESSIONS];
     table::put_session(table, t, s);
-    0
+    Ok(())
 }

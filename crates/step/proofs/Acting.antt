@@ -1,6 +1,6 @@
 -- What a step that was judged knows of its buffers, and what it does by the tests that the code makes.
 use mathlib.Core.Path.{◌≡◌, refl, sym, ap, ◌∙◌}
-use mathlib.Core.Bool.{Bool, true, false, cond, false≢true, true≢false}
+use mathlib.Core.Bool.{Bool, true, false, cond}
 use mathlib.Core.List.{List, [], ◌∷◌, ◌++◌, map}
 use mathlib.Core.Logic.{◌≢◌}
 use Prim.Native.Nat.{ℕ, zero, suc, ◌+◌, ◌≤◌, ◌<◌}
@@ -128,24 +128,26 @@ without-entry mail h k =
     }
 
 -- ---- whether there is room beside the entries that are left
-refused-room : {fits : Bool} {mail : List ℕ} (o : Bool) (m n : List ℕ) → fits ≡ false → fitting fits mail ≡ cond o (fitting false m) (fitting true n) → (o ≡ true) × (mail ≡ m)
-refused-room true m n e q = (refl, ap (λ (p : Fitting). p.mail) q)
-refused-room false m n e q = absurd (false≢true (sym e ∙ ap (λ (p : Fitting). p.fits) q))
+refused-room : {refusal : ℕ} {mail : List ℕ} (o : Bool) (m n : List ℕ) → (refusal ≡ 0 → ⊥) → fitting refusal mail ≡ cond o (fitting Refusal.mail_full m) (fitting 0 n)
+    → (o ≡ true) × (refusal ≡ Refusal.mail_full) × (mail ≡ m)
+refused-room true m n e q = (refl, ap (λ (p : Fitting). p.refusal) q, ap (λ (p : Fitting). p.mail) q)
+refused-room false m n e q = absurd (e (ap (λ (p : Fitting). p.refusal) q))
 
-granted-room : {fits : Bool} {mail : List ℕ} (o : Bool) (m n : List ℕ) → fits ≡ true → fitting fits mail ≡ cond o (fitting false m) (fitting true n) → (o ≡ false) × (mail ≡ n)
-granted-room true m n e q = absurd (true≢false (sym e ∙ ap (λ (p : Fitting). p.fits) q))
+granted-room : {refusal : ℕ} {mail : List ℕ} (o : Bool) (m n : List ℕ) → refusal ≡ 0 → fitting refusal mail ≡ cond o (fitting Refusal.mail_full m) (fitting 0 n) → (o ≡ false) × (mail ≡ n)
+granted-room true m n e q = absurd (omega (arith, e, ap (λ (p : Fitting). p.refusal) q))
 granted-room false m n e q = (refl, ap (λ (p : Fitting). p.mail) q)
 
-module _ (mail : List ℕ) (k n : ℕ) {fits : Bool} {after : List ℕ} (made : fitting fits after ≡ room_made mail (remove_at k (entries_of mail)) n) where
+module _ (mail : List ℕ) (k n : ℕ) {refusal : ℕ} {after : List ℕ} (made : fitting refusal after ≡ room_made mail (remove_at k (entries_of mail)) n) where
   abbrev left : List Entry
   left = remove_at k (entries_of mail)
 
-  pub no_room : fits ≡ false → (f : Message → Entry) (l : List Message) → n ≡ length l → (overfull (capacity_of mail) (left ++ map f l) ≡ true) × (after ≡ mail)
+  pub no_room : (refusal ≡ 0 → ⊥) → (f : Message → Entry) (l : List Message) → n ≡ length l
+      → (overfull (capacity_of mail) (left ++ map f l) ≡ true) × (refusal ≡ Refusal.mail_full) × (after ≡ mail)
   no_room e f l c =
       let p = refused-room (ltb (capacity_of mail) (length left + n)) mail (mail_bytes (capacity_of mail) left) e made in
-      (rw (length-sent left f l, sym c) p.0, p.1)
+      (rw (length-sent left f l, sym c) p.0, p.1, p.2)
 
-  module _ (kept : Kept mail) (e : fits ≡ true) where
+  module _ (kept : Kept mail) (e : refusal ≡ 0) where
     granted : (ltb (capacity_of mail) (length left + n) ≡ false) × (after ≡ mail_bytes (capacity_of mail) left)
     granted = granted-room (ltb (capacity_of mail) (length left + n)) mail (mail_bytes (capacity_of mail) left) e made
 

@@ -1,3 +1,4 @@
 pub mod Acting
 pub mod Form
 pub mod Frame
+pub mod Verbs

@@ -1,5 +1,5 @@
 -- What the parts of the code ask of each other and leave. No part of the promise.
-use Rattle.std.specs.Prelude.{ℕ, ◌+◌, ◌≤◌, ◌<◌, ◌≡◌, Bool, true, false, cond, List, ltb, length}
+use Rattle.std.specs.Prelude.{ℕ, ◌+◌, ◌≤◌, ◌<◌, ◌≡◌, false, cond, List, ltb, length}
 use Rattle.session.specs.Rules as Session
 use Rattle.item.specs.Record.{Packed}
 use Rattle.mailbox.specs.Entry.{Entry, seen_by_session}
@@ -39,18 +39,18 @@ pub record ForSession (t k : ℕ) (table mail : List ℕ) : Type 0 where
   pub deliverable : Session.Deliverable (seen_by_session (Mail.entry_at mail k))
   pub entry : Mail.Stands mail k
 
--- whether more entries fit into the mail, and the mail after
+-- what is answered where more entries are to fit into the mail, and the mail after
 pub record Fitting : Type 0 where
-  pub fits : Bool
+  pub refusal : ℕ
   pub mail : List ℕ
 
-abbrev pub fitting : Bool → List ℕ → Fitting
-fitting fits mail = record { fits = fits; mail = mail }
+abbrev pub fitting : ℕ → List ℕ → Fitting
+fitting refusal mail = record { refusal = refusal; mail = mail }
 
--- the mail with these entries alone, if n more fit beside them; else as it was
+-- the mail with these entries alone, if n more fit beside them; else 9, and the mail as it was
 abbrev pub room_made : List ℕ → List Entry → ℕ → Fitting
 room_made mail entries n =
-    cond (ltb (Mail.capacity_of mail) (length entries + n)) (fitting false mail) (fitting true (Mail.mail_bytes (Mail.capacity_of mail) entries))
+    cond (ltb (Mail.capacity_of mail) (length entries + n)) (fitting Refusal.mail_full mail) (fitting 0 (Mail.mail_bytes (Mail.capacity_of mail) entries))
 
 -- the tail of every step: 9 where there is no room for the entries after it, else what is planned
 abbrev pub concluded : ℕ → List ℕ → List ℕ → Plan → Stepped

@@ -12,12 +12,41 @@ ghost use Rattle.mailbox.specs.Layout.{capacity_of, entry_at, entries_of, mail_b
 ghost use Rattle.table.specs.Layout.{HasSession, HasItem, Formed, sessions_of, session, senior, well_formed, with_item};
 ghost use Rattle.waits.specs.OnTable.{locks, cycle_length};
 ghost use Rattle.refusal.specs.Refusal.{first};
-ghost use Rattle.step.specs.Step.{refused_answer, accepted_answer, delivered, item_receives, session_receives, session_acts, stage_forbids, mask_forbids, step_causes, session_plan, item_plan, stepped, answered, acted};
+ghost use Rattle.refusal.specs.Number.{outcome};
+ghost use Rattle.step.specs.Verb.{verb_number, Names};
+ghost use Rattle.step.specs.Told.{told};
+ghost use Rattle.step.specs.Step.{refused_answer, accepted_answer, delivered, item_receives, session_receives, session_acts, stage_forbids, mask_forbids, nothing_to_deliver, step_causes, session_plan, item_plan, stepped, answered, acted};
 ghost use Rattle.step.specs.Parts.{Judged, Acting, ForItem, ForSession, fitting, room_made, concluded};
 
 use item::{Event, ItemStep};
 use mailbox::Route;
+use refusal::Refusal;
 use session::{Session, SessionStep};
+
+// What a step does: a call of its session, or a delivery on the route between session and item.
+#[derive(Clone, Copy, Debug, PartialEq, Eq)]
+pub enum Verb {
+    Request = 1,
+    Release,
+    DeliverToItem,
+    DeliverToSession,
+}
+
+impl TryFrom<u64> for Verb {
+    type Error = Refusal;
+
+    ghost try_from_gives = { Names };
+
+    fn try_from(number: u64) -> Result<Verb, Refusal> {
+        match number {
+            1 => Ok(Verb::Request),
+            2 => Ok(Verb::Release),
+            3 => Ok(Verb::DeliverToItem),
+            4 => Ok(Verb::DeliverToSession),
+            _ => Err(Refusal::BadVerb),
+        }
+    }
+}
 
 // The answer of a step. A refused step answers its number and zeros.
 #[repr(C)]
@@ -56,24 +85,15 @@ impl Answer {
     }
 }
 
-// The verbs of a step.
-pub const REQUEST: u64 = 1;
-
-pub const RELEASE: u64 = 2;
-
-pub const DELIVER_TO_ITEM: u64 = 3;
-
-pub const DELIVER_TO_SESSION: u64 = 4;
-
 // The place of the entry that a step delivers, or the number of entries.
-fn delivered(verb: u64, t: u8, x: u8, mail: &[u8]) -> usize
+fn delivered(verb: Verb, t: u8, x: u8, mail: &[u8]) -> usize
     requires { Kept mail.now }
-    ensures { result ≡ delivered verb t x (entries_of mail.now) }
+    ensures { result ≡ delivered (verb_number verb) t x (entries_of mail.now) }
 {
     let direction = match verb {
-        DELIVER_TO_ITEM => mailbox::TO_ITEM,
-        DELIVER_TO_SESSION => mailbox::TO_SESSION,
-        _ => return mailbox::count(mail),
+        Verb::DeliverToItem => mailbox::TO_ITEM,
+        Verb::DeliverToSession => mailbox::TO_SESSION,
+        Verb::Request | Verb::Release => return mailbox::count(mail),
     };
     let route = Route {
         direction,
@@ -84,37 +104,65 @@ fn delivered(verb: u64, t: u8, x: u8, mail: &[u8]) -> usize
 }
 
 // Whether the stage forbids a request or a release.
-fn stage_forbids(verb: u64, stage: u8) -> bool
-    ensures { result ≡ stage_forbids verb stage }
+fn stage_forbids(verb: Verb, stage: u8) -> bool
+    ensures { result ≡ stage_forbids (verb_number verb) stage }
 {
     let growing = stage == Session::GROWING;
-    ((verb == REQUEST) & !growing)
-        | ((verb == RELEASE) & !(growing | (stage == Session::SHRINKING)))
+    match verb {
+        Verb::Request => !growing,
+        Verb::Release => !(growing | (stage == Session::SHRINKING)),
+        Verb::DeliverToItem | Verb::DeliverToSession => false,
+    }
 }
 
 // Whether the mask of held items forbids a request or a release of item x.
-fn mask_forbids(verb: u64, x: u8, held: u64) -> bool
+fn mask_forbids(verb: Verb, x: u8, held: u64) -> bool
     requires { (1 ≤ x) × (x ≤ max_items) }
-    ensures { result ≡ mask_forbids verb x held }
+    ensures { result ≡ mask_forbids (verb_number verb) x held }
 {
-    let has = bitset::contains(held, x);
-    ((verb == REQUEST) & has) | ((verb == RELEASE) & !has)
+    match verb {
+        Verb::Request => bitset::contains(held, x),
+        Verb::Release => !bitset::contains(held, x),
+        Verb::DeliverToItem | Verb::DeliverToSession => false,
+    }
 }
 
-// The first of the causes that lie in the step itself, but for room, or 0; k is the place of the entry that it delivers.
-fn step_refusal(verb: u64, t: u8, x: u8, k: usize, table: &[u8], mail: &[u8]) -> u8
-    requires { Judged t x table.now mail.now × (k ≡ delivered verb t x (entries_of mail.now)) }
-    ensures { result ≡ first (step_causes verb t x table.now (entries_of mail.now)) }
+// Whether a delivery finds no entry: k is the place of what the step delivers.
+fn nothing_to_deliver(verb: Verb, k: usize, mail: &[u8]) -> bool
+    requires { Kept mail.now }
+    ensures { result ≡ nothing_to_deliver (verb_number verb) k (entries_of mail.now) }
+{
+    match verb {
+        Verb::Request | Verb::Release => false,
+        Verb::DeliverToItem | Verb::DeliverToSession => k == mailbox::count(mail),
+    }
+}
+
+// The causes that lie in the step itself, but for room, in their order; k is the place of the entry that it delivers.
+fn step_refusal(
+    verb: Verb,
+    t: u8,
+    x: u8,
+    k: usize,
+    table: &[u8],
+    mail: &[u8],
+) -> Result<(), Refusal>
+    requires { Judged t x table.now mail.now × (k ≡ delivered (verb_number verb) t x (entries_of mail.now)) }
+    ensures { outcome result ≡ first (step_causes (verb_number verb) t x table.now (entries_of mail.now)) }
 {
     let s = table::session(table, t);
     let staged = stage_forbids(verb, s.stage);
     let masked = mask_forbids(verb, x, s.held);
-    let none = (verb >= DELIVER_TO_ITEM)
-        & (verb <= DELIVER_TO_SESSION)
-        & (k == mailbox::count(mail));
-    let route = refusal::cause(none, refusal::NO_MESSAGE, 0);
-    let mask = refusal::cause(masked, refusal::WRONG_ITEM, route);
-    refusal::cause(staged, refusal::WRONG_STAGE, mask)
+    if staged {
+        return Err(Refusal::WrongStage);
+    }
+    if masked {
+        return Err(Refusal::WrongItem);
+    }
+    if nothing_to_deliver(verb, k, mail) {
+        return Err(Refusal::NoMessage);
+    }
+    Ok(())
 }
 
 // What item x does on entry k.
@@ -134,14 +182,14 @@ pub fn session_receives(t: u8, k: usize, table: &[u8], mail: &[u8]) -> SessionSt
 }
 
 // What session t does in a step.
-fn session_acts(verb: u64, t: u8, x: u8, k: usize, table: &[u8], mail: &[u8]) -> SessionStep
-    requires { Acting verb t x k table.now mail.now }
-    ensures { result ≡ SessionRules.step_of (session_acts (senior table.now) verb t x (session table.now t) (get_or (entries_of mail.now) k unused)) }
+fn session_acts(verb: Verb, t: u8, x: u8, k: usize, table: &[u8], mail: &[u8]) -> SessionStep
+    requires { Acting (verb_number verb) t x k table.now mail.now }
+    ensures { result ≡ SessionRules.step_of (session_acts (senior table.now) (verb_number verb) t x (session table.now t) (get_or (entries_of mail.now) k unused)) }
 {
     match verb {
-        REQUEST => table::session(table, t).request(x),
-        RELEASE => table::session(table, t).release(x),
-        _ => session_receives(t, k, table, mail),
+        Verb::Request => table::session(table, t).request(x),
+        Verb::Release => table::session(table, t).release(x),
+        Verb::DeliverToItem | Verb::DeliverToSession => session_receives(t, k, table, mail),
     }
 }
 
@@ -166,50 +214,59 @@ fn take(mail: &mut [u8], k: usize)
 }
 
 // If n entries more have room once entry k is out, takes it out.
-fn make_room(mail: &mut [u8], k: usize, n: usize) -> bool
+fn make_room(mail: &mut [u8], k: usize, n: usize) -> Result<(), Refusal>
     requires { Kept mail.old × (n ≤ room) }
-    ensures { fitting result mail.new ≡ room_made mail.old (remove_at k (entries_of mail.old)) n }
+    ensures { fitting (outcome result) mail.new ≡ room_made mail.old (remove_at k (entries_of mail.old)) n }
 {
     if mailbox::capacity(mail) < left(mail, k) + n {
-        return false;
+        return Err(Refusal::MailFull);
     }
     take(mail, k);
-    true
+    Ok(())
 }
 
 // Session t has stepped: the messages and the record are written, if there is room.
-fn commit_session(t: u8, k: usize, r: SessionStep, table: &mut [u8], mail: &mut [u8]) -> Answer
+fn commit_session(
+    t: u8,
+    k: usize,
+    r: SessionStep,
+    table: &mut [u8],
+    mail: &mut [u8],
+) -> Result<Answer, Refusal>
     requires { HasSession table.old t × Kept mail.old × (r.outbox.n ≤ room) }
     ensures { (w : SessionRules.After) → r ≡ SessionRules.step_of w
-        → stepped result table.new mail.new ≡ concluded t table.old mail.old (session_plan t table.old (remove_at k (entries_of mail.old)) w) }
+        → stepped (told result) table.new mail.new ≡ concluded t table.old mail.old (session_plan t table.old (remove_at k (entries_of mail.old)) w) }
 {
     let outbox = r.outbox;
     let session = r.session;
     let sent = outbox.n;
-    if !make_room(mail, k, sent) {
-        return Answer::refused(refusal::MAIL_FULL);
-    }
+    make_room(mail, k, sent)?;
     mailbox::post(mail, mailbox::TO_ITEM, t, outbox);
     table::put_session(table, t, session);
-    Answer::accepted(sent as u8, 0, 0, 0)
+    Ok(Answer::accepted(sent as u8, 0, 0, 0))
 }
 
 // Item x has stepped on a message of session t: the messages and the record are written, if there is room.
-fn commit_item(t: u8, x: u8, k: usize, r: ItemStep, table: &mut [u8], mail: &mut [u8]) -> Answer
+fn commit_item(
+    t: u8,
+    x: u8,
+    k: usize,
+    r: ItemStep,
+    table: &mut [u8],
+    mail: &mut [u8],
+) -> Result<Answer, Refusal>
     requires { HasSession table.old t × HasItem table.old x × (well_formed (with_item table.old x r.item) ≡ true) × Kept mail.old × (r.outbox.n ≤ room) }
     ensures { (w : ItemRules.After) → r ≡ ItemRules.step_of w
-        → stepped result table.new mail.new ≡ concluded t table.old mail.old (item_plan x table.old (remove_at k (entries_of mail.old)) w) }
+        → stepped (told result) table.new mail.new ≡ concluded t table.old mail.old (item_plan x table.old (remove_at k (entries_of mail.old)) w) }
 {
     let outbox = r.outbox;
     let item = r.item;
     let event = r.event;
     let sent = outbox.n;
-    if !make_room(mail, k, sent) {
-        return Answer::refused(refusal::MAIL_FULL);
-    }
+    make_room(mail, k, sent)?;
     mailbox::post(mail, mailbox::TO_SESSION, x, outbox);
     table::put_item(table, x, item);
-    answer_of(t, sent as u8, event, table)
+    Ok(answer_of(t, sent as u8, event, table))
 }
 
 // The answer of an accepted step, by what happened at the item.
@@ -229,27 +286,24 @@ fn closes(t: u8, table: &[u8]) -> u8
     requires { Formed table.now × (1 ≤ t) × (t ≤ sessions_of table.now) }
     ensures { result ≡ cond (not (eqb (cycle_length table.now t) 0)) 1 0 }
 {
-    if waits::cycle_length(table, t) == 0 {
-        0
-    } else {
-        1
-    }
+    u8::from(waits::cycle_length(table, t) != 0)
 }
 
 // One step on buffers that were judged.
-pub fn act(verb: u64, t: u8, x: u8, table: &mut [u8], mail: &mut [u8]) -> Answer
-    requires { (1 ≤ verb) × (verb ≤ 4) × Judged t x table.old mail.old }
-    ensures { stepped result table.new mail.new ≡ acted (senior table.old) verb t x table.old mail.old }
+pub fn act(verb: Verb, t: u8, x: u8, table: &mut [u8], mail: &mut [u8]) -> Result<Answer, Refusal>
+    requires { Judged t x table.old mail.old }
+    ensures { stepped (told result) table.new mail.new ≡ acted (senior table.old) (verb_number verb) t x table.old mail.old }
 {
     let k = delivered(verb, t, x, mail);
-    let cause = step_refusal(verb, t, x, k, table, mail);
-    if cause != 0 {
-        return Answer::refused(cause);
+    step_refusal(verb, t, x, k, table, mail)?;
+    match verb {
+        Verb::DeliverToItem => {
+            let r = item_receives(x, k, table, mail);
+            commit_item(t, x, k, r, table, mail)
+        }
+        Verb::Request | Verb::Release | Verb::DeliverToSession => {
+            let r = session_acts(verb, t, x, k, table, mail);
+            commit_session(t, k, r, table, mail)
+        }
     }
-    if verb == DELIVER_TO_ITEM {
-        let r = item_receives(x, k, table, mail);
-        return commit_item(t, x, k, r, table, mail);
-    }
-    let r = session_acts(verb, t, x, k, table, mail);
-    commit_session(t, k, r, table, mail)
 }

@@ -3,6 +3,7 @@
 
 ghost use Rattle.std.specs.Prelude.{◌≡◌, true, ◌+◌, ◌*◌, ◌≤◌, length};
 ghost use Rattle.buffer.specs.Bytes.{splice};
+ghost use Rattle.refusal.specs.Number.{outcome};
 ghost use Rattle.std.specs.Counts.{IsPrefixLen};
 ghost use Rattle.program.specs.Program.{output, at_start};
 ghost use Rattle.yearly.specs.Input as Input;
@@ -13,6 +14,7 @@ ghost use Rattle.yearly.specs.Parts.{Days, max_value};
 ghost use Rattle.yearly.specs.Claims.{read_size};
 
 use std::cmp::Ordering;
+use refusal::Refusal;
 
 const MAX_DAYS: usize = 366;
 
@@ -125,23 +127,23 @@ impl<'a> DayList<'a> {
     }
 }
 
-// The number with which the list is refused, or 0.
-fn judge(input: &[u8]) -> u8
-    ensures { result ≡ refusal input.now }
+// Whether the list is refused.
+fn judge(input: &[u8]) -> Result<(), Refusal>
+    ensures { outcome result ≡ refusal input.now }
 {
     if !sized(input) {
-        return refusal::BAD_LIST;
+        return Err(Refusal::BadList);
     }
     let days = DayList::of(input);
     let inconsistent = !days.is_consistent();
     let nobody = days.sums().sessions == 0;
     if inconsistent {
-        return refusal::BAD_LIST;
+        return Err(Refusal::BadList);
     }
     if nobody {
-        return refusal::NOBODY;
+        return Err(Refusal::Nobody);
     }
-    0
+    Ok(())
 }
 
 // Sessions rolled back per thousand taken part, to the nearest whole, a tie to the even one.
@@ -192,9 +194,8 @@ pub fn write(input: &[u8], out: &mut [u8]) -> usize
     if out.len() < LONGEST {
         return 0;
     }
-    let cause = judge(input);
-    if cause != 0 {
-        return text::put_line(out, 0, cause as u64, &[]);
+    match judge(input) {
+        Ok(()) => put_statement(out, input),
+        Err(cause) => text::put_line(out, 0, u64::from(u8::from(cause)), &[]),
     }
-    put_statement(out, input)
 }

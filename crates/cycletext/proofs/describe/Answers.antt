@@ -36,7 +36,7 @@ pub returns-in_default : goal.returns-in_default
 returns-in_default c =
     let a = c.args in
     let none = ap (λ (l : List ℕ). cycle_length l a.me) (sym c.of-graph.ensures) ∙ unless-zero-none (cycle_length c.of-graph.result.table.now a.me) c.in_default.ensures in
-    rw (refused_no_cycle a.me a.t.now a.out.now none, c.refused.ensures) refl
+    rw (refused_no_cycle a.me a.t.now a.out.now none) refl
 
 pub invariant_of-round-2 : goal.invariant_of-round-2
 invariant_of-round-2 c = record { on = on-leader c.of-graph.ensures c.requires c.in-Some.ensures c.leader.ensures }
@@ -49,10 +49,10 @@ returns-then-out-lines_length c =
     let a = c.args in
     let w = whole c.of-graph.ensures c.requires c.in-Some.ensures c.leader.ensures in
     let e = refused_short a.me a.t.now a.out.now (round c.of-graph.ensures c.requires c.in-Some.ensures) (omega (arith, c.lines_length.ensures, ap length w, c.if-out-lines_length.true)) in
-    rw (e, c.refused-then-out-lines_length.ensures) refl
+    rw e refl
 
-pub put_lines-length-requires : goal.put_lines-length-requires
-put_lines-length-requires c =
+pub put_lines-requires : goal.put_lines-requires
+put_lines-requires c =
     let a = c.args in
     let w = whole c.of-graph.ensures c.requires c.in-Some.ensures c.leader.ensures in
     elim c.else-out-lt-LONGEST.branch [
@@ -64,13 +64,13 @@ pub overflow_cast-result : goal.overflow_cast-result
 overflow_cast-result c =
     let a = c.args in
     let w = whole c.of-graph.ensures c.requires c.in-Some.ensures c.leader.ensures in
-    omega (arith, c.put_lines-length.ensures.count, ap length w, fits a.t.now c.requires.0 a.me c.requires.1)
+    omega (arith, c.put_lines.ensures.count, ap length w, fits a.t.now c.requires.0 a.me c.requires.1)
 
 pub returns : goal.returns
 returns c =
     let a = c.args in
     let w = whole c.of-graph.ensures c.requires c.in-Some.ensures c.leader.ensures in
-    let p = c.put_lines-length in
+    let p = c.put_lines in
     let room : length (text a.t.now a.me) ≤ length a.out.now =
     elim c.else-out-lt-LONGEST.branch [
       | else-out-lt-LONGEST-via-then-out-lt-LONGEST+else-out-lines_length b ↦ omega (arith, b.lines_length.ensures, ap length w, b.if-out-lines_length.false)

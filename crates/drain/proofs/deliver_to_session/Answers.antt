@@ -1,6 +1,7 @@
 -- The delivery to a session: judged for room, then only told, or written.
 use mathlib.Core.Path.{◌≡◌, ap}
-use borrow.Author.Tests.{not-true, not-false}
+use mathlib.Core.Path.{refl}
+use Rattle.refusal.proofs.Outcome.{passed-on}
 use Rattle.session.specs.declared.SessionStep.{SessionStep}
 use Rattle.session.specs.Rules as Session
 use Rattle.item.specs.declared.Event.TheVariants.{Nothing}
@@ -14,15 +15,23 @@ use Rattle.drain.proofs.deliver_to_session.Goals as goal
 pub session_receives-r-requires : goal.session_receives-r-requires
 session_receives-r-requires c = rw c.requires.1 (due_for-session c.args.gap c.args.table.now c.args.mail.now c.requires.0)
 
-pub returns-then-not-d : goal.returns-then-not-d
-returns-then-not-d c =
+pub returns-in_err-after : goal.returns-in_err-after
+returns-in_err-after c =
     let Did : Session.After = session_receives (Table.senior c.args.table.now) (entry_at c.args.mail.now c.args.gap.to).session (Table.session c.args.table.now (entry_at c.args.mail.now c.args.gap.to).session) (entry_at c.args.mail.now c.args.gap.to) in
     let received : c.session_receives-r.result ≡ Session.step_of (Did) = rw (← c.requires.1) c.session_receives-r.ensures.0 in
     let w = Did in
-    rw c.requires.1 (told_stopped c.args.gap c.args.table.now c.args.mail.now c.requires.0 (Table.with_session c.args.table.now (entry_at c.args.mail.now c.args.gap.to).session w.session) (from_session (entry_at c.args.mail.now c.args.gap.to).session) w.sends Nothing _ (ap (λ (r : SessionStep). r.outbox.n) (received)) c.args.allowed _ _ c.admit-d.ensures (not-true _ c.if-not-d.true))
+    rw (passed-on _ _ c.from_residual.ensures.1, c.requires.1) (told_stopped c.args.gap c.args.table.now c.args.mail.now c.requires.0 (Table.with_session c.args.table.now (entry_at c.args.mail.now c.args.gap.to).session w.session) (from_session (entry_at c.args.mail.now c.args.gap.to).session) w.sends Nothing _ (ap (λ (r : SessionStep). r.outbox.n) (received)) c.args.allowed _ _ c.in_err-after.ensures refl)
+
+pub returns-in_default : goal.returns-in_default
+returns-in_default c =
+    let Did : Session.After = session_receives (Table.senior c.args.table.now) (entry_at c.args.mail.now c.args.gap.to).session (Table.session c.args.table.now (entry_at c.args.mail.now c.args.gap.to).session) (entry_at c.args.mail.now c.args.gap.to) in
+    let received : c.session_receives-r.result ≡ Session.step_of (Did) = rw (← c.requires.1) c.session_receives-r.ensures.0 in
+    let w = Did in
+    let a = rw c.in_default.is at c.in_ok-after.ensures in
+    rw c.requires.1 (told_stopped c.args.gap c.args.table.now c.args.mail.now c.requires.0 (Table.with_session c.args.table.now (entry_at c.args.mail.now c.args.gap.to).session w.session) (from_session (entry_at c.args.mail.now c.args.gap.to).session) w.sends Nothing _ (ap (λ (r : SessionStep). r.outbox.n) (received)) c.args.allowed _ _ a refl)
 
 pub post-requires : goal.post-requires
-post-requires c = let p = c.admit-d.ensures.placed (not-false _ c.if-not-d.false) in record { kept = p.spent.kept; few = c.session_receives-r.ensures.1; fits = p.free }
+post-requires c = let p = (rw c.in-Some.is at c.in_ok-after.ensures).placed refl in record { kept = p.spent.kept; few = c.session_receives-r.ensures.1; fits = p.free }
 
 pub put_session-requires : goal.put_session-requires
 put_session-requires c = rw c.requires.1 (has-session c.args.gap c.args.table.now c.args.mail.now c.requires.0)
@@ -34,4 +43,4 @@ returns c =
     let w = Did in
     let does = received in
     rw (c.put_session.ensures, does, c.requires.1)
-    (told-made c.args.gap c.args.table.now c.args.mail.now c.requires.0 (Table.with_session c.args.table.now (entry_at c.args.mail.now c.args.gap.to).session w.session) (from_session (entry_at c.args.mail.now c.args.gap.to).session) w.sends Nothing _ (ap (λ (r : SessionStep). r.outbox.n) does) c.args.allowed _ _ c.admit-d.ensures (not-false _ c.if-not-d.false) (rw c.requires.1 at (c.post.ensures w.sends (ap (λ (r : SessionStep). r.outbox) does))))
+    (told-made c.args.gap c.args.table.now c.args.mail.now c.requires.0 (Table.with_session c.args.table.now (entry_at c.args.mail.now c.args.gap.to).session w.session) (from_session (entry_at c.args.mail.now c.args.gap.to).session) w.sends Nothing _ (ap (λ (r : SessionStep). r.outbox.n) does) c.args.allowed _ _ (rw c.in-Some.is at c.in_ok-after.ensures) refl (rw c.requires.1 at (c.post.ensures w.sends (ap (λ (r : SessionStep). r.outbox) does))))

@@ -1,61 +1,59 @@
 -- The causes of the verb, of the buffers and of the numbers, one after another.
-use mathlib.Core.Path.{◌≡◌, sym, ◌∙◌}
+use mathlib.Core.Path.{◌≡◌, refl, sym, ap, ◌∙◌}
+use Prim.Native.Nat.{ℕ, ◌≤◌}
 use native.Mathlib.Omega.{arith}
-use Prim.Native.Nat.{◌≤◌}
-use lib.ListN.{length}
-use Rattle.table.specs.Layout.{header}
+use Rattle.step.specs.declared.Verb.{Verb}
+use Rattle.step.specs.Verb.{verb_number}
 use Rattle.table.proofs.Laws as TableLaws
-use Rattle.refusal.specs.Refusal.{first}
-use Rattle.lockmgr.specs.Calls.{buffer_causes}
+use Rattle.refusal.specs.Number.{number, outcome}
+use Rattle.refusal.proofs.Outcome.{number-positive, passed-on}
+use Rattle.step.proofs.Verbs.{verb-bounds}
 use Rattle.lockmgr.proofs.Judging.{buffers-zero, judged-verb, judged-buffers, judged-number, judged-none}
+use Rattle.lockmgr.proofs.Numbers.{outside}
 use Rattle.lockmgr.proofs.judge.Goals as goal
 
-pub returns-then-verb-lt-REQUEST : goal.returns-then-verb-lt-REQUEST
-returns-then-verb-lt-REQUEST c = sym (judged-verb _ _ _ _ _ (λ a b. omega arith))
+-- the number of a verb
+bounds : {n : ℕ} (v : Verb) → verb_number v ≡ n → (1 ≤ n) × (n ≤ 4)
+bounds v e = let p = verb-bounds v in (omega (arith, e, p.0), omega (arith, e, p.1))
 
-pub returns-then-verb-gt-DELIVER_TO_SESSION : goal.returns-then-verb-gt-DELIVER_TO_SESSION
-returns-then-verb-gt-DELIVER_TO_SESSION c = sym (judged-verb _ _ _ _ _ (λ a b. omega arith))
+pub returns-in_err-verb-clause-number : goal.returns-in_err-verb-clause-number
+returns-in_err-verb-clause-number c =
+    let e = c.in_err-verb.ensures in
+    ap outcome (passed-on _ _ c.from_residual.ensures.1) ∙ ap number e.0 ∙ sym (judged-verb _ _ _ _ _ (outside 1 4 refl e.1))
 
-pub returns-then-cause-ne0 : goal.returns-then-cause-ne0
-returns-then-cause-ne0 c =
-    let e = c.buffers_refusal-cause.ensures in
-    e ∙ sym (judged-buffers _ _ _ _ _ (omega arith) (omega arith) (λ z. c.if-cause-ne0.true (e ∙ z)))
-
-pub returns-then-session-lt1 : goal.returns-then-session-lt1
-returns-then-session-lt1 c =
-    let unhindered : first (buffer_causes c.args.table.now c.args.mail.now) ≡ 0 = sym c.buffers_refusal-cause.ensures ∙ c.if-cause-ne0.false in
-    sym (judged-number _ _ _ _ _ (omega arith) (omega arith) (unhindered) (λ a b d e. omega arith))
+pub returns-in_err-judge_buffers-clause-number : goal.returns-in_err-judge_buffers-clause-number
+returns-in_err-judge_buffers-clause-number c =
+    let v = bounds c.in_ok-verb.verb c.in_ok-verb.ensures in
+    let e = c.in_err-judge_buffers.ensures in
+    ap outcome (passed-on _ _ c.from_residual-in_err-judge_buffers.ensures.1) ∙ e
+    ∙ sym (judged-buffers _ _ _ _ _ v.0 v.1 (λ z. number-positive c.in_err-judge_buffers.field-0.0 (e ∙ z)))
 
 pub sessions-requires : goal.sessions-requires
-sessions-requires c =
-    let unhindered : first (buffer_causes c.args.table.now c.args.mail.now) ≡ 0 = sym c.buffers_refusal-cause.ensures ∙ c.if-cause-ne0.false in
-    let head : header ≤ length c.args.table.now =
-    TableLaws.header-fits c.args.table.now (buffers-zero c.args.table.now c.args.mail.now (unhindered)).records.sized in
-    head
+sessions-requires c = TableLaws.header-fits c.args.table.now (buffers-zero c.args.table.now c.args.mail.now (sym c.in_ok-judge_buffers.ensures)).records.sized
 
-pub returns-then-sessions-session : goal.returns-then-sessions-session
-returns-then-sessions-session c =
-    let unhindered : first (buffer_causes c.args.table.now c.args.mail.now) ≡ 0 = sym c.buffers_refusal-cause.ensures ∙ c.if-cause-ne0.false in
-    sym (judged-number _ _ _ _ _ (omega arith) (omega arith) (unhindered) (λ a b d e. omega (arith, c.sessions.ensures)))
-
-pub returns-then-item-lt1 : goal.returns-then-item-lt1
-returns-then-item-lt1 c =
-    let unhindered : first (buffer_causes c.args.table.now c.args.mail.now) ≡ 0 = sym c.buffers_refusal-cause.ensures ∙ c.if-cause-ne0.false in
-    sym (judged-number _ _ _ _ _ (omega arith) (omega arith) (unhindered) (λ a b d e. omega arith))
+pub returns-in_err-session-clause-number : goal.returns-in_err-session-clause-number
+returns-in_err-session-clause-number c =
+    let v = bounds c.in_ok-verb.verb c.in_ok-verb.ensures in
+    let e = c.in_err-session.ensures in
+    ap outcome (passed-on _ _ c.from_residual-in_err-session.ensures.1) ∙ ap number e.0
+    ∙ sym (judged-number _ _ _ _ _ v.0 v.1 (sym c.in_ok-judge_buffers.ensures) (λ a b d f. outside 1 _ c.sessions.ensures e.1 a b))
 
 pub items-requires : goal.items-requires
-items-requires c =
-    let unhindered : first (buffer_causes c.args.table.now c.args.mail.now) ≡ 0 = sym c.buffers_refusal-cause.ensures ∙ c.if-cause-ne0.false in
-    let head : header ≤ length c.args.table.now =
-    TableLaws.header-fits c.args.table.now (buffers-zero c.args.table.now c.args.mail.now (unhindered)).records.sized in
-    head
+items-requires c = TableLaws.header-fits c.args.table.now (buffers-zero c.args.table.now c.args.mail.now (sym c.in_ok-judge_buffers.ensures)).records.sized
 
-pub returns-then-items-item : goal.returns-then-items-item
-returns-then-items-item c =
-    let unhindered : first (buffer_causes c.args.table.now c.args.mail.now) ≡ 0 = sym c.buffers_refusal-cause.ensures ∙ c.if-cause-ne0.false in
-    sym (judged-number _ _ _ _ _ (omega arith) (omega arith) (unhindered) (λ a b d e. omega (arith, c.items.ensures)))
+pub returns-in_err-item-clause-number : goal.returns-in_err-item-clause-number
+returns-in_err-item-clause-number c =
+    let v = bounds c.in_ok-verb.verb c.in_ok-verb.ensures in
+    let e = c.in_err-item.ensures in
+    ap outcome (passed-on _ _ c.from_residual-in_err-item.ensures.1) ∙ ap number e.0
+    ∙ sym (judged-number _ _ _ _ _ v.0 v.1 (sym c.in_ok-judge_buffers.ensures) (λ a b d f. outside 1 _ c.items.ensures e.1 d f))
 
 pub returns : goal.returns
 returns c =
-    let unhindered : first (buffer_causes c.args.table.now c.args.mail.now) ≡ 0 = sym c.buffers_refusal-cause.ensures ∙ c.if-cause-ne0.false in
-    sym (judged-none _ _ _ _ _ (omega arith) (omega arith) (unhindered) (omega arith) (omega (arith, c.sessions.ensures)) (omega arith) (omega (arith, c.items.ensures)))
+    let v = bounds c.in_ok-verb.verb c.in_ok-verb.ensures in
+    let s = c.in_ok-session.ensures in
+    let x = c.in_ok-item.ensures in
+    record {
+      number = sym (judged-none _ _ _ _ _ v.0 v.1 (sym c.in_ok-judge_buffers.ensures) s.1 (omega (arith, c.sessions.ensures, s.2)) x.1 (omega (arith, c.items.ensures, x.2)));
+      named = (c.in_ok-verb.ensures, s.0, x.0);
+    }

@@ -1,6 +1,8 @@
 -- The tests are the causes in their order; an item acts in a delivery to it, a session in every other step.
 use mathlib.Core.List.{List}
 use mathlib.Core.Path.{◌≡◌, refl, sym, ap, ◌∙◌}
+use mathlib.Core.Logic.{◌⊎◌, inl, inr}
+use Rattle.std.proofs.Common.{rules}
 use native.Mathlib.Omega.{arith}
 use Prim.Native.Nat.{ℕ, ◌≤◌, ◌<◌}
 use lib.ListN.{get_or}
@@ -14,65 +16,80 @@ use Rattle.mailbox.proofs.Laws.{get_d_entries, length-entries}
 use Rattle.table.specs.Layout.{session, senior}
 use Rattle.waits.specs.OnTable.{locks}
 use Rattle.refusal.specs.Refusal.{first}
-use Rattle.step.specs.Step.{request, release, delivered, step_causes, item_receives}
+use Rattle.refusal.proofs.Outcome.{number-positive, passed-on}
+use Rattle.step.specs.declared.Verb.{Verb}
+use Rattle.step.specs.declared.Verb.TheVariants.{Request, Release, DeliverToItem, DeliverToSession}
+use Rattle.step.specs.Verb.{verb_number}
+use Rattle.step.specs.Step.{request, release, deliver_to_item, delivered, step_causes, item_receives}
 use Rattle.step.specs.Parts.{Unhindered, Judged}
 use Rattle.step.proofs.Acting.{unhindered, mail-kept, juniors-whole, has-session, has-item, for-item, acts_few, acted-refused, acted-concluded, delivers, item_acts, session_acting}
 use Rattle.step.proofs.Form.{plan_keeps}
+use Rattle.step.proofs.Verbs.{verb-bounds}
 use Rattle.step.proofs.act.Goals as goal
 
 -- what is known of a step on judged buffers that nothing hinders
-module _ {verb t x k cause : ℕ} {table mail : List ℕ} (r : (1 ≤ verb) × (verb ≤ 4) × Judged t x table mail) (place : k ≡ delivered verb t x (entries_of mail)) (judged : cause ≡ first (step_causes verb t x table (entries_of mail))) (zero-cause : cause ≡ 0) where
-  none : first (step_causes verb t x table (entries_of mail)) ≡ 0
-  none = sym judged ∙ zero-cause
-
-  free : Unhindered verb t x table (entries_of mail)
-  free = unhindered verb t x table (entries_of mail) none
+module _ (v : Verb) {t x k : ℕ} {table mail : List ℕ} (judged : Judged t x table mail) (place : k ≡ delivered (verb_number v) t x (entries_of mail)) (none : 0 ≡ first (step_causes (verb_number v) t x table (entries_of mail))) where
+  free : Unhindered (verb_number v) t x table (entries_of mail)
+  free = unhindered (verb_number v) t x table (entries_of mail) (sym none)
 
   -- a delivery finds its entry
-  inside : (verb ≡ request → ⊥) → (verb ≡ release → ⊥) → k < count_of mail
-  inside a b = rw place (omega (arith, delivers verb t x table (entries_of mail) free r.0 r.1 a b, length-entries mail))
+  inside : (verb_number v ≡ request → ⊥) → (verb_number v ≡ release → ⊥) → k < count_of mail
+  inside a b =
+      let p = verb-bounds v in
+      rw place (omega (arith, delivers (verb_number v) t x table (entries_of mail) free p.0 p.1 a b, length-entries mail))
+
+  -- so does one to an item
+  inside-item : verb_number v ≡ deliver_to_item → k < count_of mail
+  inside-item e = inside (λ q. absurd (omega (arith, e, q))) (λ q. absurd (omega (arith, e, q)))
+
+-- a session acts in every other step
+other : {v : Verb} → (v ≡ Request) ⊎ ((v ≡ Release) ⊎ (v ≡ DeliverToSession)) → verb_number v ≡ deliver_to_item → ⊥
+other (inl e) q = absurd (omega (arith, q, ap verb_number e))
+other (inr (inl e)) q = absurd (omega (arith, q, ap verb_number e))
+other (inr (inr e)) q = absurd (omega (arith, q, ap verb_number e))
 
 -- an entry that is there, read from the mail or from the list of its entries
 read : (mail : List ℕ) (k : ℕ) (f : Entry → ItemStep) {s : ItemStep} → k < count_of mail → s ≡ f (entry_at mail k) → s ≡ f (get_or (entries_of mail) k unused)
 read mail k f i e = rw (get_d_entries mail k i) e
 
 pub delivered-k-requires : goal.delivered-k-requires
-delivered-k-requires c = mail-kept c.args.t c.args.x c.args.table.now c.args.mail.now c.requires.2 (λ i h. omega (arith, c.slice_known-2-1.given i))
+delivered-k-requires c = mail-kept c.args.t c.args.x c.args.table.now c.args.mail.now c.requires (search rules)
 
-pub returns-then-cause-ne0 : goal.returns-then-cause-ne0
-returns-then-cause-ne0 c =
-    let cause = c.step_refusal-cause.ensures in
-    rw (c.refused.ensures, acted-refused (senior c.args.table.now) c.args.verb c.args.t c.args.x c.args.table.now c.args.mail.now (λ z. c.if-cause-ne0.true (cause ∙ z)), cause) refl
+pub returns-in_err-step_refusal : goal.returns-in_err-step_refusal
+returns-in_err-step_refusal c =
+    let is = c.in_err-step_refusal.ensures in
+    rw (passed-on _ _ c.from_residual.ensures.1, is, acted-refused (senior c.args.table.now) (verb_number c.args.verb) c.args.t c.args.x c.args.table.now c.args.mail.now (λ z. number-positive c.in_err-step_refusal.field-0.0 (is ∙ z))) refl
 
 pub item_receives-r-requires : goal.item_receives-r-requires
 item_receives-r-requires c =
-    let kept = mail-kept c.args.t c.args.x c.args.table.now c.args.mail.now c.requires.2 (λ i h. omega (arith, c.slice_known-2-1.given i)) in
-    for-item c.args.t c.args.x c.args.table.now c.args.mail.now c.requires.2 c.delivered-k.result (record { kept = kept; inside = inside c.requires c.delivered-k.ensures c.step_refusal-cause.ensures c.if-cause-ne0.false (λ q. absurd (omega (arith, c.if-verb-eq-DELIVER_TO_ITEM.true))) (λ q. absurd (omega (arith, c.if-verb-eq-DELIVER_TO_ITEM.true))) })
+    let kept = mail-kept c.args.t c.args.x c.args.table.now c.args.mail.now c.requires (search rules) in
+    for-item c.args.t c.args.x c.args.table.now c.args.mail.now c.requires c.delivered-k.result (record { kept = kept; inside = inside-item c.args.verb c.requires c.delivered-k.ensures c.in_ok-step_refusal.ensures (ap verb_number c.in-DeliverToItem.is) })
 
 pub commit_item-requires : goal.commit_item-requires
 commit_item-requires c =
-    let kept = mail-kept c.args.t c.args.x c.args.table.now c.args.mail.now c.requires.2 (λ i h. omega (arith, c.slice_known-2-1.given i)) in
-    let received = read c.args.mail.now c.delivered-k.result (λ e. Item.step_of (item_receives (senior c.args.table.now) (locks c.args.table.now c.args.x) e)) (inside c.requires c.delivered-k.ensures c.step_refusal-cause.ensures c.if-cause-ne0.false (λ q. absurd (omega (arith, c.if-verb-eq-DELIVER_TO_ITEM.true))) (λ q. absurd (omega (arith, c.if-verb-eq-DELIVER_TO_ITEM.true)))) c.item_receives-r.ensures.0 in
-    let formed = (plan_keeps c.args.t c.args.x c.args.table.now c.args.mail.now c.requires.2 c.args.verb c.requires.0 c.requires.1 (free c.requires c.delivered-k.ensures c.step_refusal-cause.ensures c.if-cause-ne0.false)).formed in
-    let is = item_acts (senior c.args.table.now) c.args.verb c.args.t c.args.x c.args.table.now (entries_of c.args.mail.now) (eq-eqb c.args.verb 3 c.if-verb-eq-DELIVER_TO_ITEM.true) in
-    (has-session c.args.t c.args.x c.args.table.now c.args.mail.now c.requires.2, has-item c.args.t c.args.x c.args.table.now c.args.mail.now c.requires.2, rw (received, c.delivered-k.ensures) (rw (is) at formed), kept, c.item_receives-r.ensures.1)
+    let kept = mail-kept c.args.t c.args.x c.args.table.now c.args.mail.now c.requires (search rules) in
+    let received = read c.args.mail.now c.delivered-k.result (λ e. Item.step_of (item_receives (senior c.args.table.now) (locks c.args.table.now c.args.x) e)) (inside-item c.args.verb c.requires c.delivered-k.ensures c.in_ok-step_refusal.ensures (ap verb_number c.in-DeliverToItem.is)) c.item_receives-r.ensures.0 in
+    let p = verb-bounds c.args.verb in
+    let formed = (plan_keeps c.args.t c.args.x c.args.table.now c.args.mail.now c.requires (verb_number c.args.verb) p.0 p.1 (free c.args.verb c.requires c.delivered-k.ensures c.in_ok-step_refusal.ensures)).formed in
+    let is = item_acts (senior c.args.table.now) (verb_number c.args.verb) c.args.t c.args.x c.args.table.now (entries_of c.args.mail.now) (eq-eqb (verb_number c.args.verb) 3 (ap verb_number c.in-DeliverToItem.is)) in
+    (has-session c.args.t c.args.x c.args.table.now c.args.mail.now c.requires, has-item c.args.t c.args.x c.args.table.now c.args.mail.now c.requires, rw (received, c.delivered-k.ensures) (rw (is) at formed), kept, c.item_receives-r.ensures.1)
 
-pub returns-then-verb-eq-DELIVER_TO_ITEM : goal.returns-then-verb-eq-DELIVER_TO_ITEM
-returns-then-verb-eq-DELIVER_TO_ITEM c =
-    let received = read c.args.mail.now c.delivered-k.result (λ e. Item.step_of (item_receives (senior c.args.table.now) (locks c.args.table.now c.args.x) e)) (inside c.requires c.delivered-k.ensures c.step_refusal-cause.ensures c.if-cause-ne0.false (λ q. absurd (omega (arith, c.if-verb-eq-DELIVER_TO_ITEM.true))) (λ q. absurd (omega (arith, c.if-verb-eq-DELIVER_TO_ITEM.true)))) c.item_receives-r.ensures.0 in
-    let is = item_acts (senior c.args.table.now) c.args.verb c.args.t c.args.x c.args.table.now (entries_of c.args.mail.now) (eq-eqb c.args.verb 3 c.if-verb-eq-DELIVER_TO_ITEM.true) in
-    c.commit_item.ensures _ received ∙ sym (acted-concluded (senior c.args.table.now) c.args.verb c.args.t c.args.x c.args.table.now c.args.mail.now (none c.requires c.delivered-k.ensures c.step_refusal-cause.ensures c.if-cause-ne0.false) ∙ rw (is, ← c.delivered-k.ensures) refl)
+pub returns-in-DeliverToItem : goal.returns-in-DeliverToItem
+returns-in-DeliverToItem c =
+    let received = read c.args.mail.now c.delivered-k.result (λ e. Item.step_of (item_receives (senior c.args.table.now) (locks c.args.table.now c.args.x) e)) (inside-item c.args.verb c.requires c.delivered-k.ensures c.in_ok-step_refusal.ensures (ap verb_number c.in-DeliverToItem.is)) c.item_receives-r.ensures.0 in
+    let is = item_acts (senior c.args.table.now) (verb_number c.args.verb) c.args.t c.args.x c.args.table.now (entries_of c.args.mail.now) (eq-eqb (verb_number c.args.verb) 3 (ap verb_number c.in-DeliverToItem.is)) in
+    c.commit_item.ensures _ received ∙ sym (acted-concluded (senior c.args.table.now) (verb_number c.args.verb) c.args.t c.args.x c.args.table.now c.args.mail.now (sym c.in_ok-step_refusal.ensures) ∙ rw (is, ← c.delivered-k.ensures) refl)
 
 pub session_acts-r-requires : goal.session_acts-r-requires
-session_acts-r-requires c = record { judged = c.requires.2; place = c.delivered-k.ensures; found = λ a b. inside c.requires c.delivered-k.ensures c.step_refusal-cause.ensures c.if-cause-ne0.false a b }
+session_acts-r-requires c = record { judged = c.requires; place = c.delivered-k.ensures; found = λ a b. inside c.args.verb c.requires c.delivered-k.ensures c.in_ok-step_refusal.ensures a b }
 
 pub commit_session-requires : goal.commit_session-requires
 commit_session-requires c =
-    let kept = mail-kept c.args.t c.args.x c.args.table.now c.args.mail.now c.requires.2 (λ i h. omega (arith, c.slice_known-2-1.given i)) in
-    let few = acts_few (senior c.args.table.now) c.args.t (session c.args.table.now c.args.t) (juniors-whole c.args.t c.args.x c.args.table.now c.args.mail.now c.requires.2) (get_or (entries_of c.args.mail.now) c.delivered-k.result unused) c.args.verb c.args.x in
-    (has-session c.args.t c.args.x c.args.table.now c.args.mail.now c.requires.2, kept, omega (arith, ap (λ (r : SessionStep). r.outbox.n) c.session_acts-r.ensures, few))
+    let kept = mail-kept c.args.t c.args.x c.args.table.now c.args.mail.now c.requires (search rules) in
+    let few = acts_few (senior c.args.table.now) c.args.t (session c.args.table.now c.args.t) (juniors-whole c.args.t c.args.x c.args.table.now c.args.mail.now c.requires) (get_or (entries_of c.args.mail.now) c.delivered-k.result unused) (verb_number c.args.verb) c.args.x in
+    (has-session c.args.t c.args.x c.args.table.now c.args.mail.now c.requires, kept, omega (arith, ap (λ (r : SessionStep). r.outbox.n) c.session_acts-r.ensures, few))
 
-pub returns : goal.returns
-returns c =
-    let is = session_acting (senior c.args.table.now) c.args.verb c.args.t c.args.x c.args.table.now (entries_of c.args.mail.now) (ne_eqb c.args.verb 3 c.if-verb-eq-DELIVER_TO_ITEM.false) in
-    c.commit_session.ensures _ c.session_acts-r.ensures ∙ sym (acted-concluded (senior c.args.table.now) c.args.verb c.args.t c.args.x c.args.table.now c.args.mail.now (none c.requires c.delivered-k.ensures c.step_refusal-cause.ensures c.if-cause-ne0.false) ∙ rw (is, ← c.delivered-k.ensures) refl)
+pub returns-in-Request : goal.returns-in-Request
+returns-in-Request c =
+    let is = session_acting (senior c.args.table.now) (verb_number c.args.verb) c.args.t c.args.x c.args.table.now (entries_of c.args.mail.now) (ne_eqb (verb_number c.args.verb) 3 (other c.in-Request.is)) in
+    c.commit_session.ensures _ c.session_acts-r.ensures ∙ sym (acted-concluded (senior c.args.table.now) (verb_number c.args.verb) c.args.t c.args.x c.args.table.now c.args.mail.now (sym c.in_ok-step_refusal.ensures) ∙ rw (is, ← c.delivered-k.ensures) refl)

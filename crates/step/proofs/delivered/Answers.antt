@@ -1,25 +1,27 @@
 -- The route is searched for a delivery alone.
 use mathlib.Core.Path.{refl, sym, ◌∙◌}
+use mathlib.Core.Logic.{inl, inr}
 use native.Mathlib.Omega.{arith}
-use borrow.Author.Tests.{ne_eqb}
 use Rattle.mailbox.proofs.Laws.{kept-length, length-entries}
 use Rattle.step.specs.Step.{delivered}
-use Rattle.step.proofs.delivered.Goals.{in-3, in-4}
+use Rattle.step.proofs.delivered.Goals.{in-DeliverToItem, in-DeliverToSession}
 use Rattle.step.proofs.delivered.Goals as goal
 
 pub count-requires : goal.count-requires
 count-requires c =
     omega (arith, kept-length c.args.mail.now c.requires)
 
-pub returns-in_default : goal.returns-in_default
+pub returns-in-Request : goal.returns-in-Request
 unfolding delivered
-returns-in_default c = c.count.ensures ∙ sym (length-entries c.args.mail.now) ∙ rw (ne_eqb c.args.verb 3 (λ e. omega arith), ne_eqb c.args.verb 4 (λ e. omega arith)) refl
+returns-in-Request c =
+    elim c.in-Request.is
+    [ inl e ↦ rw (e) (c.count.ensures ∙ sym (length-entries c.args.mail.now)) | inr e ↦ rw (e) (c.count.ensures ∙ sym (length-entries c.args.mail.now)) ]
 
 pub returns : goal.returns
 unfolding delivered
 returns c =
     c.earliest.ensures
     ∙ elim c.match-verb.branch [
-      in-3 w ↦ rw (w.direction-is, w.in-3.is) refl
-    | in-4 w ↦ rw (w.direction-is, w.in-4.is) refl
+      in-DeliverToItem w ↦ rw (w.direction-is, w.in-DeliverToItem.is) refl
+    | in-DeliverToSession w ↦ rw (w.direction-is, w.in-DeliverToSession.is) refl
     ]

@@ -7,6 +7,7 @@ use lib.ListN.{length}
 use Rattle.buffer.specs.Bytes.{splice}
 use Rattle.text.specs.Text.{line}
 use Rattle.program.proofs.Laws.{at-start_short, at-start-long}
+use Rattle.refusal.proofs.Outcome.{number-positive}
 use Rattle.yearly.specs.Printed as Printed
 use Rattle.yearly.specs.Printed.{longest}
 use Rattle.yearly.proofs.Laws.{statement-refused, refusal_short}
@@ -23,20 +24,20 @@ returns-then-out-lt-LONGEST c =
 
 pub put_line-requires : goal.put_line-requires
 put_line-requires c =
-    let j = c.judge-cause in
-    let e = refused c.args.input.now (omega arith) j.ensures c.if-cause-ne0.true in omega (arith, e.0, c.if-out-lt-LONGEST.false)
+    let j = c.from-in-Err.ensures ∙ c.from.ensures ∙ c.in-Err.ensures in
+    let e = refused c.args.input.now (omega arith) j (λ z. number-positive c.in-Err.cause (sym (c.from-in-Err.ensures ∙ c.from.ensures) ∙ z)) in omega (arith, e.0, c.if-out-lt-LONGEST.false)
 
-pub returns-then-cause-ne0 : goal.returns-then-cause-ne0
-returns-then-cause-ne0 c =
+pub returns-in-Err : goal.returns-in-Err
+returns-in-Err c =
     let a = c.args in
     let w = c.put_line.ensures in
-    let j = c.judge-cause in
-    let e = refused c.args.input.now (omega arith) j.ensures c.if-cause-ne0.true in
+    let j = c.from-in-Err.ensures ∙ c.from.ensures ∙ c.in-Err.ensures in
+    let e = refused c.args.input.now (omega arith) j (λ z. number-positive c.in-Err.cause (sym (c.from-in-Err.ensures ∙ c.from.ensures) ∙ z)) in
     at-start-long longest (Printed.statement a.input.now) a.out.now (omega (arith, c.if-out-lt-LONGEST.false)) (omega (arith, e.0, ap length e.1))
     (w.0 ∙ ap (splice a.out.now 0) e.1) (omega (arith, w.1, ap length e.1))
 
-pub returns : goal.returns
-returns c =
+pub returns-in-Ok : goal.returns-in-Ok
+returns-in-Ok c =
     let a = c.args in
     let w = c.put_statement.ensures in
     at-start-long longest (Printed.statement a.input.now) a.out.now (omega (arith, c.if-out-lt-LONGEST.false)) (omega (arith, w.1, w.2)) w.0 w.1

@@ -5,7 +5,7 @@ use Rattle.mailbox.specs.Layout as Mail
 use Rattle.table.specs.Layout as Table
 use Rattle.table.proofs.Laws as TableLaws
 use Rattle.refusal.specs.Refusal.{first}
-use Rattle.lockmgr.proofs.buffers_refusal.Goals as goal
+use Rattle.lockmgr.proofs.judge_buffers.Goals as goal
 
 pub returns-then-not-sized : goal.returns-then-not-sized
 unfolding first
