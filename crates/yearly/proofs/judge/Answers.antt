@@ -10,9 +10,6 @@ use Rattle.yearly.proofs.judge.Goals as goal
 pub returns-then-not-sized : goal.returns-then-not-sized
 returns-then-not-sized c = sym (not-sized c.args.input.now (sym c.sized.ensures ∙ c.if-not-sized.true))
 
-pub of-days-requires : goal.of-days-requires
-of-days-requires c = sym c.sized.ensures ∙ c.if-not-sized.false
-
 pub returns-then-inconsistent : goal.returns-then-inconsistent
 returns-then-inconsistent c =
     let whole : sized c.args.input.now ≡ true = sym c.sized.ensures ∙ c.if-not-sized.false in

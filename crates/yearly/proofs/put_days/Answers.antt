@@ -15,9 +15,6 @@ pub loop-day-init : goal.loop-day-init
 unfolding append_up_to
 loop-day-init c = (0, refl, omega arith, refl, sym (splice-none c.args.out.now 0), refl, omega arith)
 
-pub day-r-requires : goal.day-r-requires
-day-r-requires c = let l = c.loop-day in (omega (arith, l.invariant.1), omega arith)
-
 pub put_line-at-requires : goal.put_line-at-requires
 unfolding day_line
 put_line-at-requires c =
@@ -48,13 +45,3 @@ loop-day-preserved c =
       omega (arith, w.ensures.1, l.invariant.5, ap length day),
       omega (arith, w.ensures.1, l.invariant.6),
     )
-
-pub shape_of-out : goal.shape_of-out
-shape_of-out c = c.loop-day.invariant.3
-
-pub returns : goal.returns
-returns c =
-    let l = c.loop-day in
-    let n = c.args.days.now.n in
-    let all : l.invariant.0 ≡ n = omega (arith, l.invariant.1, l.invariant.2, c.loop-day-test.false) in
-    (rw all at l.invariant.4, rw all at l.invariant.5, omega (arith, l.invariant.6))

@@ -1,5 +1,4 @@
 -- `DayList::is_consistent` meets its contract: each day is tested.
-use mathlib.Core.Path.{◌∙◌}
 use Rattle.std.proofs.Common.{rules, tests}
 use Rattle.lists.proofs.Ranges.{all_up_to}
 use Rattle.yearly.specs.Input.{days_in, consistent_day, consistent}

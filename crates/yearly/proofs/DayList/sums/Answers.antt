@@ -12,19 +12,6 @@ pub loop-day-init : goal.loop-day-init
 unfolding sum_up_to
 loop-day-init c = (0, refl, omega arith, refl, refl, omega arith, omega arith)
 
-pub day-r-requires : goal.day-r-requires
-day-r-requires c = let l = c.loop-day in (omega (arith, l.invariant.1), omega arith)
-
-pub overflow_add-sum : goal.overflow_add-sum
-overflow_add-sum c =
-    let l = c.loop-day in
-    omega (arith, c.args.self.now.sized.few, l.invariant.2, l.invariant.5, c.day-r.ensures.1)
-
-pub overflow_add-sum-in-loop-day : goal.overflow_add-sum-in-loop-day
-overflow_add-sum-in-loop-day c =
-    let l = c.loop-day in
-    omega (arith, c.args.self.now.sized.few, l.invariant.2, l.invariant.6, c.day-r.ensures.2)
-
 pub loop-day-preserved : goal.loop-day-preserved
 unfolding sum_up_to
 loop-day-preserved c =
