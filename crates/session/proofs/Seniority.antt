@@ -5,11 +5,9 @@ use mathlib.Core.List.{List, [], ◌∷◌, ◌++◌}
 use Prim.Native.Nat.{ℕ, suc, ◌-◌, ◌≤◌, ◌<◌}
 use native.Mathlib.Omega.{arith}
 use lib.Dec.{ltb}
-use borrow.Author.Tests.{ltb-true, ltb-false}
-use Rattle.std.proofs.lemmas.List.{get_or_default, get_or_past}
 use lib.ListN.{length, get_or, take}
 use Rattle.lists.specs.Lists.{between, member, all_of, distinct}
-use Rattle.lists.proofs.Tests.{fails, by_answer, and_both, and_intro, within, between_intro}
+use Rattle.lists.proofs.Tests.{and_both, and_intro, within, between_intro}
 use Rattle.lists.proofs.Laws.{all_get_d, all_intro, get_d_tabulate, length-tabulate, tabulate-last, take-tabulate, distinct_apart, distinct_intro}
 use Rattle.lists.proofs.Searches.{distinct-all}
 use Rattle.lists.proofs.Orders.{StrictWeak, StrictTotal, measured, measured-total}
@@ -31,17 +29,6 @@ module _ (ranks : List ℕ) where
   pub rank_outside : (t : ℕ) → between 1 n t ≡ false → rank ranks t ≡ t
   unfolding rank
   rank_outside t e = rw (e) refl
-
-  -- the number 0 is no session's
-  pub rank_none : (t : ℕ) → t < 1 → rank ranks t ≡ t
-  rank_none t h = rank_outside t (fails _ (λ e. omega (arith, within 1 n t e)))
-
-  -- any other number's rank is read in its place, or else is the number
-  pub rank_read : (t k : ℕ) → t ≡ suc k → get_or ranks k t ≡ rank ranks t
-  rank_read t k h = by_answer (ltb k n)
-      (λ e. let inside = ltb-true k n e in let place : t - 1 ≡ k = omega arith in
-      get_or_default ranks k t 0 inside ∙ rw (← place) (sym (rank-inside t (between_intro 1 n t (omega arith) (omega arith)))))
-      (λ e. let past = ltb-false k n e in get_or_past ranks k t (omega arith) ∙ sym (rank_outside t (fails _ (λ w. omega (arith, within 1 n t w)))))
 
   module _ (w : well_formed ranks ≡ true) where
     facts : (all_of (between 1 n) ranks ≡ true) × (distinct ranks ≡ true)

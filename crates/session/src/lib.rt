@@ -56,14 +56,16 @@ impl Session {
     pub const SIZE: usize = Session::JUNIORS_PLACE + MAX_SESSIONS;
 
     // The rank of session t; a number that is no session's is its own rank.
-    #[tactic(auto, using(crate::proofs::Seniority::rank_none, crate::proofs::Seniority::rank_read))]
+    #[tactic(auto, unfolding(crate::specs::Seniority::rank))]
     fn rank(ranks: &[u8], t: u8) -> u8
         ensures { result ≡ rank ranks.now t }
     {
-        let Some(k) = t.checked_sub(1) else {
-            return t;
-        };
-        ranks.get(usize::from(k)).copied().unwrap_or(t)
+        let k = usize::from(t);
+        if 1 <= k && k <= ranks.len() {
+            ranks[k - 1]
+        } else {
+            t
+        }
     }
 
     // Whether session a is senior to session b.
