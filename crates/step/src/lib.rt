@@ -66,6 +66,8 @@ pub const DELIVER_TO_ITEM: u64 = 3;
 pub const DELIVER_TO_SESSION: u64 = 4;
 
 // The place of the entry that a step delivers, or the number of entries.
+// Never inlined: with the search in it, `act` would take 5% longer for each small step.
+#[inline(never)]
 fn delivered(verb: u64, t: u8, x: u8, mail: &[u8]) -> usize
     requires { Kept mail.now }
     ensures { result ≡ delivered verb t x (entries_of mail.now) }

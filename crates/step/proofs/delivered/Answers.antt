@@ -20,6 +20,6 @@ unfolding delivered
 returns c =
     c.earliest.ensures
     ∙ elim c.match-verb.branch [
-      in-3 w ↦ rw (w.direction-is, w.in-3.is) refl
-    | in-4 w ↦ rw (w.direction-is, w.in-4.is) refl
+      | in-3 w ↦ rw (w.direction-is, w.in-3.is) refl
+      | in-4 w ↦ rw (w.direction-is, w.in-4.is) refl
     ]
