@@ -22,6 +22,6 @@ unfolding delivered
 returns c =
     c.earliest.ensures
     ∙ elim c.match-verb.branch [
-      in-DeliverToItem w ↦ rw (w.direction-is, w.in-DeliverToItem.is) refl
-    | in-DeliverToSession w ↦ rw (w.direction-is, w.in-DeliverToSession.is) refl
+      | in-DeliverToItem w ↦ rw (w.direction-is, w.in-DeliverToItem.is) refl
+      | in-DeliverToSession w ↦ rw (w.direction-is, w.in-DeliverToSession.is) refl
     ]
