@@ -55,7 +55,7 @@ pub fn places(t: &[u8]) -> [u8; MAX_SESSIONS]
     ensures { result ≡ places t.now }
 {
     let mut at = [0u8; MAX_SESSIONS];
-    for x in 1..=table::items(t) {
+    for x in 1..table::items(t) + 1 {
         mark(t, &mut at, x);
     }
     at

@@ -11,6 +11,9 @@ use Rattle.waits.proofs.places.Goals as goal
 pub items-x-end-requires : goal.items-x-end-requires
 items-x-end-requires c = header-fits c.args.t.now c.requires.sized
 
+pub overflow_add-x-end : goal.overflow_add-x-end
+overflow_add-x-end c = omega (arith, c.items-x-end.ensures, (sized-facts c.args.t.now c.requires.sized).max-items)
+
 pub loop-x-init : goal.loop-x-init
 loop-x-init c = places-none c.args.t.now
 
