@@ -87,7 +87,7 @@ pub fn put_bytes(t: &mut [u8], at: usize, bytes: &[u8]) -> usize
     requires { at + length bytes.now ≤ length t.old }
     ensures { (t.new ≡ splice t.old at bytes.now) × (result ≡ at + length bytes.now) }
 {
-    // Kept as a loop: a text known where it is written becomes a few stores. With copy_from_slice the text of a cycle took 6% longer.
+    // Kept as a loop: a text known where it is written becomes a few stores. With copy_from_slice the text of a cycle took 4% longer.
     for (i, &b) in bytes.iter().enumerate() {
         t[at + i] = b;
     }
