@@ -5,14 +5,6 @@ ghost use Rattle.std.specs.Prelude.{◌≡◌, ◌+◌, ◌≤◌, ◌<◌, eqb,
 ghost use Rattle.lists.specs.Lists.{all_of};
 ghost use Rattle.buffer.specs.Bytes.{slice, from_bytes, to_bytes, splice};
 
-// The byte at i, as a wide number.
-pub fn byte(t: &[u8], i: usize) -> u64
-    requires { i < length t.now }
-    ensures { (result ≡ get_or t.now i 0) × (result < 256) }
-{
-    u64::from(t[i])
-}
-
 // The number of two bytes at `at`.
 pub fn get16(t: &[u8], at: usize) -> u64
     requires { at + 2 ≤ length t.now }

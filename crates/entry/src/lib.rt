@@ -245,7 +245,7 @@ fn cut_one(m: &mut [u8], from: usize, len: usize)
     put(m, from + end, 0, 0, 0);
 }
 
-// Takes `by` bytes out at `from`: the rest of the len bytes move down, and zeros follow. One route or body goes by its own loop, anything else in rows of 64.
+// Takes `by` bytes out at `from`: the rest of the len bytes move down, and zeros follow. One route or body goes by its own loop, anything else at once.
 pub fn cut(m: &mut [u8], from: usize, by: usize, len: usize)
     requires { (from + len ≤ length m.old) × (by ≤ len) }
     ensures { m.new ≡ splice m.old from (padded len (drop by (slice m.old from len))) }
