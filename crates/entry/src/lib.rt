@@ -1,7 +1,7 @@
 // The entries of the mailbox (01: mail), three bytes of a route and three of a body each: their form, the search for a route, bytes taken out and put in.
 #![tactic(auto)]
 
-ghost use Rattle.std.specs.Prelude.{◌≡◌, true, false, [], ◌∷◌, ◌+◌, ◌*◌, ◌≤◌, ◌<◌, length, drop};
+ghost use Rattle.std.specs.Prelude.{◌≡◌, true, false, [], ◌∷◌, ◌+◌, ◌*◌, ◌≤◌, ◌<◌, length, drop, MatchOption};
 ghost use Rattle.buffer.specs.Bytes.{slice, splice, padded};
 ghost use Rattle.lists.specs.Lists.{every_below};
 ghost use Rattle.entry.specs.Entry as Entry;
@@ -204,21 +204,23 @@ fn passed(
     from + BLOCK_ENTRIES * blocks
 }
 
-// The place of the first of n entries that is on the route, or n; the routes stand from `at` on.
+// The place of the first of n entries that is on the route; the routes stand from `at` on.
 // Blocks are passed by the item alone up to one that has it, from there by item and session up to one that has both in an entry, from there by the whole route; then the entries one by one.
-pub fn first(m: &[u8], at: usize, n: usize, route: Route) -> usize
+pub fn first(m: &[u8], at: usize, n: usize, route: Route) -> Option<usize>
     requires { at + width * n ≤ length m.now }
-    ensures { (result ≤ n) × (every_below result (λ k. misses m.now route.direction route.session route.item (at + width * k)) ≡ true) × (result < n → misses m.now route.direction route.session route.item (at + width * result) ≡ false) }
+    ensures { MatchOption result
+        (every_below n (λ k. misses m.now route.direction route.session route.item (at + width * k)) ≡ true)
+        (λ r. (r < n) × (every_below r (λ k. misses m.now route.direction route.session route.item (at + width * k)) ≡ true) × (misses m.now route.direction route.session route.item (at + width * r) ≡ false)) }
 {
     let skips = thrice(0, 1, 1);
     let by_item = passed(m, at, 0, n, 1, route, &skips);
     let by_session = passed(m, at, by_item, n, 2, route, &skips);
     for i in passed(m, at, by_session, n, 3, route, &skips)..n {
         if !off(m, at + WIDTH * i, route) {
-            return i;
+            return Some(i);
         }
     }
-    n
+    None
 }
 
 // Writes a route or a body at `at`.

@@ -1,7 +1,7 @@
 // The mailbox (01: mail) in a lent buffer: well-formedness, the earliest entry of a route, take, append.
 #![tactic(auto)]
 
-ghost use Rattle.std.specs.Prelude.{◌≡◌, true, cond, List, [], ◌∷◌, ◌++◌, map, ◌≤◌, ◌<◌, eqb, length};
+ghost use Rattle.std.specs.Prelude.{◌≡◌, true, cond, List, [], ◌∷◌, ◌++◌, map, ◌≤◌, ◌<◌, eqb, length, MatchOption};
 ghost use Rattle.lists.specs.Lists.{remove_at, without_places};
 ghost use Rattle.message.specs.declared.Message.{Message};
 ghost use Rattle.message.specs.Outbox.{message, outbox_of};
@@ -96,11 +96,13 @@ pub fn well_formed(m: &[u8], sessions: u8, items: u8) -> bool
         && buffer::is_zero(m, body_place(c, n), left)
 }
 
-// The place of the earliest entry of a route, or the number of entries.
+// The place of the earliest entry of a route.
 #[tactic(auto, using(crate::proofs::Laws::lengths))]
-pub fn earliest(m: &[u8], route: Route) -> usize
+pub fn earliest(m: &[u8], route: Route) -> Option<usize>
     requires { Kept m.now }
-    ensures { result ≡ earliest route.direction route.session route.item (entries_of m.now) }
+    ensures { MatchOption result
+        (earliest route.direction route.session route.item (entries_of m.now) ≡ length (entries_of m.now))
+        (λ k. (k ≡ earliest route.direction route.session route.item (entries_of m.now)) × (k < count_of m.now)) }
 {
     entry::first(m, HEADER, count(m), route)
 }

@@ -1,5 +1,6 @@
 -- What the parts of the code ask of each other and leave. No part of the promise.
-use Rattle.std.specs.Prelude.{ℕ, ◌+◌, ◌≤◌, ◌<◌, ◌≡◌, false, cond, List, ltb, length}
+use Rattle.std.specs.Prelude.{ℕ, ◌+◌, ◌≤◌, ◌<◌, ◌≡◌, true, false, cond, List, ltb, length, Option, Some, None, IfSome, is_some}
+use Rattle.lists.specs.Lists.{remove_at}
 use Rattle.session.specs.Rules as Session
 use Rattle.item.specs.Record.{Packed}
 use Rattle.mailbox.specs.Entry.{Entry, seen_by_session}
@@ -22,11 +23,25 @@ pub record Unhindered (verb t x : ℕ) (table : List ℕ) (entries : List Entry)
   pub mask : mask_forbids verb x (Table.session table t).held ≡ false
   pub route : nothing_to_deliver verb (delivered verb t x entries) entries ≡ false
 
--- a step was judged, k is the place of what it delivers, and a delivery finds an entry there
-pub record Acting (verb t x k : ℕ) (table mail : List ℕ) : Type 0 where
+-- the place of an entry, past the end where there is none
+abbrev pub place_of : Option ℕ → List Entry → ℕ
+place_of (Some k) l = k
+place_of None l = length l
+
+-- the entries without that one
+abbrev pub without : Option ℕ → List Entry → List Entry
+without o l = remove_at (place_of o l) l
+
+-- o is the place of the entry that a step delivers
+pub record Found (verb t x : ℕ) (o : Option ℕ) (mail : List ℕ) : Type 0 where
+  pub place : place_of o (Mail.entries_of mail) ≡ delivered verb t x (Mail.entries_of mail)
+  pub inside : IfSome o (λ k. k < Mail.count_of mail)
+
+-- a step was judged, o is the place of what it delivers, and a delivery finds an entry there
+pub record Acting (verb t x : ℕ) (o : Option ℕ) (table mail : List ℕ) : Type 0 where
   pub judged : Judged t x table mail
-  pub place : k ≡ delivered verb t x (Mail.entries_of mail)
-  pub found : (verb ≡ request → ⊥) → (verb ≡ release → ⊥) → k < Mail.count_of mail
+  pub found : Found verb t x o mail
+  pub some : (verb ≡ request → ⊥) → (verb ≡ release → ⊥) → is_some o ≡ true
 
 -- entry k of the mail is there for item x, whose record is well-formed, and for session t
 pub record ForItem (x k : ℕ) (table mail : List ℕ) : Type 0 where

@@ -1,22 +1,21 @@
 // One step on buffers that were judged: a request, a release or a delivery.
 #![tactic(auto)]
 
-ghost use Rattle.std.specs.Prelude.{◌≡◌, true, cond, not, ◌≤◌, eqb, length, get_or};
-ghost use Rattle.lists.specs.Lists.{remove_at};
+ghost use Rattle.std.specs.Prelude.{◌≡◌, ◌<◌, true, cond, not, ◌≤◌, eqb, length, get_or, IfSome};
 ghost use Rattle.message.specs.Limits.{max_items};
 ghost use Rattle.message.specs.Outbox.{room};
 ghost use Rattle.session.specs.Rules as SessionRules;
 ghost use Rattle.item.specs.Rules as ItemRules;
 ghost use Rattle.mailbox.specs.Entry.{unused};
-ghost use Rattle.mailbox.specs.Layout.{capacity_of, entry_at, entries_of, mail_bytes, Kept};
+ghost use Rattle.mailbox.specs.Layout.{capacity_of, count_of, entry_at, entries_of, mail_bytes, Kept};
 ghost use Rattle.table.specs.Layout.{HasSession, HasItem, Formed, sessions_of, session, senior, well_formed, with_item};
 ghost use Rattle.waits.specs.OnTable.{locks, cycle_length};
 ghost use Rattle.refusal.specs.Refusal.{first};
 ghost use Rattle.refusal.specs.Number.{outcome};
 ghost use Rattle.step.specs.Verb.{verb_number, Names};
 ghost use Rattle.step.specs.Told.{told};
-ghost use Rattle.step.specs.Step.{refused_answer, accepted_answer, delivered, item_receives, session_receives, session_acts, stage_forbids, mask_forbids, nothing_to_deliver, step_causes, session_plan, item_plan, stepped, answered, acted};
-ghost use Rattle.step.specs.Parts.{Judged, Acting, ForItem, ForSession, fitting, room_made, concluded};
+ghost use Rattle.step.specs.Step.{refused_answer, accepted_answer, item_receives, session_receives, session_acts, stage_forbids, mask_forbids, is_delivery, step_causes, session_plan, item_plan, stepped, answered, acted};
+ghost use Rattle.step.specs.Parts.{Judged, Found, Acting, place_of, without, ForItem, ForSession, fitting, room_made, concluded};
 
 use item::{Event, ItemStep};
 use mailbox::Route;
@@ -30,6 +29,14 @@ pub enum Verb {
     Release,
     DeliverToItem,
     DeliverToSession,
+}
+
+impl Verb {
+    fn is_delivery(self) -> bool
+        ensures { result ≡ is_delivery (verb_number self) }
+    {
+        matches!(self, Verb::DeliverToItem | Verb::DeliverToSession)
+    }
 }
 
 impl TryFrom<u64> for Verb {
@@ -85,17 +92,17 @@ impl Answer {
     }
 }
 
-// The place of the entry that a step delivers, or the number of entries.
+// The place of the entry that a step delivers.
 // Never inlined: with the search in it, `act` would take 5% longer for each small step.
 #[inline(never)]
-fn delivered(verb: Verb, t: u8, x: u8, mail: &[u8]) -> usize
+fn delivered(verb: Verb, t: u8, x: u8, mail: &[u8]) -> Option<usize>
     requires { Kept mail.now }
-    ensures { result ≡ delivered (verb_number verb) t x (entries_of mail.now) }
+    ensures { Found (verb_number verb) t x result mail.now }
 {
     let direction = match verb {
         Verb::DeliverToItem => mailbox::TO_ITEM,
         Verb::DeliverToSession => mailbox::TO_SESSION,
-        Verb::Request | Verb::Release => return mailbox::count(mail),
+        Verb::Request | Verb::Release => return None,
     };
     let route = Route {
         direction,
@@ -129,27 +136,16 @@ fn mask_forbids(verb: Verb, x: u8, held: u64) -> bool
     }
 }
 
-// Whether a delivery finds no entry: k is the place of what the step delivers.
-fn nothing_to_deliver(verb: Verb, k: usize, mail: &[u8]) -> bool
-    requires { Kept mail.now }
-    ensures { result ≡ nothing_to_deliver (verb_number verb) k (entries_of mail.now) }
-{
-    match verb {
-        Verb::Request | Verb::Release => false,
-        Verb::DeliverToItem | Verb::DeliverToSession => k == mailbox::count(mail),
-    }
-}
-
-// The causes that lie in the step itself, but for room, in their order; k is the place of the entry that it delivers.
+// The causes that lie in the step itself, but for room, in their order; `entry` is the place of the entry that it delivers.
 fn step_refusal(
     verb: Verb,
     t: u8,
     x: u8,
-    k: usize,
+    entry: Option<usize>,
     table: &[u8],
     mail: &[u8],
 ) -> Result<(), Refusal>
-    requires { Judged t x table.now mail.now × (k ≡ delivered (verb_number verb) t x (entries_of mail.now)) }
+    requires { Judged t x table.now mail.now × Found (verb_number verb) t x entry mail.now }
     ensures { outcome result ≡ first (step_causes (verb_number verb) t x table.now (entries_of mail.now)) }
 {
     let s = table::session(table, t);
@@ -161,7 +157,7 @@ fn step_refusal(
     if masked {
         return Err(Refusal::WrongItem);
     }
-    if nothing_to_deliver(verb, k, mail) {
+    if verb.is_delivery() && entry.is_none() {
         return Err(Refusal::NoMessage);
     }
     Ok(())
@@ -183,66 +179,73 @@ pub fn session_receives(t: u8, k: usize, table: &[u8], mail: &[u8]) -> SessionSt
     table::session(table, t).receive(table::ranks(table), t, mailbox::message_to_session(mail, k))
 }
 
-// What session t does in a step.
-fn session_acts(verb: Verb, t: u8, x: u8, k: usize, table: &[u8], mail: &[u8]) -> SessionStep
-    requires { Acting (verb_number verb) t x k table.now mail.now }
-    ensures { result ≡ SessionRules.step_of (session_acts (senior table.now) (verb_number verb) t x (session table.now t) (get_or (entries_of mail.now) k unused)) }
+// What session t does in a step; `entry` is the place of the entry that it delivers.
+fn session_acts(
+    verb: Verb,
+    t: u8,
+    x: u8,
+    entry: Option<usize>,
+    table: &[u8],
+    mail: &[u8],
+) -> SessionStep
+    requires { Acting (verb_number verb) t x entry table.now mail.now }
+    ensures { result ≡ SessionRules.step_of (session_acts (senior table.now) (verb_number verb) t x (session table.now t) (get_or (entries_of mail.now) (place_of entry (entries_of mail.now)) unused)) }
 {
     match verb {
         Verb::Request => table::session(table, t).request(x),
         Verb::Release => table::session(table, t).release(x),
-        Verb::DeliverToItem | Verb::DeliverToSession => session_receives(t, k, table, mail),
+        Verb::DeliverToItem | Verb::DeliverToSession => {
+            session_receives(t, entry.unwrap(), table, mail)
+        }
     }
 }
 
-// How many entries are left without entry k; past the end none goes.
-fn left(mail: &[u8], k: usize) -> usize
-    requires { Kept mail.now }
-    ensures { result ≡ length (remove_at k (entries_of mail.now)) }
+// How many entries are left without the one at this place.
+fn left(mail: &[u8], entry: Option<usize>) -> usize
+    requires { Kept mail.now × IfSome entry (λ k. k < count_of mail.now) }
+    ensures { result ≡ length (without entry (entries_of mail.now)) }
 {
-    let count = mailbox::count(mail);
-    if k < count { count - 1 } else { count }
+    mailbox::count(mail) - usize::from(entry.is_some())
 }
 
-// Takes out entry k; past the end none goes.
-fn take(mail: &mut [u8], k: usize)
-    requires { Kept mail.old }
-    ensures { mail.new ≡ mail_bytes (capacity_of mail.old) (remove_at k (entries_of mail.old)) }
+// Takes out the entry at this place.
+fn take(mail: &mut [u8], entry: Option<usize>)
+    requires { Kept mail.old × IfSome entry (λ k. k < count_of mail.old) }
+    ensures { mail.new ≡ mail_bytes (capacity_of mail.old) (without entry (entries_of mail.old)) }
 {
-    if mailbox::count(mail) <= k {
-        return;
+    if let Some(k) = entry {
+        mailbox::remove(mail, k);
     }
-    mailbox::remove(mail, k);
 }
 
-// If n entries more have room once entry k is out, takes it out.
-fn make_room(mail: &mut [u8], k: usize, n: usize) -> Result<(), Refusal>
-    requires { Kept mail.old × (n ≤ room) }
-    ensures { fitting (outcome result) mail.new ≡ room_made mail.old (remove_at k (entries_of mail.old)) n }
+// If n entries more have room once the entry at this place is out, takes it out.
+fn make_room(mail: &mut [u8], entry: Option<usize>, n: usize) -> Result<(), Refusal>
+    requires { Kept mail.old × (n ≤ room) × IfSome entry (λ k. k < count_of mail.old) }
+    ensures { fitting (outcome result) mail.new ≡ room_made mail.old (without entry (entries_of mail.old)) n }
 {
-    if mailbox::capacity(mail) < left(mail, k) + n {
+    if mailbox::capacity(mail) < left(mail, entry) + n {
         return Err(Refusal::MailFull);
     }
-    take(mail, k);
+    take(mail, entry);
     Ok(())
 }
 
 // Session t has stepped: the messages and the record are written, if there is room.
 fn commit_session(
     t: u8,
-    k: usize,
+    entry: Option<usize>,
     r: SessionStep,
     table: &mut [u8],
     mail: &mut [u8],
 ) -> Result<Answer, Refusal>
-    requires { HasSession table.old t × Kept mail.old × (r.outbox.n ≤ room) }
+    requires { HasSession table.old t × Kept mail.old × (r.outbox.n ≤ room) × IfSome entry (λ k. k < count_of mail.old) }
     ensures { (w : SessionRules.After) → r ≡ SessionRules.step_of w
-        → stepped (told result) table.new mail.new ≡ concluded t table.old mail.old (session_plan t table.old (remove_at k (entries_of mail.old)) w) }
+        → stepped (told result) table.new mail.new ≡ concluded t table.old mail.old (session_plan t table.old (without entry (entries_of mail.old)) w) }
 {
     let outbox = r.outbox;
     let session = r.session;
     let sent = outbox.n;
-    make_room(mail, k, sent)?;
+    make_room(mail, entry, sent)?;
     mailbox::post(mail, mailbox::TO_ITEM, t, outbox);
     table::put_session(table, t, session);
     Ok(Answer::accepted(sent as u8, 0, 0, 0))
@@ -252,20 +255,20 @@ fn commit_session(
 fn commit_item(
     t: u8,
     x: u8,
-    k: usize,
+    entry: Option<usize>,
     r: ItemStep,
     table: &mut [u8],
     mail: &mut [u8],
 ) -> Result<Answer, Refusal>
-    requires { HasSession table.old t × HasItem table.old x × (well_formed (with_item table.old x r.item) ≡ true) × Kept mail.old × (r.outbox.n ≤ room) }
+    requires { HasSession table.old t × HasItem table.old x × (well_formed (with_item table.old x r.item) ≡ true) × Kept mail.old × (r.outbox.n ≤ room) × IfSome entry (λ k. k < count_of mail.old) }
     ensures { (w : ItemRules.After) → r ≡ ItemRules.step_of w
-        → stepped (told result) table.new mail.new ≡ concluded t table.old mail.old (item_plan x table.old (remove_at k (entries_of mail.old)) w) }
+        → stepped (told result) table.new mail.new ≡ concluded t table.old mail.old (item_plan x table.old (without entry (entries_of mail.old)) w) }
 {
     let outbox = r.outbox;
     let item = r.item;
     let event = r.event;
     let sent = outbox.n;
-    make_room(mail, k, sent)?;
+    make_room(mail, entry, sent)?;
     mailbox::post(mail, mailbox::TO_SESSION, x, outbox);
     table::put_item(table, x, item);
     Ok(answer_of(t, sent as u8, event, table))
@@ -296,16 +299,16 @@ pub fn act(verb: Verb, t: u8, x: u8, table: &mut [u8], mail: &mut [u8]) -> Resul
     requires { Judged t x table.old mail.old }
     ensures { stepped (told result) table.new mail.new ≡ acted (senior table.old) (verb_number verb) t x table.old mail.old }
 {
-    let k = delivered(verb, t, x, mail);
-    step_refusal(verb, t, x, k, table, mail)?;
+    let entry = delivered(verb, t, x, mail);
+    step_refusal(verb, t, x, entry, table, mail)?;
     match verb {
         Verb::DeliverToItem => {
-            let r = item_receives(x, k, table, mail);
-            commit_item(t, x, k, r, table, mail)
+            let r = item_receives(x, entry.unwrap(), table, mail);
+            commit_item(t, x, entry, r, table, mail)
         }
         Verb::Request | Verb::Release | Verb::DeliverToSession => {
-            let r = session_acts(verb, t, x, k, table, mail);
-            commit_session(t, k, r, table, mail)
+            let r = session_acts(verb, t, x, entry, table, mail);
+            commit_session(t, entry, r, table, mail)
         }
     }
 }

@@ -15,4 +15,4 @@ loop-i-preserved c = (omega arith, rw (below_more, c.loop-i.invariant.1, ← c.o
 pub returns : goal.returns
 returns c =
     let end : c.loop-i.i ≡ c.args.n = omega arith in
-    (omega arith, rw (← end) c.loop-i.invariant.1, λ h. absurd (omega arith))
+    rw (← end) c.loop-i.invariant.1

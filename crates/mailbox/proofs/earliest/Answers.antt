@@ -6,4 +6,4 @@ pub returns : goal.returns
 returns c =
     let a = c.args in
     let f = c.first.ensures in
-    earliest-found a.m.now a.route.direction a.route.session a.route.item c.count.ensures f
+    earliest-found a.m.now a.route.direction a.route.session a.route.item c.first.result c.count.ensures f

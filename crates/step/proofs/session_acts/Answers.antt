@@ -21,11 +21,14 @@ pub release-requires : goal.release-requires
 release-requires c =
     (c.requires.judged.item-low, item-max c.args.t c.args.x c.args.table.now c.args.mail.now c.requires.judged)
 
+pub unwrap-requires : goal.unwrap-requires
+unwrap-requires c = delivery c.in-DeliverToItem.is c.requires.some
+
 pub session_receives-requires : goal.session_receives-requires
 session_receives-requires c =
-    let inside : c.args.k < count_of c.args.mail.now = delivery c.in-DeliverToItem.is c.requires.found in
+    let inside : c.unwrap.result < count_of c.args.mail.now = rw c.unwrap.ensures at c.requires.found.inside in
     let kept = mail-kept c.args.t c.args.x c.args.table.now c.args.mail.now c.requires.judged (λ i h. omega (arith, c.type_inv.mail i)) in
-    for-session c.args.t c.args.x c.args.table.now c.args.mail.now c.requires.judged c.args.k (record { kept = kept; inside = inside })
+    for-session c.args.t c.args.x c.args.table.now c.args.mail.now c.requires.judged c.unwrap.result (record { kept = kept; inside = inside })
 
 pub returns-in-Request : goal.returns-in-Request
 unfolding session_acts
@@ -38,7 +41,8 @@ returns-in-Release c = c.release.ensures ∙ rw (c.session-in-Release.ensures, c
 pub returns-in-DeliverToItem : goal.returns-in-DeliverToItem
 unfolding session_acts
 returns-in-DeliverToItem c =
-    let inside : c.args.k < count_of c.args.mail.now = delivery c.in-DeliverToItem.is c.requires.found in
+    let inside : c.unwrap.result < count_of c.args.mail.now = rw c.unwrap.ensures at c.requires.found.inside in
     c.session_receives.ensures.0
-    ∙ elim c.in-DeliverToItem.is
-    [ inl e ↦ rw (e, get_d_entries c.args.mail.now c.args.k inside) refl | inr e ↦ rw (e, get_d_entries c.args.mail.now c.args.k inside) refl ]
+    ∙ rw c.unwrap.ensures
+    (elim c.in-DeliverToItem.is
+    [ inl e ↦ rw (e, get_d_entries c.args.mail.now c.unwrap.result inside) refl | inr e ↦ rw (e, get_d_entries c.args.mail.now c.unwrap.result inside) refl ])
