@@ -1,5 +1,4 @@
 -- Laws of the numbers of the verbs.
-use mathlib.Core.Path.{◌≡◌}
 use Prim.Native.Nat.{◌≤◌}
 use native.Mathlib.Omega.{arith}
 use Rattle.step.specs.declared.Verb.{Verb}

@@ -170,7 +170,7 @@ fn step_refusal(
 // What item x does on entry k.
 pub fn item_receives(x: u8, k: usize, table: &[u8], mail: &[u8]) -> ItemStep
     requires { ForItem x k table.now mail.now }
-    ensures { (result ≡ ItemRules.step_of (item_receives (senior table.now) (locks table.now x) (entry_at mail.now k))) × (result.outbox.n ≤ room) }
+    ensures { (result ≡ ItemRules.step_of (item_receives (senior table.now) (locks table.now x) (entry_at mail.now k))) × (length result.outbox ≤ room) }
 {
     table::item(table, x).receive(table::ranks(table), mailbox::message_to_item(mail, k))
 }
@@ -178,7 +178,7 @@ pub fn item_receives(x: u8, k: usize, table: &[u8], mail: &[u8]) -> ItemStep
 // What session t does on entry k.
 pub fn session_receives(t: u8, k: usize, table: &[u8], mail: &[u8]) -> SessionStep
     requires { ForSession t k table.now mail.now }
-    ensures { (result ≡ SessionRules.step_of (session_receives (senior table.now) t (session table.now t) (entry_at mail.now k))) × (result.outbox.n ≤ room) }
+    ensures { (result ≡ SessionRules.step_of (session_receives (senior table.now) t (session table.now t) (entry_at mail.now k))) × (length result.outbox ≤ room) }
 {
     table::session(table, t).receive(table::ranks(table), t, mailbox::message_to_session(mail, k))
 }
@@ -235,16 +235,14 @@ fn commit_session(
     table: &mut [u8],
     mail: &mut [u8],
 ) -> Result<Answer, Refusal>
-    requires { HasSession table.old t × Kept mail.old × (r.outbox.n ≤ room) }
+    requires { HasSession table.old t × Kept mail.old × (length r.outbox ≤ room) }
     ensures { (w : SessionRules.After) → r ≡ SessionRules.step_of w
         → stepped (told result) table.new mail.new ≡ concluded t table.old mail.old (session_plan t table.old (remove_at k (entries_of mail.old)) w) }
 {
-    let outbox = r.outbox;
-    let session = r.session;
-    let sent = outbox.n;
+    let sent = r.outbox.len();
     make_room(mail, k, sent)?;
-    mailbox::post(mail, mailbox::TO_ITEM, t, outbox);
-    table::put_session(table, t, session);
+    mailbox::post(mail, mailbox::TO_ITEM, t, r.outbox.as_slice());
+    table::put_session(table, t, r.session);
     Ok(Answer::accepted(sent as u8, 0, 0, 0))
 }
 
@@ -257,18 +255,15 @@ fn commit_item(
     table: &mut [u8],
     mail: &mut [u8],
 ) -> Result<Answer, Refusal>
-    requires { HasSession table.old t × HasItem table.old x × (well_formed (with_item table.old x r.item) ≡ true) × Kept mail.old × (r.outbox.n ≤ room) }
+    requires { HasSession table.old t × HasItem table.old x × (well_formed (with_item table.old x r.item) ≡ true) × Kept mail.old × (length r.outbox ≤ room) }
     ensures { (w : ItemRules.After) → r ≡ ItemRules.step_of w
         → stepped (told result) table.new mail.new ≡ concluded t table.old mail.old (item_plan x table.old (remove_at k (entries_of mail.old)) w) }
 {
-    let outbox = r.outbox;
-    let item = r.item;
-    let event = r.event;
-    let sent = outbox.n;
+    let sent = r.outbox.len();
     make_room(mail, k, sent)?;
-    mailbox::post(mail, mailbox::TO_SESSION, x, outbox);
-    table::put_item(table, x, item);
-    Ok(answer_of(t, sent as u8, event, table))
+    mailbox::post(mail, mailbox::TO_SESSION, x, r.outbox.as_slice());
+    table::put_item(table, x, r.item);
+    Ok(answer_of(t, sent as u8, r.event, table))
 }
 
 // The answer of an accepted step, by what happened at the item.

@@ -4,8 +4,8 @@ use mathlib.Core.Path.{◌≡◌, refl, sym, ap, ◌∙◌}
 use mathlib.Core.Logic.{◌⊎◌, inl, inr}
 use Rattle.std.proofs.Common.{rules}
 use native.Mathlib.Omega.{arith}
-use Prim.Native.Nat.{ℕ, ◌≤◌, ◌<◌}
-use lib.ListN.{get_or}
+use Prim.Native.Nat.{ℕ, ◌<◌}
+use lib.ListN.{length, get_or}
 use borrow.Author.Tests.{eq-eqb, ne_eqb}
 use Rattle.session.specs.declared.SessionStep.{SessionStep}
 use Rattle.item.specs.Rules as Item
@@ -18,7 +18,7 @@ use Rattle.waits.specs.OnTable.{locks}
 use Rattle.refusal.specs.Refusal.{first}
 use Rattle.refusal.proofs.Outcome.{number-positive, passed-on}
 use Rattle.step.specs.declared.Verb.{Verb}
-use Rattle.step.specs.declared.Verb.TheVariants.{Request, Release, DeliverToItem, DeliverToSession}
+use Rattle.step.specs.declared.Verb.TheVariants.{Request, Release, DeliverToSession}
 use Rattle.step.specs.Verb.{verb_number}
 use Rattle.step.specs.Step.{request, release, deliver_to_item, delivered, step_causes, item_receives}
 use Rattle.step.specs.Parts.{Unhindered, Judged}
@@ -87,7 +87,7 @@ pub commit_session-requires : goal.commit_session-requires
 commit_session-requires c =
     let kept = mail-kept c.args.t c.args.x c.args.table.now c.args.mail.now c.requires (search rules) in
     let few = acts_few (senior c.args.table.now) c.args.t (session c.args.table.now c.args.t) (juniors-whole c.args.t c.args.x c.args.table.now c.args.mail.now c.requires) (get_or (entries_of c.args.mail.now) c.delivered-k.result unused) (verb_number c.args.verb) c.args.x in
-    (has-session c.args.t c.args.x c.args.table.now c.args.mail.now c.requires, kept, omega (arith, ap (λ (r : SessionStep). r.outbox.n) c.session_acts-r.ensures, few))
+    (has-session c.args.t c.args.x c.args.table.now c.args.mail.now c.requires, kept, omega (arith, ap (λ (r : SessionStep). length r.outbox) c.session_acts-r.ensures, few))
 
 pub returns-in-Request : goal.returns-in-Request
 returns-in-Request c =
