@@ -1,7 +1,7 @@
 -- The delivery to an item: judged for room, then only told, or written.
-use mathlib.Core.Path.{◌≡◌, ap, ◌∙◌}
+use mathlib.Core.Path.{◌≡◌, refl, ap, ◌∙◌}
 use lib.ListN.{length}
-use mathlib.Core.Path.{refl}
+use native.Mathlib.Omega.{arith}
 use Rattle.refusal.proofs.Outcome.{passed-on}
 use Rattle.item.specs.declared.ItemStep.{ItemStep}
 use Rattle.item.specs.Record.{packed}
@@ -33,7 +33,7 @@ returns-in_default c =
     rw c.requires.1 (told_stopped c.args.gap c.args.table.now c.args.mail.now c.requires.0 (Table.with_item c.args.table.now (entry_at c.args.mail.now c.args.gap.to).item (packed w.lock)) (from_item (entry_at c.args.mail.now c.args.gap.to).item) w.sends w.event _ (c.len.ensures ∙ ap (λ (r : ItemStep). length r.outbox) received) c.args.allowed _ _ a refl)
 
 pub post-requires : goal.post-requires
-post-requires c = let p = (rw c.in-Some.is at c.in_ok-after.ensures).placed refl in rw (c.as_slice.ensures, ← c.len.ensures) (record { kept = p.spent.kept; fits = p.free })
+post-requires c = let p = (rw c.in-Some.is at c.in_ok-after.ensures).placed refl in rw (c.as_slice.ensures) (record { kept = p.spent.kept; fits = omega (arith, p.free, c.len.ensures) })
 
 pub put_item-requires : goal.put_item-requires
 put_item-requires c = rw c.requires.1 (has-item c.args.gap c.args.table.now c.args.mail.now c.requires.0)

@@ -1,7 +1,7 @@
 -- The delivery to a session: judged for room, then only told, or written.
-use mathlib.Core.Path.{◌≡◌, ap, ◌∙◌}
+use mathlib.Core.Path.{◌≡◌, refl, ap, ◌∙◌}
 use lib.ListN.{length}
-use mathlib.Core.Path.{refl}
+use native.Mathlib.Omega.{arith}
 use Rattle.refusal.proofs.Outcome.{passed-on}
 use Rattle.session.specs.declared.SessionStep.{SessionStep}
 use Rattle.session.specs.Rules as Session
@@ -32,7 +32,7 @@ returns-in_default c =
     rw c.requires.1 (told_stopped c.args.gap c.args.table.now c.args.mail.now c.requires.0 (Table.with_session c.args.table.now (entry_at c.args.mail.now c.args.gap.to).session w.session) (from_session (entry_at c.args.mail.now c.args.gap.to).session) w.sends Nothing _ (c.len.ensures ∙ ap (λ (r : SessionStep). length r.outbox) received) c.args.allowed _ _ a refl)
 
 pub post-requires : goal.post-requires
-post-requires c = let p = (rw c.in-Some.is at c.in_ok-after.ensures).placed refl in rw (c.as_slice.ensures, ← c.len.ensures) (record { kept = p.spent.kept; fits = p.free })
+post-requires c = let p = (rw c.in-Some.is at c.in_ok-after.ensures).placed refl in rw (c.as_slice.ensures) (record { kept = p.spent.kept; fits = omega (arith, p.free, c.len.ensures) })
 
 pub put_session-requires : goal.put_session-requires
 put_session-requires c = rw c.requires.1 (has-session c.args.gap c.args.table.now c.args.mail.now c.requires.0)
