@@ -7,7 +7,7 @@ ghost use Rattle.message.specs.Limits.{max_items};
 ghost use Rattle.message.specs.Outbox.{room};
 ghost use Rattle.session.specs.Rules as SessionRules;
 ghost use Rattle.item.specs.Rules as ItemRules;
-ghost use Rattle.mailbox.specs.Entry.{unused};
+ghost use Rattle.mailbox.specs.Entry.{unused, sent};
 ghost use Rattle.mailbox.specs.Layout.{capacity_of, entry_at, entries_of, mail_bytes, Kept};
 ghost use Rattle.table.specs.Layout.{HasSession, HasItem, Formed, sessions_of, session, senior, well_formed, with_item};
 ghost use Rattle.waits.specs.OnTable.{locks, cycle_length};
@@ -16,10 +16,11 @@ ghost use Rattle.refusal.specs.Number.{outcome};
 ghost use Rattle.step.specs.Verb.{verb_number, Names};
 ghost use Rattle.step.specs.Told.{told};
 ghost use Rattle.step.specs.Step.{refused_answer, accepted_answer, delivered, item_receives, session_receives, session_acts, stage_forbids, mask_forbids, nothing_to_deliver, step_causes, session_plan, item_plan, stepped, answered, acted};
-ghost use Rattle.step.specs.Parts.{Judged, Acting, ForItem, ForSession, fitting, room_made, concluded};
+ghost use Rattle.step.specs.Parts.{Judged, Acting, ForItem, ForSession, fitting, room_made, Added, concluded};
 
 use item::{Event, ItemStep};
 use mailbox::Route;
+use message::Message;
 use refusal::Refusal;
 use session::{Session, SessionStep};
 
@@ -227,6 +228,16 @@ fn make_room(mail: &mut [u8], k: usize, n: usize) -> Result<(), Refusal>
     Ok(())
 }
 
+// Adds what a session (direction 1) or an item (direction 2) sends in place of entry k, if there is room: how many they are.
+fn send(mail: &mut [u8], k: usize, direction: u8, party: u8, out: &[Message]) -> Result<u8, Refusal>
+    requires { Kept mail.old × (length out.now ≤ room) }
+    ensures { Added (sent direction party) out.now mail.old (remove_at k (entries_of mail.old)) result mail.new }
+{
+    make_room(mail, k, out.len())?;
+    mailbox::post(mail, direction, party, out);
+    Ok(out.len() as u8)
+}
+
 // Session t has stepped: the messages and the record are written, if there is room.
 fn commit_session(
     t: u8,
@@ -239,11 +250,9 @@ fn commit_session(
     ensures { (w : SessionRules.After) → r ≡ SessionRules.step_of w
         → stepped (told result) table.new mail.new ≡ concluded t table.old mail.old (session_plan t table.old (remove_at k (entries_of mail.old)) w) }
 {
-    let sent = r.outbox.len();
-    make_room(mail, k, sent)?;
-    mailbox::post(mail, mailbox::TO_ITEM, t, r.outbox.as_slice());
+    let sent = send(mail, k, mailbox::TO_ITEM, t, r.outbox.as_slice())?;
     table::put_session(table, t, r.session);
-    Ok(Answer::accepted(sent as u8, 0, 0, 0))
+    Ok(Answer::accepted(sent, 0, 0, 0))
 }
 
 // Item x has stepped on a message of session t: the messages and the record are written, if there is room.
@@ -259,11 +268,9 @@ fn commit_item(
     ensures { (w : ItemRules.After) → r ≡ ItemRules.step_of w
         → stepped (told result) table.new mail.new ≡ concluded t table.old mail.old (item_plan x table.old (remove_at k (entries_of mail.old)) w) }
 {
-    let sent = r.outbox.len();
-    make_room(mail, k, sent)?;
-    mailbox::post(mail, mailbox::TO_SESSION, x, r.outbox.as_slice());
+    let sent = send(mail, k, mailbox::TO_SESSION, x, r.outbox.as_slice())?;
     table::put_item(table, x, r.item);
-    Ok(answer_of(t, sent as u8, r.event, table))
+    Ok(answer_of(t, sent, r.event, table))
 }
 
 // The answer of an accepted step, by what happened at the item.
