@@ -75,10 +75,10 @@ fn deliver_to_session(
         result table.new mail.new }
 {
     let r = step::session_receives(t, gap.to, table, mail);
-    let Some(after) = admit(mail, gap, r.outbox.n, allowed)? else {
+    let Some(after) = admit(mail, gap, r.outbox.len(), allowed)? else {
         return Ok(None);
     };
-    mailbox::post(mail, mailbox::TO_ITEM, t, r.outbox);
+    mailbox::post(mail, mailbox::TO_ITEM, t, r.outbox.as_slice());
     table::put_session(table, t, r.session);
     Ok(Some(after))
 }
@@ -97,10 +97,10 @@ fn deliver_to_item(
         result table.new mail.new }
 {
     let r = step::item_receives(x, gap.to, table, mail);
-    let Some(after) = admit(mail, gap, r.outbox.n, allowed)? else {
+    let Some(after) = admit(mail, gap, r.outbox.len(), allowed)? else {
         return Ok(None);
     };
-    mailbox::post(mail, mailbox::TO_SESSION, x, r.outbox);
+    mailbox::post(mail, mailbox::TO_SESSION, x, r.outbox.as_slice());
     table::put_item(table, x, r.item);
     Ok(Some(after))
 }

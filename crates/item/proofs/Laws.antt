@@ -1,7 +1,7 @@
 -- Laws of item records: their bytes, the record as a queue with zeros behind it, and what the loops do one step at a time.
 use mathlib.Core.Path.{◌≡◌, refl, sym, ap, ◌∙◌}
 use mathlib.Core.Bool.{Bool, true, false, cond, not, ◌||◌}
-use mathlib.Core.List.{List, [], ◌∷◌, ◌++◌, map, map-append, append_assoc, append-nil}
+use mathlib.Core.List.{List, [], ◌∷◌, ◌++◌, map, map-append, append-nil}
 use Rattle.std.proofs.Common.{Option, Some, None, MatchOption, position, subst}
 use Rattle.std.specs.List.{list_any, position_or_len}
 use borrow.Author.Tests.{ltb-true, ltb-false}
@@ -20,9 +20,7 @@ use Rattle.session.proofs.Laws.{either}
 use Rattle.buffer.proofs.Laws.{sets-splice, splice-splice, drop-splice, slice-splice-before, slice-splice-after, get_d_slice, put-padded}
 use Rattle.message.specs.Kind
 use Rattle.message.specs.declared.Message.{Message}
-use Rattle.message.specs.declared.Outbox.{Outbox}
-use Rattle.message.specs.Outbox.{room, message, plain, outbox_of}
-use Rattle.message.proofs.Laws.{push_cells}
+use Rattle.message.specs.Outbox.{message, plain}
 use Rattle.item.specs.declared.Item.{Item}
 use Rattle.item.specs.declared.Event.{Event}
 use Rattle.item.specs.declared.Event.TheVariants.{Nothing}
@@ -177,13 +175,6 @@ module _ (i : Item) (f : Packed i) (t : ℕ) where
       m ∙ f.zeros ∙ ap (λ (q : List ℕ). packed (lock i.holder q)) (sym (remove_at-past _ (unpacked i).queue (placed None e)))
   taken_out (Some k) r e m = m ∙ ap (λ (n : ℕ). packed (lock i.holder (remove_at n (unpacked i).queue))) (sym (placed (Some k) e).1)
 
--- one message more behind a list given, as the loops have it
-pub push_outbox : (o : Outbox) (l p q : List Message) (m : Message) → o.n < room → o ≡ outbox_of (l ++ p) → q ≡ p ++ (m ∷ [])
-    → ◌≡◌ {A = Outbox} (record { n = o.n + 1; at = set o.at o.n m }) (outbox_of (l ++ q))
-push_outbox o l p q m h e f =
-    let g : length (l ++ p) < room = omega (arith, ap (λ (b : Outbox). b.n) e) in
-    rw (e, push_cells (l ++ p) m g, f, ← append_assoc, length-append (l ++ p) (m ∷ [])) refl
-
 module _ (q : List ℕ) (i : ℕ) (h : i < length q) where
   more : take (i + 1) q ≡ take i q ++ (get_or q i 0 ∷ [])
   more = rw (add-one) (take-suc q i 0 h)
@@ -220,7 +211,7 @@ probes-length senior n q =
     omega (arith, filter-length (λ r. senior r n) q)
 
 -- what the code hands back
-pub step_eq : (i : Item) (o : Outbox) (e : Event) (k : Lock) (l : List Message) → i ≡ packed k → o ≡ outbox_of l
+pub step_eq : (i : Item) (o : List Message) (e : Event) (k : Lock) (l : List Message) → i ≡ packed k → o ≡ l
     → ◌≡◌ {A = ItemStep} (record { item = i; outbox = o; event = e }) (step_of (after k l e))
 step_eq i o e k l f g = rw (f, g) refl
 
@@ -238,12 +229,6 @@ module _ (i : Item) (h : ℕ) (l : List ℕ) (e : i ≡ packed (lock h l)) where
   pub holds-packed : length l < 64 → Packed i
   holds-packed f =
       rw (e) (record { fits = omega arith; room = λ _. f; zeros = sym (ap packed (unpacked-packed (lock h l))) })
-
--- room for resends is left behind the probes
-pub probes_fit : (senior : ℕ → ℕ → Bool) (n : ℕ) (q : List ℕ) (l : List Message) (o : Outbox) → length l ≤ 1 → length q ≤ 64
-    → o ≡ outbox_of (l ++ probes senior n q) → o.n ≤ 65
-probes_fit senior n q l o f g e =
-    omega (arith, ap (λ (b : Outbox). b.n) e, length-append l (probes senior n q), probes-length senior n q)
 
 pub vacated-none : (senior : ℕ → ℕ → Bool) (next : List ℕ → ℕ) (q : List ℕ) → length q ≡ 0 → vacated senior next q ≡ after free [] Nothing
 unfolding vacated

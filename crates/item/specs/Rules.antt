@@ -3,7 +3,7 @@ use Rattle.std.specs.Prelude.{ℕ, Bool, true, false, cond, not, ◌||◌, List,
 use Rattle.lists.specs.Lists.{member, filter, find_index, remove_at}
 use Rattle.message.specs.Kind
 use Rattle.message.specs.declared.Message.{Message}
-use Rattle.message.specs.Outbox.{message, plain, outbox_of}
+use Rattle.message.specs.Outbox.{message, plain}
 use Rattle.item.specs.declared.Event.{Event}
 use Rattle.item.specs.declared.Event.TheVariants.{Nothing, Joined, Declared}
 use Rattle.item.specs.declared.ItemStep.{ItemStep}
@@ -20,7 +20,7 @@ after k l e = record { lock = k; sends = l; event = e }
 
 -- the same as the code hands it back
 abbrev pub step_of : After → ItemStep
-step_of r = record { item = packed r.lock; outbox = outbox_of r.sends; event = r.event }
+step_of r = record { item = packed r.lock; outbox = r.sends; event = r.event }
 
 -- the message is dropped
 abbrev pub dropped : Lock → After

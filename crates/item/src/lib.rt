@@ -6,7 +6,7 @@ ghost use Rattle.lists.specs.Lists.{member, remove_at};
 ghost use Rattle.message.specs.declared.Message.{Message};
 ghost use Rattle.message.specs.Limits.{max_sessions};
 ghost use Rattle.message.specs.Kind;
-ghost use Rattle.message.specs.Outbox.{plain, outbox_of};
+ghost use Rattle.message.specs.Outbox.{plain};
 ghost use Rattle.session.specs.Seniority.{senior};
 ghost use Rattle.item.specs.Record.{size, Packed, Joinable, unpacked, packed, lock, free, item_at, put_item};
 ghost use Rattle.item.specs.declared.Event.TheVariants.{Nothing};
@@ -35,7 +35,7 @@ pub enum Event {
 }
 
 // The record that follows, with what it sends and what happened.
-#[derive(Clone, Copy)]
+#[derive(Drop)]
 pub struct ItemStep {
     pub item: Item,
     pub outbox: Outbox,
@@ -132,44 +132,26 @@ impl Item {
     }
 
     // Behind `out`, probe (R, holder) to the holder for each waiting R senior to it, in queue order.
-    fn probes(self, ranks: &[u8], out: Outbox) -> Outbox
-        requires { (self.waiting ≤ max_sessions) × (out.n ≤ 1) }
-        ensures { (l : List Message) → out ≡ outbox_of l → result ≡ outbox_of (l ++ probes (senior ranks.now) self.holder (unpacked self).queue) }
+    fn probes(self, ranks: &[u8], out: &mut Outbox)
+        requires { (self.waiting ≤ max_sessions) × (length out.old ≤ 1) }
+        ensures { out.new ≡ out.old ++ probes (senior ranks.now) self.holder (unpacked self).queue }
     {
         let holder = self.holder;
-        let mut at = out.at;
-        let mut n = out.n;
         for &r in self.sessions() {
             if Session::senior(ranks, r, holder) {
-                at[n] = Message {
-                    peer: holder,
-                    kind: Message::PROBE,
-                    a: r,
-                    b: holder,
-                };
-                n += 1;
+                out.push(Message::new(holder, Message::PROBE, r, holder));
             }
         }
-        Outbox { n, at }
     }
 
     // Behind `out`, resend to each waiting session, in queue order.
-    fn resends(self, out: Outbox) -> Outbox
-        requires { (self.waiting ≤ max_sessions) × (out.n ≤ 1 + max_sessions) }
-        ensures { (l : List Message) → out ≡ outbox_of l → result ≡ outbox_of (l ++ resends (unpacked self).queue) }
+    fn resends(self, out: &mut Outbox)
+        requires { (self.waiting ≤ max_sessions) × (length out.old ≤ 1 + max_sessions) }
+        ensures { out.new ≡ out.old ++ resends (unpacked self).queue }
     {
-        let mut at = out.at;
-        let mut n = out.n;
         for &peer in self.sessions() {
-            at[n] = Message {
-                peer,
-                kind: Message::RESEND,
-                a: 0,
-                b: 0,
-            };
-            n += 1;
+            out.push(Message::new(peer, Message::RESEND, 0, 0));
         }
-        Outbox { n, at }
     }
 
     // The message is dropped.
@@ -177,10 +159,9 @@ impl Item {
         requires { Packed self }
         ensures { result ≡ step_of (dropped (unpacked self)) }
     {
-        let outbox = Outbox::empty();
         ItemStep {
             item: self,
-            outbox,
+            outbox: Outbox::new(),
             event: Event::Nothing,
         }
     }
@@ -222,9 +203,9 @@ impl Item {
     {
         let holder = self.holder;
         let item = self.with(t);
-        let mut outbox = Outbox::empty();
+        let mut outbox = Outbox::new();
         if Session::senior(ranks, t, holder) {
-            outbox = outbox.push(Message::new(holder, Message::PROBE, t, holder));
+            outbox.push(Message::new(holder, Message::PROBE, t, holder));
         }
         ItemStep {
             item,
@@ -255,11 +236,10 @@ impl Item {
         requires { Packed self × (self.waiting ≡ 0) }
         ensures { result ≡ step_of (after free [] Nothing) }
     {
-        let outbox = Outbox::empty();
         self.holder = 0;
         ItemStep {
             item: self,
-            outbox,
+            outbox: Outbox::new(),
             event: Event::Nothing,
         }
     }
@@ -269,8 +249,8 @@ impl Item {
         requires { Packed self }
         ensures { result ≡ step_of (after (unpacked self) (plain self.holder Kind.grant ∷ resends (unpacked self).queue) Nothing) }
     {
-        let first = Outbox::single(self.holder, Message::GRANT, 0, 0);
-        let outbox = self.resends(first);
+        let mut outbox = Outbox::single(self.holder, Message::GRANT, 0, 0);
+        self.resends(&mut outbox);
         ItemStep {
             item: self,
             outbox,
@@ -310,9 +290,10 @@ impl Item {
         if holder == 0 {
             return self.dropped();
         }
-        let first = Outbox::single(holder, Message::CLEAN, a, b);
+        let mut outbox = Outbox::single(holder, Message::CLEAN, a, b);
         let others = self.without(self.place(t));
-        let outbox = others.resends(self.probes(ranks, first));
+        self.probes(ranks, &mut outbox);
+        others.resends(&mut outbox);
         ItemStep {
             item: self,
             outbox,
@@ -327,7 +308,9 @@ impl Item {
         if self.holder == 0 {
             return self.dropped();
         }
-        let outbox = self.resends(self.probes(ranks, Outbox::empty()));
+        let mut outbox = Outbox::new();
+        self.probes(ranks, &mut outbox);
+        self.resends(&mut outbox);
         ItemStep {
             item: self,
             outbox,

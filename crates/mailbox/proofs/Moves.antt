@@ -5,12 +5,11 @@ use Prim.Native.Nat.{ℕ, ◌+◌, ◌-◌, ◌*◌, ◌≤◌, ◌<◌}
 use native.Mathlib.Numerals.{add-one}
 use native.Mathlib.Omega.{arith}
 use lib.ListN.{length, get_or, take, drop, replicate, length-append, length-map, replicate-append-replicate}
-use lib.Seq.{take-suc, take-append_seam, length-take-le}
+use lib.Seq.{take-suc, length-take-le}
 use Rattle.buffer.specs.Bytes.{splice, to_bytes, padded}
 use Rattle.lists.specs.Lists.{without_places}
 use Rattle.lists.proofs.Laws.{length_without}
 use Rattle.message.specs.declared.Message.{Message}
-use Rattle.message.specs.Outbox.{room, plain, cells}
 use Rattle.entry.specs.Entry.{Entry, width}
 use Rattle.mailbox.specs.Layout.{header, count_place, route_place, body_place, routes, bodies, mail_bytes, size}
 use Rattle.entry.specs.Entry.{sent}
@@ -103,11 +102,7 @@ map-append : (d p : ℕ) (k j : List Message) → map (sent d p) (k ++ j) ≡ ma
 map-append d p [] j = refl
 map-append d p (m ∷ k) j = ap (λ (l : List Entry). sent d p m ∷ l) (map-append d p k j)
 
--- the messages of an outbox, and one more of them
-pub taken-cells : (k : List Message) → take (length k) (cells k) ≡ k
-unfolding cells
-taken-cells k = take-append_seam k (replicate (room - length k) (plain 0 0))
-
+-- one more of a list of messages
 pub one_more : (d p i : ℕ) (k : List Message) (l : List Entry) (m : Message) → i < length k
     → (l ++ map (sent d p) (take i k)) ++ (sent d p (get_or k i m) ∷ []) ≡ l ++ map (sent d p) (take (i + 1) k)
 one_more d p i k l m h =

@@ -3,8 +3,7 @@
 use Rattle.std.specs.Prelude.{ℕ, ◌+◌, ◌-◌, ◌*◌, ◌≤◌, ◌<◌, ◌≡◌, Bool, ◌&&◌, List, [], ◌∷◌, ◌++◌, eqb, leb, length}
 use Rattle.buffer.specs.Bytes.{slice, from_bytes, to_bytes, padded}
 use Rattle.lists.specs.Lists.{between, all_of, tabulate}
-use Rattle.message.specs.declared.Outbox.{Outbox}
-use Rattle.message.specs.Outbox.{room}
+use Rattle.message.specs.declared.Message.{Message}
 use Rattle.entry.specs.Entry as Entry
 use Rattle.entry.specs.Entry.{Entry, width, entry_from}
 use Rattle.entry.specs.declared.Route.{Route}
@@ -82,8 +81,7 @@ pub record Stands (m : List ℕ) (k : ℕ) : Type 0 where
   pub kept : Kept m
   pub inside : k < count_of m
 
--- the mailbox takes every message of the outbox
-pub record Room (m : List ℕ) (out : Outbox) : Type 0 where
+-- the mailbox takes every message of a list
+pub record Room (m : List ℕ) (out : List Message) : Type 0 where
   pub kept : Kept m
-  pub few : out.n ≤ room
-  pub fits : count_of m + out.n ≤ capacity_of m
+  pub fits : count_of m + length out ≤ capacity_of m

@@ -4,12 +4,12 @@
 ghost use Rattle.std.specs.Prelude.{◌≡◌, true, cond, List, [], ◌∷◌, ◌++◌, map, ◌≤◌, ◌<◌, eqb, length, MatchOption};
 ghost use Rattle.lists.specs.Lists.{remove_at, without_places};
 ghost use Rattle.message.specs.declared.Message.{Message};
-ghost use Rattle.message.specs.Outbox.{message, outbox_of};
+ghost use Rattle.message.specs.Outbox.{message};
 ghost use Rattle.entry.specs.Entry.{Entry, width, to_item, sent, earliest, seen_by_item, seen_by_session};
 ghost use Rattle.mailbox.specs.Layout.{header, max_capacity, size, route_place, body_place, capacity_of, count_of, sized, entry_at, entries_of, route_of, well_formed, mail_bytes, Kept, Stands, Room};
 
 use entry::WIDTH;
-use message::{Message, Outbox};
+use message::Message;
 
 // The two directions: session to item, item to session. A direction, a session and an item are a route.
 pub use entry::{Route, TO_ITEM, TO_SESSION};
@@ -214,14 +214,13 @@ fn route_between(direction: u8, party: u8, peer: u8) -> Route
 
 // Adds what a session (direction 1) or an item (direction 2) sends, in order.
 #[tactic(auto, using(crate::proofs::Laws::lengths))]
-pub fn post(m: &mut [u8], direction: u8, party: u8, out: Outbox)
-    requires { Room m.old out }
-    ensures { (l : List Message) → out ≡ outbox_of l
-        → m.new ≡ mail_bytes (capacity_of m.old) (entries_of m.old ++ map (sent direction party) l) }
+pub fn post(m: &mut [u8], direction: u8, party: u8, out: &[Message])
+    requires { Room m.old out.now }
+    ensures { m.new ≡ mail_bytes (capacity_of m.old) (entries_of m.old ++ map (sent direction party) out.now) }
 {
     let c = capacity(m);
     let count = count(m);
-    for (i, msg) in out.at[..out.n].iter().enumerate() {
+    for (i, msg) in out.iter().enumerate() {
         let route = route_between(direction, party, msg.peer);
         add(m, c, count + i, route, msg.kind, msg.a, msg.b);
     }

@@ -1,7 +1,6 @@
--- A list of messages as the code holds it: a count and an array of fixed length.
-use Rattle.std.specs.Prelude.{ℕ, ◌+◌, ◌*◌, ◌-◌, List, ◌++◌, length, replicate}
+-- The messages of a step: how many there may be, and one from its parts.
+use Rattle.std.specs.Prelude.{ℕ, ◌+◌, ◌*◌}
 use Rattle.message.specs.declared.Message.{Message}
-use Rattle.message.specs.declared.Outbox.{Outbox}
 use Rattle.message.specs.Limits.{max_sessions}
 
 -- the most messages that one step could send: one, and two for each waiting session, with one place to spare
@@ -14,10 +13,3 @@ message peer kind a b = record { peer = peer; kind = kind; a = a; b = b }
 -- a message of a kind that carries no sessions
 abbrev pub plain : ℕ → ℕ → Message
 plain peer kind = message peer kind 0 0
-
--- the messages, then blanks
-unfoldable pub cells : List Message → List Message
-cells l = l ++ replicate (room - length l) (plain 0 0)
-
-abbrev pub outbox_of : List Message → Outbox
-outbox_of l = record { n = length l; at = cells l }

@@ -6,7 +6,7 @@ use Rattle.bitset.specs.Bitset.{insert, remove, members}
 use Rattle.message.specs.Limits.{max_items, IsSession}
 use Rattle.message.specs.Kind
 use Rattle.message.specs.declared.Message.{Message}
-use Rattle.message.specs.Outbox.{message, plain, outbox_of}
+use Rattle.message.specs.Outbox.{message, plain}
 use Rattle.session.specs.declared.Session.{Session}
 use Rattle.session.specs.declared.SessionStep.{SessionStep}
 use Rattle.session.specs.Stage
@@ -22,7 +22,7 @@ after s l = record { session = s; sends = l }
 
 -- the same as the code hands it back
 abbrev pub step_of : After → SessionStep
-step_of r = record { session = r.session; outbox = outbox_of r.sends }
+step_of r = record { session = r.session; outbox = r.sends }
 
 -- the message is dropped
 abbrev pub dropped : Session → After

@@ -5,7 +5,7 @@ ghost use Rattle.std.specs.Prelude.{◌≡◌, cond, List, [], ◌∷◌, ◌++�
 ghost use Rattle.message.specs.declared.Message.{Message};
 ghost use Rattle.message.specs.Kind;
 ghost use Rattle.message.specs.Limits.{IsItem, max_sessions};
-ghost use Rattle.message.specs.Outbox.{plain, outbox_of};
+ghost use Rattle.message.specs.Outbox.{plain};
 ghost use Rattle.session.specs.Seniority.{rank, senior};
 ghost use Rattle.session.specs.MostSenior.{most_senior};
 ghost use Rattle.session.specs.Record.{size, session_at, put_session};
@@ -24,7 +24,7 @@ pub struct Session {
 }
 
 // The record that follows, with what it sends.
-#[derive(Clone, Copy)]
+#[derive(Drop)]
 pub struct SessionStep {
     pub session: Session,
     pub outbox: Outbox,
@@ -126,45 +126,28 @@ impl Session {
     }
 
     // Behind `out`, all stored probes by rising initiator, to item x.
-    fn stored_probes(self, x: u8, out: Outbox) -> Outbox
-        requires { out.n ≤ 1 }
-        ensures { (l : List Message) → out ≡ outbox_of l → result ≡ outbox_of (l ++ stored_probes self x) }
+    fn stored_probes(self, x: u8, out: &mut Outbox)
+        requires { length out.old ≤ 1 }
+        ensures { out.new ≡ out.old ++ stored_probes self x }
     {
-        let mut at = out.at;
-        let mut n = out.n;
         for (i, &j) in self.juniors.iter().enumerate() {
             if j != 0 {
-                at[n] = Message {
-                    peer: x,
-                    kind: Message::PROBE,
-                    a: (i + 1) as u8,
-                    b: j,
-                };
-                n += 1;
+                out.push(Message::new(x, Message::PROBE, (i + 1) as u8, j));
             }
         }
-        Outbox { n, at }
     }
 
     // A message of one kind to each held item but `but`, by rising item number.
     fn to_held(kind: u8, but: u8, held: u64) -> Outbox
-        ensures { result ≡ outbox_of (to_held kind but held) }
+        ensures { result ≡ to_held kind but held }
     {
-        let none = Outbox::empty();
-        let mut at = none.at;
-        let mut n: usize = 0;
+        let mut out = Outbox::new();
         for y in bitset::Members(held) {
             if y != but {
-                at[n] = Message {
-                    peer: y,
-                    kind,
-                    a: 0,
-                    b: 0,
-                };
-                n += 1;
+                out.push(Message::new(y, kind, 0, 0));
             }
         }
-        Outbox { n, at }
+        out
     }
 
     // The call to request item x.
@@ -172,8 +155,8 @@ impl Session {
     pub fn request(mut self, x: u8) -> SessionStep
         ensures { result ≡ step_of (requested x self) }
     {
-        let first = Outbox::single(x, Message::REQUEST, 0, 0);
-        let outbox = self.stored_probes(x, first);
+        let mut outbox = Outbox::single(x, Message::REQUEST, 0, 0);
+        self.stored_probes(x, &mut outbox);
         self.stage = Session::WAITING;
         self.awaited = x;
         SessionStep {
@@ -202,10 +185,9 @@ impl Session {
     fn dropped(self) -> SessionStep
         ensures { result ≡ step_of (dropped self) }
     {
-        let outbox = Outbox::empty();
         SessionStep {
             session: self,
-            outbox,
+            outbox: Outbox::new(),
         }
     }
 
@@ -219,10 +201,9 @@ impl Session {
             self.stage = Session::GROWING;
             self.awaited = 0;
             self.held = bitset::insert(self.held, x);
-            let outbox = Outbox::empty();
             return SessionStep {
                 session: self,
-                outbox,
+                outbox: Outbox::new(),
             };
         }
         self.dropped()
@@ -234,7 +215,8 @@ impl Session {
         ensures { result ≡ step_of (resent x self) }
     {
         if x == self.awaited {
-            let outbox = self.stored_probes(self.awaited, Outbox::empty());
+            let mut outbox = Outbox::new();
+            self.stored_probes(self.awaited, &mut outbox);
             return SessionStep {
                 session: self,
                 outbox,
@@ -275,8 +257,8 @@ impl Session {
     fn cleaned_waiting(mut self, x: u8, a: u8, b: u8) -> SessionStep
         ensures { result ≡ step_of (cleaned_waiting x a b self) }
     {
-        let last = Message::new(self.awaited, Message::CLEAN, a, b);
-        let outbox = Session::to_held(Message::REBROADCAST, x, self.held).push(last);
+        let mut outbox = Session::to_held(Message::REBROADCAST, x, self.held);
+        outbox.push(Message::new(self.awaited, Message::CLEAN, a, b));
         self.juniors = [0u8; MAX_SESSIONS];
         SessionStep {
             session: self,
@@ -286,7 +268,7 @@ impl Session {
 
     // What a victim sends on its way out: a withdraw to the awaited item and, once that is answered, a release to each held item.
     fn leaving(self, answered: bool) -> Outbox
-        ensures { result ≡ outbox_of (cond answered (to_held Kind.release 0 self.held) (plain self.awaited Kind.withdraw ∷ [])) }
+        ensures { result ≡ cond answered (to_held Kind.release 0 self.held) (plain self.awaited Kind.withdraw ∷ []) }
     {
         if answered {
             return Session::to_held(Message::RELEASE, 0, self.held);
@@ -336,7 +318,7 @@ impl Session {
         if (stored == 0) | Session::senior(ranks, stored, j) {
             self.juniors[at] = j;
             let outbox = if self.stage == Session::GROWING {
-                Outbox::empty()
+                Outbox::new()
             } else {
                 Outbox::single(self.awaited, Message::PROBE, i, j)
             };

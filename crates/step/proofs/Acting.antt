@@ -13,7 +13,6 @@ use Rattle.lists.proofs.Laws.{find_index-length, remove_at_le, remove_at-past}
 use Rattle.lists.proofs.Tests.{and_intro, between_intro, by_answer, by-test, refuted}
 use Rattle.buffer.proofs.Laws.{AreBytes}
 use Rattle.message.specs.declared.Message.{Message}
-use Rattle.message.specs.declared.Outbox.{Outbox}
 use Rattle.message.specs.Outbox as Outbox
 use Rattle.session.proofs.Laws.{requested-length, received-length}
 use Rattle.session.specs.declared.Session.{Session}
@@ -151,11 +150,11 @@ module _ (mail : List ℕ) (k n : ℕ) {refusal : ℕ} {after : List ℕ} (made 
     granted : (ltb (capacity_of mail) (length left + n) ≡ false) × (after ≡ mail_bytes (capacity_of mail) left)
     granted = granted-room (ltb (capacity_of mail) (length left + n)) mail (mail_bytes (capacity_of mail) left) e made
 
-    pub has_room : (out : Outbox) → out.n ≡ n → n ≤ Outbox.room → Mail.Room after out
-    has_room out c few =
+    pub has_room : (l : List Message) → n ≡ length l → Mail.Room after l
+    has_room l c =
         let w = without-entry mail kept k in
         rw granted.1
-        (record { kept = w.kept; few = omega (arith, c, few); fits = rw (w.capacity, w.count) (omega (arith, c, ltb-false (capacity_of mail) (length left + n) granted.0)) })
+        (record { kept = w.kept; fits = rw (w.capacity, w.count) (omega (arith, c, ltb-false (capacity_of mail) (length left + n) granted.0)) })
 
     pub room-filled : (f : Message → Entry) (l : List Message) → n ≡ length l → {filled : List ℕ} → filled ≡ mail_bytes (capacity_of after) (entries_of after ++ map f l)
         → (overfull (capacity_of mail) (left ++ map f l) ≡ false) × (filled ≡ mail_bytes (capacity_of mail) (left ++ map f l))

@@ -1,12 +1,15 @@
 -- What the parts of the code ask of each other and leave. No part of the promise.
-use Rattle.std.specs.Prelude.{ℕ, ◌+◌, ◌≤◌, ◌<◌, ◌≡◌, true, false, cond, List, ltb, length, Option, Some, None, IfSome, is_some}
+use Rattle.std.specs.Prelude.{ℕ, ◌+◌, ◌≤◌, ◌<◌, ◌≡◌, true, false, cond, List, ◌++◌, map, ltb, length, Option, Some, None, IfSome, is_some, Result, MatchResult}
 use Rattle.lists.specs.Lists.{remove_at}
+use Rattle.message.specs.declared.Message.{Message}
 use Rattle.session.specs.Rules as Session
 use Rattle.item.specs.Record.{Packed}
 use Rattle.mailbox.specs.Entry.{Entry, seen_by_session}
 use Rattle.mailbox.specs.Layout as Mail
 use Rattle.table.specs.Layout as Table
-use Rattle.refusal.specs.Refusal
+use Rattle.refusal.specs.declared.Refusal.{Refusal}
+use Rattle.refusal.specs.Number.{number}
+use Rattle.refusal.specs.Refusal as Refusal
 use Rattle.step.specs.Step.{Plan, Stepped, Formed, request, release, delivered, stage_forbids, mask_forbids, nothing_to_deliver, overfull, stepped, refused_answer, committed}
 
 -- a step was judged: both buffers are well-formed, and its session and item are there
@@ -66,6 +69,13 @@ fitting refusal mail = record { refusal = refusal; mail = mail }
 abbrev pub room_made : List ℕ → List Entry → ℕ → Fitting
 room_made mail entries n =
     cond (ltb (Mail.capacity_of mail) (length entries + n)) (fitting Refusal.mail_full mail) (fitting 0 (Mail.mail_bytes (Mail.capacity_of mail) entries))
+
+-- messages were added behind these entries, if there is room for all of them: how many; else 9, and the mail as it was
+abbrev pub Added : (Message → Entry) → List Message → List ℕ → List Entry → Result ℕ Refusal → List ℕ → Type 0
+Added f l mail entries d mail' =
+    MatchResult d
+    (λ n. (overfull (Mail.capacity_of mail) (entries ++ map f l) ≡ false) × (n ≡ length l) × (mail' ≡ Mail.mail_bytes (Mail.capacity_of mail) (entries ++ map f l)))
+    (λ e. (overfull (Mail.capacity_of mail) (entries ++ map f l) ≡ true) × (number e ≡ Refusal.mail_full) × (mail' ≡ mail))
 
 -- the tail of every step: 9 where there is no room for the entries after it, else what is planned
 abbrev pub concluded : ℕ → List ℕ → List ℕ → Plan → Stepped

@@ -6,7 +6,7 @@ ghost use Rattle.message.specs.Limits.{max_items};
 ghost use Rattle.message.specs.Outbox.{room};
 ghost use Rattle.session.specs.Rules as SessionRules;
 ghost use Rattle.item.specs.Rules as ItemRules;
-ghost use Rattle.mailbox.specs.Entry.{unused};
+ghost use Rattle.mailbox.specs.Entry.{unused, sent};
 ghost use Rattle.mailbox.specs.Layout.{capacity_of, count_of, entry_at, entries_of, mail_bytes, Kept};
 ghost use Rattle.table.specs.Layout.{HasSession, HasItem, Formed, sessions_of, session, senior, well_formed, with_item};
 ghost use Rattle.waits.specs.OnTable.{locks, cycle_length};
@@ -15,10 +15,11 @@ ghost use Rattle.refusal.specs.Number.{outcome};
 ghost use Rattle.step.specs.Verb.{verb_number, Names};
 ghost use Rattle.step.specs.Told.{told};
 ghost use Rattle.step.specs.Step.{refused_answer, accepted_answer, item_receives, session_receives, session_acts, stage_forbids, mask_forbids, is_delivery, step_causes, session_plan, item_plan, stepped, answered, acted};
-ghost use Rattle.step.specs.Parts.{Judged, Found, Acting, place_of, without, ForItem, ForSession, fitting, room_made, concluded};
+ghost use Rattle.step.specs.Parts.{Judged, Found, Acting, place_of, without, ForItem, ForSession, fitting, room_made, Added, concluded};
 
 use item::{Event, ItemStep};
 use mailbox::Route;
+use message::Message;
 use refusal::Refusal;
 use session::{Session, SessionStep};
 
@@ -166,7 +167,7 @@ fn step_refusal(
 // What item x does on entry k.
 pub fn item_receives(x: u8, k: usize, table: &[u8], mail: &[u8]) -> ItemStep
     requires { ForItem x k table.now mail.now }
-    ensures { (result ≡ ItemRules.step_of (item_receives (senior table.now) (locks table.now x) (entry_at mail.now k))) × (result.outbox.n ≤ room) }
+    ensures { (result ≡ ItemRules.step_of (item_receives (senior table.now) (locks table.now x) (entry_at mail.now k))) × (length result.outbox ≤ room) }
 {
     table::item(table, x).receive(table::ranks(table), mailbox::message_to_item(mail, k))
 }
@@ -174,7 +175,7 @@ pub fn item_receives(x: u8, k: usize, table: &[u8], mail: &[u8]) -> ItemStep
 // What session t does on entry k.
 pub fn session_receives(t: u8, k: usize, table: &[u8], mail: &[u8]) -> SessionStep
     requires { ForSession t k table.now mail.now }
-    ensures { (result ≡ SessionRules.step_of (session_receives (senior table.now) t (session table.now t) (entry_at mail.now k))) × (result.outbox.n ≤ room) }
+    ensures { (result ≡ SessionRules.step_of (session_receives (senior table.now) t (session table.now t) (entry_at mail.now k))) × (length result.outbox ≤ room) }
 {
     table::session(table, t).receive(table::ranks(table), t, mailbox::message_to_session(mail, k))
 }
@@ -230,6 +231,22 @@ fn make_room(mail: &mut [u8], entry: Option<usize>, n: usize) -> Result<(), Refu
     Ok(())
 }
 
+// Adds what a session (direction 1) or an item (direction 2) sends once the entry at this place is out, if there is room: how many they are.
+fn send(
+    mail: &mut [u8],
+    entry: Option<usize>,
+    direction: u8,
+    party: u8,
+    out: &[Message],
+) -> Result<u8, Refusal>
+    requires { Kept mail.old × (length out.now ≤ room) × IfSome entry (λ k. k < count_of mail.old) }
+    ensures { Added (sent direction party) out.now mail.old (without entry (entries_of mail.old)) result mail.new }
+{
+    make_room(mail, entry, out.len())?;
+    mailbox::post(mail, direction, party, out);
+    Ok(out.len() as u8)
+}
+
 // Session t has stepped: the messages and the record are written, if there is room.
 fn commit_session(
     t: u8,
@@ -238,17 +255,13 @@ fn commit_session(
     table: &mut [u8],
     mail: &mut [u8],
 ) -> Result<Answer, Refusal>
-    requires { HasSession table.old t × Kept mail.old × (r.outbox.n ≤ room) × IfSome entry (λ k. k < count_of mail.old) }
+    requires { HasSession table.old t × Kept mail.old × (length r.outbox ≤ room) × IfSome entry (λ k. k < count_of mail.old) }
     ensures { (w : SessionRules.After) → r ≡ SessionRules.step_of w
         → stepped (told result) table.new mail.new ≡ concluded t table.old mail.old (session_plan t table.old (without entry (entries_of mail.old)) w) }
 {
-    let outbox = r.outbox;
-    let session = r.session;
-    let sent = outbox.n;
-    make_room(mail, entry, sent)?;
-    mailbox::post(mail, mailbox::TO_ITEM, t, outbox);
-    table::put_session(table, t, session);
-    Ok(Answer::accepted(sent as u8, 0, 0, 0))
+    let sent = send(mail, entry, mailbox::TO_ITEM, t, r.outbox.as_slice())?;
+    table::put_session(table, t, r.session);
+    Ok(Answer::accepted(sent, 0, 0, 0))
 }
 
 // Item x has stepped on a message of session t: the messages and the record are written, if there is room.
@@ -260,18 +273,13 @@ fn commit_item(
     table: &mut [u8],
     mail: &mut [u8],
 ) -> Result<Answer, Refusal>
-    requires { HasSession table.old t × HasItem table.old x × (well_formed (with_item table.old x r.item) ≡ true) × Kept mail.old × (r.outbox.n ≤ room) × IfSome entry (λ k. k < count_of mail.old) }
+    requires { HasSession table.old t × HasItem table.old x × (well_formed (with_item table.old x r.item) ≡ true) × Kept mail.old × (length r.outbox ≤ room) × IfSome entry (λ k. k < count_of mail.old) }
     ensures { (w : ItemRules.After) → r ≡ ItemRules.step_of w
         → stepped (told result) table.new mail.new ≡ concluded t table.old mail.old (item_plan x table.old (without entry (entries_of mail.old)) w) }
 {
-    let outbox = r.outbox;
-    let item = r.item;
-    let event = r.event;
-    let sent = outbox.n;
-    make_room(mail, entry, sent)?;
-    mailbox::post(mail, mailbox::TO_SESSION, x, outbox);
-    table::put_item(table, x, item);
-    Ok(answer_of(t, sent as u8, event, table))
+    let sent = send(mail, entry, mailbox::TO_SESSION, x, r.outbox.as_slice())?;
+    table::put_item(table, x, r.item);
+    Ok(answer_of(t, sent, r.event, table))
 }
 
 // The answer of an accepted step, by what happened at the item.

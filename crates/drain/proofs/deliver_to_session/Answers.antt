@@ -1,6 +1,7 @@
 -- The delivery to a session: judged for room, then only told, or written.
-use mathlib.Core.Path.{◌≡◌, ap}
-use mathlib.Core.Path.{refl}
+use mathlib.Core.Path.{◌≡◌, refl, ap, ◌∙◌}
+use lib.ListN.{length}
+use native.Mathlib.Omega.{arith}
 use Rattle.refusal.proofs.Outcome.{passed-on}
 use Rattle.session.specs.declared.SessionStep.{SessionStep}
 use Rattle.session.specs.Rules as Session
@@ -20,7 +21,7 @@ returns-in_err-after c =
     let Did : Session.After = session_receives (Table.senior c.args.table.now) (entry_at c.args.mail.now c.args.gap.to).session (Table.session c.args.table.now (entry_at c.args.mail.now c.args.gap.to).session) (entry_at c.args.mail.now c.args.gap.to) in
     let received : c.session_receives-r.result ≡ Session.step_of (Did) = rw (← c.requires.1) c.session_receives-r.ensures.0 in
     let w = Did in
-    rw (passed-on _ _ c.from_residual.ensures.1, c.requires.1) (told_stopped c.args.gap c.args.table.now c.args.mail.now c.requires.0 (Table.with_session c.args.table.now (entry_at c.args.mail.now c.args.gap.to).session w.session) (from_session (entry_at c.args.mail.now c.args.gap.to).session) w.sends Nothing _ (ap (λ (r : SessionStep). r.outbox.n) (received)) c.args.allowed _ _ c.in_err-after.ensures refl)
+    rw (passed-on _ _ c.from_residual.ensures.1, c.requires.1) (told_stopped c.args.gap c.args.table.now c.args.mail.now c.requires.0 (Table.with_session c.args.table.now (entry_at c.args.mail.now c.args.gap.to).session w.session) (from_session (entry_at c.args.mail.now c.args.gap.to).session) w.sends Nothing _ (c.len.ensures ∙ ap (λ (r : SessionStep). length r.outbox) received) c.args.allowed _ _ c.in_err-after.ensures refl)
 
 pub returns-in_default : goal.returns-in_default
 returns-in_default c =
@@ -28,10 +29,10 @@ returns-in_default c =
     let received : c.session_receives-r.result ≡ Session.step_of (Did) = rw (← c.requires.1) c.session_receives-r.ensures.0 in
     let w = Did in
     let a = rw c.in_default.is at c.in_ok-after.ensures in
-    rw c.requires.1 (told_stopped c.args.gap c.args.table.now c.args.mail.now c.requires.0 (Table.with_session c.args.table.now (entry_at c.args.mail.now c.args.gap.to).session w.session) (from_session (entry_at c.args.mail.now c.args.gap.to).session) w.sends Nothing _ (ap (λ (r : SessionStep). r.outbox.n) (received)) c.args.allowed _ _ a refl)
+    rw c.requires.1 (told_stopped c.args.gap c.args.table.now c.args.mail.now c.requires.0 (Table.with_session c.args.table.now (entry_at c.args.mail.now c.args.gap.to).session w.session) (from_session (entry_at c.args.mail.now c.args.gap.to).session) w.sends Nothing _ (c.len.ensures ∙ ap (λ (r : SessionStep). length r.outbox) received) c.args.allowed _ _ a refl)
 
 pub post-requires : goal.post-requires
-post-requires c = let p = (rw c.in-Some.is at c.in_ok-after.ensures).placed refl in record { kept = p.spent.kept; few = c.session_receives-r.ensures.1; fits = p.free }
+post-requires c = let p = (rw c.in-Some.is at c.in_ok-after.ensures).placed refl in rw (c.as_slice.ensures) (record { kept = p.spent.kept; fits = omega (arith, p.free, c.len.ensures) })
 
 pub put_session-requires : goal.put_session-requires
 put_session-requires c = rw c.requires.1 (has-session c.args.gap c.args.table.now c.args.mail.now c.requires.0)
@@ -43,4 +44,4 @@ returns c =
     let w = Did in
     let does = received in
     rw (c.put_session.ensures, does, c.requires.1)
-    (told-made c.args.gap c.args.table.now c.args.mail.now c.requires.0 (Table.with_session c.args.table.now (entry_at c.args.mail.now c.args.gap.to).session w.session) (from_session (entry_at c.args.mail.now c.args.gap.to).session) w.sends Nothing _ (ap (λ (r : SessionStep). r.outbox.n) does) c.args.allowed _ _ (rw c.in-Some.is at c.in_ok-after.ensures) refl (rw c.requires.1 at (c.post.ensures w.sends (ap (λ (r : SessionStep). r.outbox) does))))
+    (told-made c.args.gap c.args.table.now c.args.mail.now c.requires.0 (Table.with_session c.args.table.now (entry_at c.args.mail.now c.args.gap.to).session w.session) (from_session (entry_at c.args.mail.now c.args.gap.to).session) w.sends Nothing _ (c.len.ensures ∙ ap (λ (r : SessionStep). length r.outbox) does) c.args.allowed _ _ (rw c.in-Some.is at c.in_ok-after.ensures) refl (rw (c.requires.1, c.as_slice.ensures, does) at c.post.ensures))

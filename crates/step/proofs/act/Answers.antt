@@ -100,7 +100,7 @@ commit_session-requires c =
     let kept = mail-kept c.args.t c.args.x c.args.table.now c.args.mail.now c.requires (search rules) in
     let l = entries_of c.args.mail.now in
     let few = acts_few (senior c.args.table.now) c.args.t (session c.args.table.now c.args.t) (juniors-whole c.args.t c.args.x c.args.table.now c.args.mail.now c.requires) (get_or l (place_of c.delivered-entry.result l) unused) (verb_number c.args.verb) c.args.x in
-    (has-session c.args.t c.args.x c.args.table.now c.args.mail.now c.requires, kept, omega (arith, ap (λ (r : SessionStep). r.outbox.n) c.session_acts-r.ensures, few), c.delivered-entry.ensures.inside)
+    (has-session c.args.t c.args.x c.args.table.now c.args.mail.now c.requires, kept, omega (arith, ap (λ (r : SessionStep). length r.outbox) c.session_acts-r.ensures, few), c.delivered-entry.ensures.inside)
 
 pub returns-in-Request : goal.returns-in-Request
 returns-in-Request c =

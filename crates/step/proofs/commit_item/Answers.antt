@@ -3,17 +3,12 @@ use mathlib.Core.Path.{◌≡◌, refl, ap}
 use lib.ListN.{length}
 use Rattle.table.proofs.Laws.{sized-with_item, sessions_of-with_item}
 use Rattle.item.specs.declared.ItemStep.{ItemStep}
-use Rattle.mailbox.specs.Entry.{from_item}
-use Rattle.mailbox.specs.Layout.{entries_of}
-use Rattle.step.specs.Parts.{place_of}
-use Rattle.refusal.proofs.Outcome.{number-positive, passed-on}
-use Rattle.step.proofs.Acting.{has_room, no_room, room-filled}
+use Rattle.refusal.proofs.Outcome.{passed-on}
 use native.Mathlib.Omega.{arith}
 use Rattle.step.proofs.commit_item.Goals as goal
 
-pub post-requires : goal.post-requires
-post-requires c =
-    has_room c.args.mail.now (place_of c.args.entry (entries_of c.args.mail.now)) _ c.in_ok-make_room.ensures c.requires.3 refl _ refl c.requires.4
+pub send-requires : goal.send-requires
+send-requires c = rw c.as_slice.ensures (c.requires.3, c.requires.4, c.requires.5)
 
 pub answer_of-requires : goal.answer_of-requires
 answer_of-requires c =
@@ -26,10 +21,10 @@ answer_of-requires c =
 
 pub returns : goal.returns
 returns c w e =
-    let p = room-filled c.args.mail.now (place_of c.args.entry (entries_of c.args.mail.now)) _ c.in_ok-make_room.ensures c.requires.3 refl (from_item c.args.x) w.sends (ap (λ (r : ItemStep). r.outbox.n) e) (c.post.ensures w.sends (ap (λ (r : ItemStep). r.outbox) e)) in
-    rw (c.answer_of.ensures, c.put_item.ensures, p.0, p.1, e) refl
+    let p = rw (c.as_slice.ensures, ap (λ (r : ItemStep). r.outbox) e) at c.in_ok-sent.ensures in
+    rw (c.answer_of.ensures, c.put_item.ensures, p.0, p.1, p.2, e) refl
 
-pub returns-in_err-make_room : goal.returns-in_err-make_room
-returns-in_err-make_room c w e =
-    let p = no_room c.args.mail.now (place_of c.args.entry (entries_of c.args.mail.now)) _ c.in_err-make_room.ensures (number-positive c.in_err-make_room.field-0.0) (from_item c.args.x) w.sends (ap (λ (r : ItemStep). r.outbox.n) e) in
+pub returns-in_err-sent : goal.returns-in_err-sent
+returns-in_err-sent c w e =
+    let p = rw (c.as_slice.ensures, ap (λ (r : ItemStep). r.outbox) e) at c.in_err-sent.ensures in
     rw (passed-on _ _ c.from_residual.ensures.1, p.1, p.2, p.0) refl

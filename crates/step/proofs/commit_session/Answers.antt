@@ -1,23 +1,18 @@
 -- The tail of a step of a session.
 use mathlib.Core.Path.{refl, ap}
 use Rattle.session.specs.declared.SessionStep.{SessionStep}
-use Rattle.mailbox.specs.Entry.{from_session}
-use Rattle.mailbox.specs.Layout.{entries_of}
-use Rattle.step.specs.Parts.{place_of}
-use Rattle.refusal.proofs.Outcome.{number-positive, passed-on}
-use Rattle.step.proofs.Acting.{has_room, no_room, room-filled}
+use Rattle.refusal.proofs.Outcome.{passed-on}
 use Rattle.step.proofs.commit_session.Goals as goal
 
-pub post-requires : goal.post-requires
-post-requires c =
-    has_room c.args.mail.now (place_of c.args.entry (entries_of c.args.mail.now)) _ c.in_ok-make_room.ensures c.requires.1 refl _ refl c.requires.2
+pub send-requires : goal.send-requires
+send-requires c = rw c.as_slice.ensures (c.requires.1, c.requires.2, c.requires.3)
 
 pub returns : goal.returns
 returns c w e =
-    let p = room-filled c.args.mail.now (place_of c.args.entry (entries_of c.args.mail.now)) _ c.in_ok-make_room.ensures c.requires.1 refl (from_session c.args.t) w.sends (ap (λ (r : SessionStep). r.outbox.n) e) (c.post.ensures w.sends (ap (λ (r : SessionStep). r.outbox) e)) in
-    rw (c.accepted.ensures, c.put_session.ensures, p.0, p.1, e) refl
+    let p = rw (c.as_slice.ensures, ap (λ (r : SessionStep). r.outbox) e) at c.in_ok-sent.ensures in
+    rw (c.accepted.ensures, c.put_session.ensures, p.0, p.1, p.2, e) refl
 
-pub returns-in_err-make_room : goal.returns-in_err-make_room
-returns-in_err-make_room c w e =
-    let p = no_room c.args.mail.now (place_of c.args.entry (entries_of c.args.mail.now)) _ c.in_err-make_room.ensures (number-positive c.in_err-make_room.field-0.0) (from_session c.args.t) w.sends (ap (λ (r : SessionStep). r.outbox.n) e) in
+pub returns-in_err-sent : goal.returns-in_err-sent
+returns-in_err-sent c w e =
+    let p = rw (c.as_slice.ensures, ap (λ (r : SessionStep). r.outbox) e) at c.in_err-sent.ensures in
     rw (passed-on _ _ c.from_residual.ensures.1, p.1, p.2, p.0) refl

@@ -1,14 +1,11 @@
--- `Session::stored_probes` meets its contract. The invariant: what was given and the probes stored so far, with those to come.
+-- `Session::stored_probes` meets its contract. The invariant: behind what was given stand the probes so far, and those to come are left.
 use mathlib.Core.Path.{◌≡◌}
-use mathlib.Core.List.{List, ◌++◌}
+use mathlib.Core.List.{◌++◌}
 use Prim.Native.Nat.{◌+◌, ◌≤◌}
 use lib.ListN.{length, drop}
-use Rattle.message.specs.Outbox.{cells}
-use Rattle.message.specs.declared.Message.{Message}
 use Rattle.session.specs.Rules.{probes_from}
 use Rattle.session.proofs.Session.stored_probes.Given as goal
 
 abbrev pub invariant-loop-i : goal.invariant-loop-i
-invariant-loop-i v =
-    (v.n ≤ v.initial.n + v.i) × ((l : List Message) → v.initial.n ≡ length l → v.initial.at ≡ cells l
-    → (p : List Message) × (v.n ≡ length p) × (v.at ≡ cells p) × (p ++ probes_from v.x (v.i + 1) (drop v.i v.j-items) ≡ l ++ probes_from v.x 1 v.j-items))
+invariant-loop-i l =
+    (length l.out ≤ 1 + l.i) × (l.out ++ probes_from l.x (l.i + 1) (drop l.i l.j-items) ≡ l.initial.out ++ probes_from l.x 1 l.j-items)
