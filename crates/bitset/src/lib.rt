@@ -63,6 +63,8 @@ pub fn full(m: u8) -> u64
     if m == 64 { u64::MAX } else { (1u64 << m) - 1 }
 }
 
+// That k is 1 to 64 is a clause below: numbers come from records and messages, where they are bytes.
+
 // Whether k is in the mask.
 #[tactic(auto, unfolding(crate::specs::Bitset::has))]
 pub fn contains(mask: u64, k: u8) -> bool

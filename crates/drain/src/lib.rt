@@ -13,6 +13,7 @@ ghost use Rattle.drain.specs.Parts.{in_use, closed_up, longer, GapIn, Due, Place
 
 use refusal::Refusal;
 
+// That a gap lies in its mailbox (GapIn) is a clause and no invariant of the type: the mailbox is lent to each function, and changes.
 // The places from `from` on and before `to`, of spent entries. Those before it are kept, those from `to` on are pending.
 #[derive(Clone, Copy)]
 pub struct Gap {

@@ -47,6 +47,8 @@ fn agree(d: u8, t: u8, k: u8, a: u8, b: u8) -> bool
         & ((k != Message::ABORT) | (a == t))
 }
 
+// That a place lies within the mail is a clause of each function: a slice cut for every entry is no plainer, and is cut again for the next.
+
 // The byte of a route at `at` and the byte of a body at `to`.
 fn cell(m: &[u8], at: usize, to: usize, top: u8, high: u8, skip: u8) -> bool
     requires { (at + 2 ≤ length m.now) × (to + 3 ≤ length m.now) }

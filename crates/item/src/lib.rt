@@ -42,6 +42,7 @@ pub struct ItemStep {
     pub event: Event,
 }
 
+// That a record is packed is a clause of its functions, and no invariant of the type: table::item answers for a record of any bytes.
 impl Item {
     // The places of the fields in the record's bytes, and how many these are.
     pub const WAITING_PLACE: usize = 1;

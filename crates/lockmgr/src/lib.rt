@@ -34,6 +34,8 @@ pub struct Cycle {
     pub length: u8,
 }
 
+// Table and mail are two parameters all the way: C lends them so, and a report and a text are lent the table alone.
+
 // Whether the numbers that start is given are within their bounds and the lengths are theirs.
 fn sizes_fit(
     sessions: u64,

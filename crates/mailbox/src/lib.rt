@@ -53,6 +53,8 @@ fn body_place(c: usize, k: usize) -> usize
     HEADER + WIDTH * c + WIDTH * k
 }
 
+// That the bytes are those of a mailbox (Kept, Stands) is a clause of each function below and no invariant of a type: C lends the bytes,
+// and what is promised names each byte that is left.
 // C and the number of entries.
 pub fn capacity(m: &[u8]) -> usize
     requires { header ≤ length m.now }

@@ -22,6 +22,7 @@ pub struct Message {
 }
 
 impl Message {
+    // Kept as numbers: what is promised of a message names the byte itself, and a kind that no rule names is dropped.
     pub const REQUEST: u8 = 1;
 
     pub const RELEASE: u8 = 2;

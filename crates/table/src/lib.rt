@@ -141,6 +141,8 @@ pub fn well_formed(t: &[u8]) -> bool
     form::ranks(ranks(t))
 }
 
+// That a record is there (HasSession, HasItem) is a clause and no invariant of a type, for the same reason as in mailbox: the bytes are lent.
+
 // The record of session k.
 #[tactic(auto, using(crate::proofs::Laws::places), unfolding(crate::specs::Layout::session))]
 pub fn session(t: &[u8], k: u8) -> Session
