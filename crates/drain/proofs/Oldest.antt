@@ -6,7 +6,7 @@ use mathlib.Core.Logic.{◌⊎◌, inl, inr, ⊎_elim}
 use Prim.Native.Nat.{ℕ, ◌+◌, ◌<◌}
 use native.Mathlib.Omega.{arith}
 use lib.Dec.{eqb}
-use lib.ListN.{length, length-map}
+use lib.ListN.{length}
 use borrow.Author.Tests.{eq-eqb, ne_eqb, leb-true, leb-false, lt-ltb, le-ltb}
 use Rattle.lists.specs.Lists.{remove_at}
 use Rattle.lists.proofs.Laws.{find_index-first}
@@ -31,8 +31,8 @@ use Rattle.step.proofs.Acting as Acting
 use Rattle.step.proofs.Acting.{acted-concluded, length-sent, deliverable, item-packed}
 use Rattle.drain.specs.Oldest.{verb_of, EarliestAt, acted_at}
 use Rattle.drain.specs.declared.Gap.{Gap}
-use Rattle.drain.specs.Parts.{in_use, closed_up, GapIn, Due, longer, fits, refusal_of, is_made, gap_after, Admitted, Outcome, outcome, outcome_of, Delivers}
-use Rattle.drain.proofs.Gaps.{left, some_left, entry-left, others-left, filled-spent, filled-left}
+use Rattle.drain.specs.Parts.{in_use, closed_up, GapIn, Due, longer, fits, refusal_of, is_made, Sent, Outcome, outcome, outcome_of, Delivers}
+use Rattle.drain.proofs.Gaps.{left, some_left, entry-left, others-left}
 
 -- a delivery that is not refused is made where it is allowed
 allowed_is : (d : Result (Option Gap) Refusal) (fit allowed : Bool) → Number.outcome d ≡ refusal_of fit → is_made d ≡ fit && allowed → IfOk d (λ h. is_some h ≡ allowed)
@@ -176,7 +176,7 @@ module _ (g : Gap) (table mail : List ℕ) (due : Due g table mail) where
       ∙ ap (λ (l : List Entry). concluded due_entry.session table (closed_up g mail) (directed due_entry l table)) (others-left g mail due.spent due.some)
 
   -- what the delivery comes to, by whether what is sent fits in with the others
-  module _ (after : List ℕ) (f : Message → Entry) (l : List Message) (event : Event) (n : ℕ) (few : n ≡ length l) where
+  module _ (after : List ℕ) (f : Message → Entry) (l : List Message) (event : Event) where
     abbrev planned : Plan
     planned = record { table = after; entries = others_due ++ map f l; sent = length l; event = event }
 
@@ -190,36 +190,34 @@ module _ (g : Gap) (table mail : List ℕ) (due : Due g table mail) where
     same-capacity = (left g mail due.spent).capacity
 
     -- it stops where there is no room or it is not allowed
-    told-full : fits (longer g) n mail ≡ false → (allowed : Bool) → outcome Refusal.mail_full table (closed_up g mail) ≡ told allowed
-    told-full e = no_room due_entry.session table (closed_up g mail) planned (rw (same-capacity) (lt-ltb (capacity_of mail) (length (others_due ++ map f l)) (omega (arith, length-sent others_due f l, leb-false (length others_due + n) (capacity_of mail) e, few))))
+    told-full : fits (longer g) (length l) mail ≡ false → (allowed : Bool) → outcome Refusal.mail_full table (closed_up g mail) ≡ told allowed
+    told-full e = no_room due_entry.session table (closed_up g mail) planned (rw (same-capacity) (lt-ltb (capacity_of mail) (length (others_due ++ map f l)) (omega (arith, length-sent others_due f l, leb-false (length others_due + length l) (capacity_of mail) e))))
 
-    room-left : fits (longer g) n mail ≡ true → overfull (capacity_of (closed_up g mail)) (others_due ++ map f l) ≡ false
-    room-left e = rw (same-capacity) (le-ltb (capacity_of mail) (length (others_due ++ map f l)) (omega (arith, length-sent others_due f l, leb-true (length others_due + n) (capacity_of mail) e, few)))
+    room-left : fits (longer g) (length l) mail ≡ true → overfull (capacity_of (closed_up g mail)) (others_due ++ map f l) ≡ false
+    room-left e = rw (same-capacity) (le-ltb (capacity_of mail) (length (others_due ++ map f l)) (omega (arith, length-sent others_due f l, leb-true (length others_due + length l) (capacity_of mail) e)))
 
-    by_tests : (fit allowed : Bool) → fits (longer g) n mail ≡ fit → fit && allowed ≡ false → outcome (refusal_of fit) table (closed_up g mail) ≡ told allowed
+    by_tests : (fit allowed : Bool) → fits (longer g) (length l) mail ≡ fit → fit && allowed ≡ false → outcome (refusal_of fit) table (closed_up g mail) ≡ told allowed
     by_tests false allowed e h = told-full e allowed
     by_tests true false e h = only-judged due_entry.session table (closed_up g mail) planned (room-left e)
     by_tests true true e h = absurd (true≢false h)
 
-    module _ (allowed : Bool) (d : Result (Option Gap) Refusal) (mail' : List ℕ) (a : Admitted g n allowed d mail mail') where
+    module _ (allowed : Bool) (d : Result (Option Gap) Refusal) (mail' : List ℕ) (a : Sent g allowed f l d mail mail') where
       pub told_stopped : is_made d ≡ false → Delivers g allowed table mail done d table mail'
       told_stopped e =
           let s = a.stays e in
-          rw (a.refusal, s.0, s.1) (due.spent, refl, by_tests (fits (longer g) n mail) allowed refl (sym a.made ∙ e), allowed_is d (fits (longer g) n mail) allowed a.refusal a.made)
+          rw (a.refusal, s.0, s.1) (due.spent, refl, by_tests (fits (longer g) (length l) mail) allowed refl (sym a.made ∙ e), allowed_is d (fits (longer g) (length l) mail) allowed a.refusal a.made)
 
-      both : is_made d ≡ true → (fits (longer g) n mail ≡ true) × (allowed ≡ true)
-      both e = and_both (fits (longer g) n mail) allowed (sym a.made ∙ e)
+      both : is_made d ≡ true → (fits (longer g) (length l) mail ≡ true) × (allowed ≡ true)
+      both e = and_both (fits (longer g) (length l) mail) allowed (sym a.made ∙ e)
 
       -- or what is sent is added, and the record written
-      pub told-made : is_made d ≡ true → {filled : List ℕ} → filled ≡ mail_bytes (capacity_of mail') (entries_of mail' ++ map f l)
-          → Delivers g allowed table mail done d after filled
-      told-made e q =
-          let p = a.placed e in
-          let b = both e in
-          let count : length (map f l) ≡ n = length-map l f ∙ sym few in (
-            filled-spent (longer g) n (gap_after g d) mail mail' p (map f l) count q,
-            p.front,
-            rw (a.refusal, b.0, b.1, filled-left (longer g) n (gap_after g d) mail mail' p (map f l) count q)
+      pub told-made : is_made d ≡ true → Delivers g allowed table mail done d after mail'
+      told-made e =
+          let s = a.spent e in
+          let b = both e in (
+            s.0,
+            s.1,
+            rw (a.refusal, b.0, b.1, a.added e)
                 (ap (λ (C : ℕ). outcome 0 after (mail_bytes C (others_due ++ map f l))) (sym same-capacity) ∙ made due_entry.session table (closed_up g mail) planned (room-left b.0)),
-            allowed_is d (fits (longer g) n mail) allowed a.refusal a.made,
+            allowed_is d (fits (longer g) (length l) mail) allowed a.refusal a.made,
           )

@@ -1,7 +1,8 @@
 -- What the parts of the code ask of each other and leave. No part of the promise.
 -- The entries that a drain has delivered, spent ones, stand in a gap of the mailbox until they go out all at once: before it stand entries that are kept, behind it those that are pending.
-use Rattle.std.specs.Prelude.{ℕ, ◌+◌, ◌≤◌, ◌<◌, ◌≡◌, Bool, true, false, cond, ◌&&◌, List, leb, length, Option, Some, None, Result, Ok, Err, IfOk, is_some}
+use Rattle.std.specs.Prelude.{ℕ, ◌+◌, ◌≤◌, ◌<◌, ◌≡◌, Bool, true, false, cond, ◌&&◌, List, ◌++◌, map, leb, length, Option, Some, None, Result, Ok, Err, IfOk, is_some}
 use Rattle.lists.specs.Lists.{without_places}
+use Rattle.message.specs.declared.Message.{Message}
 use Rattle.mailbox.specs.Entry.{Entry}
 use Rattle.mailbox.specs.Layout.{capacity_of, count_of, entries_of, mail_bytes, Kept}
 use Rattle.refusal.specs.declared.Refusal.{Refusal}
@@ -64,12 +65,13 @@ gap_after g (Ok (Some h)) = h
 gap_after g (Ok None) = g
 gap_after g (Err e) = g
 
--- the delivery of the entry behind gap g, which sends n messages, is made if they have room and it is allowed
-pub record Admitted (g : Gap) (n : ℕ) (allowed : Bool) (d : Result (Option Gap) Refusal) (before after : List ℕ) : Type 0 where
-  pub refusal : Number.outcome d ≡ refusal_of (fits (longer g) n before)
-  pub made : is_made d ≡ fits (longer g) n before && allowed
+-- the delivery of the entry behind gap g, which sends messages, is made if they have room and it is allowed: then they stand behind the entries in use
+pub record Sent (g : Gap) (allowed : Bool) (f : Message → Entry) (l : List Message) (d : Result (Option Gap) Refusal) (before after : List ℕ) : Type 0 where
+  pub refusal : Number.outcome d ≡ refusal_of (fits (longer g) (length l) before)
+  pub made : is_made d ≡ fits (longer g) (length l) before && allowed
   pub stays : is_made d ≡ false → (after ≡ before) × (gap_after g d ≡ g)
-  pub placed : is_made d ≡ true → Placed (longer g) n (gap_after g d) before after
+  pub spent : is_made d ≡ true → GapIn (gap_after g d) after × ((gap_after g d).from ≡ g.from)
+  pub added : is_made d ≡ true → closed_up (gap_after g d) after ≡ mail_bytes (capacity_of before) (in_use (longer g) before ++ map f l)
 
 -- what a delivery is refused with, or 0, and what it leaves, without the spent entries
 pub record Outcome : Type 0 where

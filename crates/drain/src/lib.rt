@@ -1,16 +1,18 @@
 // One delivery of a drain, on buffers that were judged. The entries that the drain has delivered, spent ones, stand in a gap of the mailbox until they go out all at once.
 #![tactic(auto)]
 
-ghost use Rattle.std.specs.Prelude.{◌≡◌, true, ◌≤◌};
+ghost use Rattle.std.specs.Prelude.{◌≡◌, true, ◌≤◌, length};
 ghost use Rattle.message.specs.Outbox.{room};
+ghost use Rattle.mailbox.specs.Entry.{sent};
 ghost use Rattle.mailbox.specs.Layout.{entry_at};
 ghost use Rattle.table.specs.Layout.{session, senior};
 ghost use Rattle.waits.specs.OnTable.{locks};
 ghost use Rattle.step.specs.Step.{item_receives, session_receives, session_plan, item_plan};
 ghost use Rattle.step.specs.Parts.{concluded};
 ghost use Rattle.drain.specs.Oldest.{acted_at};
-ghost use Rattle.drain.specs.Parts.{in_use, closed_up, longer, GapIn, Due, Placed, fits, Admitted, Delivers};
+ghost use Rattle.drain.specs.Parts.{in_use, closed_up, longer, GapIn, Due, Placed, fits, Sent, Delivers};
 
+use message::Message;
 use refusal::Refusal;
 
 // That a gap lies in its mailbox (GapIn) is a clause and no invariant of the type: the mailbox is lent to each function, and changes.
@@ -44,22 +46,32 @@ fn make_places(mail: &mut [u8], gap: Gap, n: usize) -> Gap
     }
 }
 
-// Judges whether the n messages that the delivery of the entry behind the gap sends have room. If they do and it is allowed, makes places for them: the gap after.
-fn admit(mail: &mut [u8], gap: Gap, n: usize, allowed: bool) -> Result<Option<Gap>, Refusal>
-    requires { GapIn (longer gap) mail.old × (n ≤ room) }
-    ensures { Admitted gap n allowed result mail.old mail.new }
+// Judges whether what a session (direction 1) or an item (direction 2) sends in the delivery of the entry behind the gap has room.
+// If it has and the delivery is allowed, makes places for it and adds it: the gap after.
+fn send(
+    mail: &mut [u8],
+    gap: Gap,
+    allowed: bool,
+    direction: u8,
+    party: u8,
+    out: &[Message],
+) -> Result<Option<Gap>, Refusal>
+    requires { GapIn (longer gap) mail.old × (length out.now ≤ room) }
+    ensures { Sent gap allowed (sent direction party) out.now result mail.old mail.new }
 {
     let after = Gap {
         from: gap.from,
         to: gap.to + 1,
     };
-    if !has_room(mail, after, n) {
+    if !has_room(mail, after, out.len()) {
         return Err(Refusal::MailFull);
     }
     if !allowed {
         return Ok(None);
     }
-    Ok(Some(make_places(mail, after, n)))
+    let made = make_places(mail, after, out.len());
+    mailbox::post(mail, direction, party, out);
+    Ok(Some(made))
 }
 
 // Delivers the entry behind the gap to session t.
@@ -76,10 +88,9 @@ fn deliver_to_session(
         result table.new mail.new }
 {
     let r = step::session_receives(t, gap.to, table, mail);
-    let Some(after) = admit(mail, gap, r.outbox.len(), allowed)? else {
+    let Some(after) = send(mail, gap, allowed, mailbox::TO_ITEM, t, r.outbox.as_slice())? else {
         return Ok(None);
     };
-    mailbox::post(mail, mailbox::TO_ITEM, t, r.outbox.as_slice());
     table::put_session(table, t, r.session);
     Ok(Some(after))
 }
@@ -98,10 +109,17 @@ fn deliver_to_item(
         result table.new mail.new }
 {
     let r = step::item_receives(x, gap.to, table, mail);
-    let Some(after) = admit(mail, gap, r.outbox.len(), allowed)? else {
+    let Some(after) = send(
+        mail,
+        gap,
+        allowed,
+        mailbox::TO_SESSION,
+        x,
+        r.outbox.as_slice(),
+    )?
+    else {
         return Ok(None);
     };
-    mailbox::post(mail, mailbox::TO_SESSION, x, r.outbox.as_slice());
     table::put_item(table, x, r.item);
     Ok(Some(after))
 }

@@ -1,9 +1,7 @@
 -- The delivery to an item: judged for room, then only told, or written.
-use mathlib.Core.Path.{◌≡◌, refl, ap, ◌∙◌}
-use lib.ListN.{length}
+use mathlib.Core.Path.{◌≡◌, refl}
 use native.Mathlib.Omega.{arith}
 use Rattle.refusal.proofs.Outcome.{passed-on}
-use Rattle.item.specs.declared.ItemStep.{ItemStep}
 use Rattle.item.specs.Record.{packed}
 use Rattle.item.specs.Rules as Item
 use Rattle.mailbox.specs.Entry.{from_item}
@@ -22,18 +20,18 @@ returns-in_err-after c =
     let Did : Item.After = item_receives (Table.senior c.args.table.now) (locks c.args.table.now (entry_at c.args.mail.now c.args.gap.to).item) (entry_at c.args.mail.now c.args.gap.to) in
     let received : c.item_receives-r.result ≡ Item.step_of (Did) = rw (← c.requires.1) c.item_receives-r.ensures.0 in
     let w = Did in
-    rw (passed-on _ _ c.from_residual.ensures.1, c.requires.1) (told_stopped c.args.gap c.args.table.now c.args.mail.now c.requires.0 (Table.with_item c.args.table.now (entry_at c.args.mail.now c.args.gap.to).item (packed w.lock)) (from_item (entry_at c.args.mail.now c.args.gap.to).item) w.sends w.event _ (c.len.ensures ∙ ap (λ (r : ItemStep). length r.outbox) received) c.args.allowed _ _ c.in_err-after.ensures refl)
+    rw (passed-on _ _ c.from_residual.ensures.1, c.requires.1) (told_stopped c.args.gap c.args.table.now c.args.mail.now c.requires.0 (Table.with_item c.args.table.now (entry_at c.args.mail.now c.args.gap.to).item (packed w.lock)) (from_item (entry_at c.args.mail.now c.args.gap.to).item) w.sends w.event c.args.allowed _ _ (rw (c.as_slice.ensures, received, c.requires.1) at c.in_err-after.ensures) refl)
 
 pub returns-in_default : goal.returns-in_default
 returns-in_default c =
     let Did : Item.After = item_receives (Table.senior c.args.table.now) (locks c.args.table.now (entry_at c.args.mail.now c.args.gap.to).item) (entry_at c.args.mail.now c.args.gap.to) in
     let received : c.item_receives-r.result ≡ Item.step_of (Did) = rw (← c.requires.1) c.item_receives-r.ensures.0 in
     let w = Did in
-    let a = rw c.in_default.is at c.in_ok-after.ensures in
-    rw c.requires.1 (told_stopped c.args.gap c.args.table.now c.args.mail.now c.requires.0 (Table.with_item c.args.table.now (entry_at c.args.mail.now c.args.gap.to).item (packed w.lock)) (from_item (entry_at c.args.mail.now c.args.gap.to).item) w.sends w.event _ (c.len.ensures ∙ ap (λ (r : ItemStep). length r.outbox) received) c.args.allowed _ _ a refl)
+    let a = rw (c.in_default.is, c.as_slice.ensures, received, c.requires.1) at c.in_ok-after.ensures in
+    rw c.requires.1 (told_stopped c.args.gap c.args.table.now c.args.mail.now c.requires.0 (Table.with_item c.args.table.now (entry_at c.args.mail.now c.args.gap.to).item (packed w.lock)) (from_item (entry_at c.args.mail.now c.args.gap.to).item) w.sends w.event c.args.allowed _ _ a refl)
 
-pub post-requires : goal.post-requires
-post-requires c = let p = (rw c.in-Some.is at c.in_ok-after.ensures).placed refl in rw (c.as_slice.ensures) (record { kept = p.spent.kept; fits = omega (arith, p.free, c.len.ensures) })
+pub send-requires : goal.send-requires
+send-requires c = let d = c.requires.0 in (record { kept = d.spent.kept; order = omega (arith, d.spent.order); inside = omega (arith, d.some) }, rw c.as_slice.ensures c.item_receives-r.ensures.1)
 
 pub put_item-requires : goal.put_item-requires
 put_item-requires c = rw c.requires.1 (has-item c.args.gap c.args.table.now c.args.mail.now c.requires.0)
@@ -45,4 +43,4 @@ returns c =
     let w = Did in
     let does = received in
     rw (c.put_item.ensures, does, c.requires.1)
-    (told-made c.args.gap c.args.table.now c.args.mail.now c.requires.0 (Table.with_item c.args.table.now (entry_at c.args.mail.now c.args.gap.to).item (packed w.lock)) (from_item (entry_at c.args.mail.now c.args.gap.to).item) w.sends w.event _ (c.len.ensures ∙ ap (λ (r : ItemStep). length r.outbox) does) c.args.allowed _ _ (rw c.in-Some.is at c.in_ok-after.ensures) refl (rw (c.requires.1, c.as_slice.ensures, does) at c.post.ensures))
+    (told-made c.args.gap c.args.table.now c.args.mail.now c.requires.0 (Table.with_item c.args.table.now (entry_at c.args.mail.now c.args.gap.to).item (packed w.lock)) (from_item (entry_at c.args.mail.now c.args.gap.to).item) w.sends w.event c.args.allowed _ _ (rw (c.in-Some.is, c.as_slice.ensures, does, c.requires.1) at c.in_ok-after.ensures) refl)
