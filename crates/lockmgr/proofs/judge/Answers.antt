@@ -5,11 +5,11 @@ use native.Mathlib.Omega.{arith}
 use Rattle.step.specs.declared.Verb.{Verb}
 use Rattle.step.specs.Verb.{verb_number}
 use Rattle.table.proofs.Laws as TableLaws
-use Rattle.refusal.specs.Number.{number, outcome}
+use Rattle.refusal.specs.Number.{outcome}
 use Rattle.refusal.proofs.Outcome.{number-positive, passed-on}
 use Rattle.step.proofs.Verbs.{verb-bounds}
 use Rattle.lockmgr.proofs.Judging.{buffers-zero, judged-verb, judged-buffers, judged-number, judged-none}
-use Rattle.lockmgr.proofs.Numbers.{outside}
+use Rattle.lockmgr.proofs.Numbers.{outside, passed_number}
 use Rattle.lockmgr.proofs.judge.Goals as goal
 
 -- the number of a verb
@@ -19,7 +19,7 @@ bounds v e = let p = verb-bounds v in (omega (arith, e, p.0), omega (arith, e, p
 pub returns-in_err-verb-clause-number : goal.returns-in_err-verb-clause-number
 returns-in_err-verb-clause-number c =
     let e = c.in_err-verb.ensures in
-    ap outcome (passed-on _ _ c.from_residual.ensures.1) ∙ ap number e.0 ∙ sym (judged-verb _ _ _ _ _ (outside 1 4 refl e.1))
+    passed_number _ c.from_residual.ensures.1 e.0 (judged-verb _ _ _ _ _ (outside 1 4 refl e.1))
 
 pub returns-in_err-judge_buffers-clause-number : goal.returns-in_err-judge_buffers-clause-number
 returns-in_err-judge_buffers-clause-number c =
@@ -35,8 +35,8 @@ pub returns-in_err-session-clause-number : goal.returns-in_err-session-clause-nu
 returns-in_err-session-clause-number c =
     let v = bounds c.in_ok-verb.verb c.in_ok-verb.ensures in
     let e = c.in_err-session.ensures in
-    ap outcome (passed-on _ _ c.from_residual-in_err-session.ensures.1) ∙ ap number e.0
-    ∙ sym (judged-number _ _ _ _ _ v.0 v.1 (sym c.in_ok-judge_buffers.ensures) (λ a b d f. outside 1 _ c.sessions.ensures e.1 a b))
+    passed_number _ c.from_residual-in_err-session.ensures.1 e.0
+    (judged-number _ _ _ _ _ v.0 v.1 (sym c.in_ok-judge_buffers.ensures) (λ a b d f. outside 1 _ c.sessions.ensures e.1 a b))
 
 pub items-requires : goal.items-requires
 items-requires c = TableLaws.header-fits c.args.table.now (buffers-zero c.args.table.now c.args.mail.now (sym c.in_ok-judge_buffers.ensures)).records.sized
@@ -45,8 +45,8 @@ pub returns-in_err-item-clause-number : goal.returns-in_err-item-clause-number
 returns-in_err-item-clause-number c =
     let v = bounds c.in_ok-verb.verb c.in_ok-verb.ensures in
     let e = c.in_err-item.ensures in
-    ap outcome (passed-on _ _ c.from_residual-in_err-item.ensures.1) ∙ ap number e.0
-    ∙ sym (judged-number _ _ _ _ _ v.0 v.1 (sym c.in_ok-judge_buffers.ensures) (λ a b d f. outside 1 _ c.items.ensures e.1 d f))
+    passed_number _ c.from_residual-in_err-item.ensures.1 e.0
+    (judged-number _ _ _ _ _ v.0 v.1 (sym c.in_ok-judge_buffers.ensures) (λ a b d f. outside 1 _ c.items.ensures e.1 d f))
 
 pub returns : goal.returns
 returns c =

@@ -4,18 +4,17 @@ use Prim.Native.Nat.{ℕ}
 use native.Mathlib.Omega.{arith}
 use Rattle.table.proofs.Laws as TableLaws
 use Rattle.refusal.specs.Number.{number}
-use Rattle.refusal.proofs.Outcome.{number-positive, passed-on}
+use Rattle.refusal.proofs.Outcome.{passed-on}
 use Rattle.reopen.specs.Reopening.{reopened}
 use Rattle.lockmgr.proofs.Judging.{buffers-zero, reopen-buffers, reopen-number, reopen-judged}
-use Rattle.lockmgr.proofs.Numbers.{outside}
+use Rattle.lockmgr.proofs.Numbers.{outside, told_refused}
 use Rattle.lockmgr.proofs.try_reopen.Goals as goal
 
 pub returns-in_err-judge_buffers : goal.returns-in_err-judge_buffers
 returns-in_err-judge_buffers c =
     let a = c.args in
-    let e = c.in_err-judge_buffers.ensures in
     rw (passed-on _ _ c.from_residual.ensures.1)
-    (ap (λ (n : ℕ). reopened n a.table.now) e ∙ sym (reopen-buffers a.session a.table.now a.mail.now (λ z. number-positive c.in_err-judge_buffers.field-0.0 (e ∙ z))))
+    (told_refused (λ n. reopened n a.table.now) _ c.in_err-judge_buffers.ensures (reopen-buffers a.session a.table.now a.mail.now))
 
 pub sessions-requires : goal.sessions-requires
 sessions-requires c = TableLaws.header-fits _ (buffers-zero c.args.table.now c.args.mail.now (sym c.in_ok-judge_buffers.ensures)).records.sized

@@ -1,16 +1,15 @@
 -- A step that `judge` does not refuse has what `act` asks for.
-use mathlib.Core.Path.{sym, ap, ◌∙◌}
-use Prim.Native.Nat.{ℕ}
-use Rattle.refusal.proofs.Outcome.{number-positive, passed-on}
+use mathlib.Core.Path.{sym, ◌∙◌}
+use Rattle.refusal.proofs.Outcome.{passed-on}
 use Rattle.step.specs.Step.{stepped, refused_answer}
 use Rattle.lockmgr.proofs.Judging.{judged-zero, step-refused, step_acts}
+use Rattle.lockmgr.proofs.Numbers.{told_refused}
 use Rattle.lockmgr.proofs.try_step.Goals as goal
 
 pub returns-in_err-verb : goal.returns-in_err-verb
 returns-in_err-verb c =
-    let e = c.in_err-verb.ensures.number in
     rw (passed-on _ _ c.from_residual.ensures.1)
-    (ap (λ (n : ℕ). stepped (refused_answer n) c.args.table.now c.args.mail.now) e ∙ sym (step-refused c.args.verb c.args.session c.args.item c.args.table.now c.args.mail.now (λ z. number-positive c.in_err-verb.field-0.0 (e ∙ z))))
+    (told_refused (λ n. stepped (refused_answer n) c.args.table.now c.args.mail.now) _ c.in_err-verb.ensures.number (step-refused c.args.verb c.args.session c.args.item c.args.table.now c.args.mail.now))
 
 pub act-requires : goal.act-requires
 act-requires c =
