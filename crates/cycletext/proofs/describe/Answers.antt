@@ -51,8 +51,8 @@ returns-then-out-lines_length c =
     let e = refused_short a.me a.t.now a.out.now (round c.of-graph.ensures c.requires c.in-Some.ensures) (omega (arith, c.lines_length.ensures, ap length w, c.if-out-lines_length.true)) in
     rw e refl
 
-pub put_lines-requires : goal.put_lines-requires
-put_lines-requires c =
+pub put_lines-length-requires : goal.put_lines-length-requires
+put_lines-length-requires c =
     let a = c.args in
     let w = whole c.of-graph.ensures c.requires c.in-Some.ensures c.leader.ensures in
     elim c.else-out-lt-LONGEST.branch [
@@ -60,17 +60,17 @@ put_lines-requires c =
       | else-out-lt-LONGEST-via-else-out-lt-LONGEST b ↦ omega (arith, fits a.t.now c.requires.0 a.me c.requires.1, ap length w, b.if-out-lt-LONGEST.false)
     ]
 
-pub overflow_cast-result : goal.overflow_cast-result
-overflow_cast-result c =
+pub overflow_cast-length : goal.overflow_cast-length
+overflow_cast-length c =
     let a = c.args in
     let w = whole c.of-graph.ensures c.requires c.in-Some.ensures c.leader.ensures in
-    omega (arith, c.put_lines.ensures.count, ap length w, fits a.t.now c.requires.0 a.me c.requires.1)
+    omega (arith, c.put_lines-length.ensures.count, ap length w, fits a.t.now c.requires.0 a.me c.requires.1)
 
 pub returns : goal.returns
 returns c =
     let a = c.args in
     let w = whole c.of-graph.ensures c.requires c.in-Some.ensures c.leader.ensures in
-    let p = c.put_lines in
+    let p = c.put_lines-length in
     let room : length (text a.t.now a.me) ≤ length a.out.now =
     elim c.else-out-lt-LONGEST.branch [
       | else-out-lt-LONGEST-via-then-out-lt-LONGEST+else-out-lines_length b ↦ omega (arith, b.lines_length.ensures, ap length w, b.if-out-lines_length.false)
