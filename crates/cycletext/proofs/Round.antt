@@ -1,16 +1,16 @@
 -- Going round a cycle, one wait at a time: what the loops of the code know.
 use mathlib.Core.Path.{◌≡◌, refl, sym, ap, ◌∙◌, fun_ext}
-use mathlib.Core.Bool.{true, false}
-use mathlib.Core.List.{List, [], ◌∷◌}
+use mathlib.Core.Bool.{Bool, true, false}
+use mathlib.Core.List.{List, [], ◌∷◌, ◌++◌}
 use Prim.Native.Nat.{ℕ, suc, ◌+◌, ◌-◌, ◌≤◌, ◌<◌}
 use native.Mathlib.Numerals.{add-one}
 use native.Mathlib.Omega.{arith}
 use native.Mathlib.Decide.{ℕ_discrete}
-use Rattle.std.specs.Prelude.{Option, Some, None}
+use Rattle.std.specs.Prelude.{Option, Some, None, cond}
 use Rattle.std.specs.Iterator.{Yields, YieldsFirst}
 use Rattle.std.proofs.lemmas.Iterator.Consumers.{YieldsList-from_first, YieldsList-turn, YieldsList-end}
 use borrow.Author.Tests.{ne_eqb, lt-ltb, le-ltb}
-use lib.ListN.{length, get_or}
+use lib.ListN.{length, get_or, length-append}
 use lib.Seq.{take_all}
 use Rattle.lists.specs.Lists.{tabulate}
 use Rattle.lists.proofs.Laws.{length-tabulate, get_d_tabulate}
@@ -126,16 +126,14 @@ module _ {t : List ℕ} (f : Formed t) {me n : ℕ} (o : OnCycle t me) (long : n
     there_too : r ≡ get_or (all t me) i 0
     there_too = e ∙ sym (all-ahead i h)
 
-    pub best_new : Table.senior t r s ≡ true → Best t me (i + 1) r
+    pub best_more : (q : Bool) → Table.senior t r s ≡ q → Best t me (i + 1) (cond q r s)
     unfolding reached
-    best_new q = elim (ℕ_discrete i 0) [
+    best_more true q = elim (ℕ_discrete i 0) [
       | yes z ↦ at-first z (e ∙ ap (ahead t me) z)
       | no z ↦ let b = some (omega arith) in
           rw (add-one) (record { place = i; there = there_too; leads = leads_new (senior-weak (Table.ranks t)) (all t me) i b.place b.leads (rw (there_too, b.there) at q) })
     ]
-
-    pub best_still : Table.senior t r s ≡ false → Best t me (i + 1) s
-    best_still q = elim (ℕ_discrete i 0) [
+    best_more false q = elim (ℕ_discrete i 0) [
       | yes z ↦ at-first z (none z)
       | no z ↦ let b = some (omega arith) in
           rw (add-one) (record { place = b.place; there = b.there; leads = leads-still (senior-weak (Table.ranks t)) (all t me) i b.place b.leads (rw (there_too, b.there) at q) })
@@ -161,6 +159,18 @@ module _ {t : List ℕ} (f : Formed t) {me n : ℕ} (o : OnCycle t me) (long : n
   pub text-lines : text t me ≡ lines (waits_from t n (leader t me))
   unfolding Cycle.cycle
   text-lines = rw long refl
+
+-- a turn of that loop: s is the most senior of those passed, and at first the first; w's session takes its place or does not
+module _ {r a : Around} (whole : a ≡ r) (xs : List Wait) (b : Around) (by : Yields (YieldsFirst rest) a xs b) where
+  abbrev seen : List Wait → ℕ → Type 0
+  seen l s = (length l ≡ 0 → s ≡ r.session) × (1 ≤ length l → Best r.graph.now.table.now r.session (length l) s)
+
+  pub turn_more : r.left ≡ cycle_length r.graph.now.table.now r.session → {o : Option Wait} (c : Around) {w : Wait} → o ≡ Some w → YieldsFirst rest b o c
+      → {s : ℕ} → seen xs s → (q : Bool) → Table.senior r.graph.now.table.now w.session s ≡ q → seen (xs ++ (w ∷ [])) (cond q w.session s)
+  turn_more long c {w} is steps p q e =
+      let one : length (xs ++ (w ∷ [])) ≡ length xs + 1 = length-append xs (w ∷ []) in
+      let turn = passing whole xs b by c is steps in
+      (λ z. absurd (omega (arith, z, one)), λ h. rw (one) (best_more r.graph.now.read.formed r.on long p.0 p.1 turn.0 turn.1 q e))
 
 -- ---- the causes of a refusal
 module _ (t : ℕ) (table buffer : List ℕ) where

@@ -8,6 +8,7 @@ use native.Mathlib.Omega.{arith}
 use lib.Dec.{eqb, ltb}
 use lib.ListN.{length}
 use borrow.Author.Tests.{eq-eqb, ne_eqb, eqb-true, eqb-false, ltb-true, ltb-false}
+use Rattle.refusal.proofs.Outcome.{number-positive}
 use Rattle.lists.proofs.Tests.{by-test, by_answer, and_both, and_intro, cond_same}
 use Rattle.mailbox.specs.Entry.{Entry, to_item}
 use Rattle.mailbox.specs.Layout.{count_of, entry_at}
@@ -210,3 +211,5 @@ module _ (limit : ℕ) (table mail : List ℕ) where
   pub drain-refused : (drain_refusal start ≡ 0 → ⊥) → drain limit table mail ≡ drain_result (drain_answer (drain_refusal start) 0 0) table mail
   unfolding drain drain_steps left
   drain-refused h = rw (ne_eqb (drain_refusal start) 0 h) refl
+
+pub ruleset refusals = (drain-refused, number-positive)

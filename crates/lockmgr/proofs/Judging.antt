@@ -4,7 +4,6 @@ use mathlib.Core.Bool.{Bool, true, false, cond, not, ◌&&◌}
 use mathlib.Core.List.{List, [], ◌∷◌, ◌++◌}
 use mathlib.Core.Logic.{◌≢◌}
 use Prim.Native.Nat.{ℕ, ◌≤◌}
-use native.Mathlib.Omega.{arith}
 use lib.Dec.{eqb}
 use lib.ListN.{length}
 use borrow.Author.Tests.{le-leb, eqb-true, eqb-false, eq-eqb, ne_eqb}
@@ -14,12 +13,13 @@ use Rattle.message.specs.Limits.{max_sessions, max_items}
 use Rattle.session.specs.Seniority
 use Rattle.mailbox.specs.Layout as Mail
 use Rattle.table.specs.Layout as Table
-use Rattle.table.proofs.Laws as TableLaws
 use Rattle.refusal.specs.Refusal
 use Rattle.refusal.specs.Refusal.{Cause, cause, first}
 use Rattle.step.specs.Step.{Stepped, plan, acted, stepped, refused_answer, committed, Formed}
 use Rattle.step.specs.Parts.{Judged, Unhindered}
 use Rattle.step.proofs.Acting.{by-outcome}
+use Rattle.step.proofs.Verbs.{verb-bounds}
+use Rattle.refusal.proofs.Outcome.{passed-on, number-positive}
 use Rattle.refusal.proofs.Causes.{first_stops, first-goes-on, unmet-not}
 use Rattle.reopen.specs.Reopening as Reopening
 use Rattle.reopen.specs.Reopening.{may_reopen, reopen_causes, reopened}
@@ -219,9 +219,6 @@ module _ (t : ℕ) (table : List ℕ) where
       let n = within 1 (Table.sessions_of table) t (unmet-not known 4 _ f.1).0 in
       (record { sized = s.0; formed = f.0 }, n.0, n.1)
 
-  pub report_small : report_refusal t table ≡ 0 → t ≤ max_sessions
-  report_small e = let f = report-zero e in omega (arith, TableLaws.sized-facts table f.0.sized, f.2)
-
   pub report-size : Table.sized table ≡ false → report_refusal t table ≡ Refusal.bad_size
   unfolding report_refusal first
   report-size e = rw (e) refl
@@ -281,3 +278,16 @@ module _ (t : ℕ) (table mail : List ℕ) where
       let n = unmet-not number 4 _ b.1 in
       let m = unmet-not (may_reopen t table mail) 14 _ n.1 in
       (b.0, n.0, m.0)
+
+-- ---- what the code of the calls goes by
+pub ruleset starts = (sizes-known, start-zero)
+
+pub ruleset judgements = (buffers-zero, judged-verb, judged-buffers, judged-number, judged-none, verb-bounds, passed-on, number-positive)
+
+pub ruleset steps = (judged-zero, step-refused, step_acts, passed-on, number-positive)
+
+pub ruleset reports = (report-size, report-table, report-number, report-none, report-zero)
+
+pub ruleset texts = (report-zero, text-refused, text-judged, passed-on, number-positive)
+
+pub ruleset reopenings = (buffers-zero, reopen-buffers, reopen-number, reopen-judged, passed-on, number-positive)

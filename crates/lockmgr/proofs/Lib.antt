@@ -2,4 +2,3 @@ pub mod Judging
 pub mod Form
 pub mod Draining
 pub mod PlainRanks
-pub mod Numbers

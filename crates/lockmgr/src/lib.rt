@@ -37,6 +37,7 @@ pub struct Cycle {
 // Table and mail are two parameters all the way: C lends them so, and a report and a text are lent the table alone.
 
 // Whether the numbers that start is given are within their bounds and the lengths are theirs.
+#[tactic(auto, unfolding(crate::specs::Calls::sizes_fit))]
 fn sizes_fit(
     sessions: u64,
     items: u64,
@@ -60,6 +61,7 @@ fn sizes_fit(
 }
 
 // Whether a start is refused. Its lists are looked at only where their lengths are right.
+#[tactic(auto, using(crate::proofs::Judging::starts), unfolding(crate::specs::Calls::start_refusal, refusal::specs::Refusal::first))]
 fn judge_start(
     sessions: u64,
     items: u64,
@@ -80,6 +82,7 @@ fn judge_start(
 }
 
 // Opens a lock manager in two lent buffers; byte k of the list, from 1, is the rank of session k.
+#[tactic(auto, using(crate::proofs::Judging::starts), unfolding(crate::specs::Calls::start))]
 pub fn lockmgr_start(
     sessions: u64,
     items: u64,
@@ -101,6 +104,7 @@ pub fn lockmgr_start(
 }
 
 // Whether a call is refused for its buffers.
+#[tactic(auto, using(table::proofs::Laws::places), unfolding(refusal::specs::Refusal::first))]
 fn judge_buffers(table: &[u8], mail: &[u8]) -> Result<(), Refusal>
     ensures { outcome result ≡ first (buffer_causes table.now mail.now) }
 {
@@ -133,6 +137,7 @@ fn named(number: u64, top: u8) -> Result<u8, Refusal>
 }
 
 // Judges what is judged before the step itself is looked at: the verb, the session and the item that are named.
+#[tactic(auto, using(table::proofs::Laws::places, crate::proofs::Judging::judgements))]
 fn judge(
     verb: u64,
     session: u64,
@@ -151,6 +156,7 @@ fn judge(
 }
 
 // One step that may be refused.
+#[tactic(auto, using(crate::proofs::Judging::steps))]
 fn try_step(
     verb: u64,
     session: u64,
@@ -175,6 +181,7 @@ pub fn lockmgr_step(verb: u64, session: u64, item: u64, table: &mut [u8], mail: 
 }
 
 // Judges a call that reads the table alone: the session that is named.
+#[tactic(auto, using(table::proofs::Laws::places, crate::proofs::Judging::reports))]
 fn judge_report(session: u64, table: &[u8]) -> Result<u8, Refusal>
     ensures number { outcome result ≡ report_refusal session table.now }
     ensures named { IfOk result (λ t. t ≡ session) }
@@ -189,6 +196,7 @@ fn judge_report(session: u64, table: &[u8]) -> Result<u8, Refusal>
 }
 
 // The length of the cycle on which a session lies, or 0.
+#[tactic(auto, using(crate::proofs::Judging::reports), unfolding(crate::specs::Calls::report))]
 pub fn lockmgr_report(session: u64, table: &[u8]) -> Cycle
     ensures { result ≡ report session table.now }
 {
@@ -205,6 +213,7 @@ pub fn lockmgr_report(session: u64, table: &[u8]) -> Cycle
 }
 
 // A reopening that may be refused.
+#[tactic(auto, using(table::proofs::Laws::places, crate::proofs::Judging::reopenings))]
 fn try_reopen(session: u64, table: &mut [u8], mail: &[u8]) -> Result<(), Refusal>
     ensures { reopened (outcome result) table.new ≡ reopen session table.old mail.now }
 {
@@ -224,6 +233,7 @@ pub fn lockmgr_reopen(session: u64, table: &mut [u8], mail: &[u8]) -> u8
 }
 
 // A text that may be refused: its length.
+#[tactic(auto, using(crate::proofs::Judging::texts))]
 fn try_cycle_text(session: u64, table: &[u8], text: &mut [u8]) -> Result<u16, Refusal>
     ensures { described (text_told result) text.new ≡ cycle_text session table.now text.old }
 {
@@ -323,6 +333,7 @@ fn deliver_all(limit: u64, table: &mut [u8], mail: &mut [u8]) -> Drained
 }
 
 // Delivers the oldest entry again and again: until no mail is left, the next delivery would be refused with 9, or so many are made.
+#[tactic(auto, using(crate::proofs::Draining::refusals))]
 pub fn lockmgr_drain(limit: u64, table: &mut [u8], mail: &mut [u8]) -> Drained
     ensures { drain_result result table.new mail.new ≡ drain limit table.old mail.old }
 {

@@ -1,12 +1,17 @@
 -- `well_formed` meets its contract. The loops' invariants: each record passed is well-formed.
 use mathlib.Core.Path.{◌≡◌, refl, sym, ◌∙◌}
-use Prim.Native.Nat.{suc}
+use mathlib.Core.Bool.{Bool, true}
+use Prim.Native.Nat.{ℕ, suc, ◌+◌}
 use native.Mathlib.Omega.{arith}
 use Rattle.lists.specs.Lists.{every}
 use Rattle.lists.proofs.Searches.{every_more}
 use Rattle.table.specs.Layout.{sessions_of, items_of}
 use Rattle.table.proofs.Laws.{sized-facts, session_ok, item_ok, in_form, sessions-false, items-false, session-here, item-here}
 use Rattle.table.proofs.well_formed.Goals as goal
+
+-- a record more is well-formed, as the code has judged it
+more : (p : ℕ → Bool) {r : Bool} (k : ℕ) → every k p ≡ true → r ≡ p (suc k) → r ≡ true → every (k + 1) p ≡ true
+more p k all e is = rw (every_more k p, all, ← e, is) refl
 
 pub loop-k-init : goal.loop-k-init
 unfolding every
@@ -19,9 +24,8 @@ session-requires c =
 
 pub loop-k-preserved : goal.loop-k-preserved
 loop-k-preserved c =
-    let t = c.args.t.now in
     let k = c.loop-k.k in
-    rw (every_more k (session_ok t), c.loop-k.invariant, ← session-here t k c.sessions-s.ensures c.items-m.ensures, ← c.session.ensures, c.if-not-session.false) refl
+    more (session_ok c.args.t.now) k c.loop-k.invariant (c.session.ensures ∙ session-here c.args.t.now k c.sessions-s.ensures c.items-m.ensures) c.if-not-session.false
 
 pub returns-then-not-session : goal.returns-then-not-session
 returns-then-not-session c =
@@ -40,9 +44,8 @@ item-requires c =
 
 pub loop-x-preserved : goal.loop-x-preserved
 loop-x-preserved c =
-    let t = c.args.t.now in
     let x = c.loop-x.x in
-    rw (every_more x (item_ok t), c.loop-x.invariant, ← item-here t x c.sessions-s.ensures c.items_start-from.ensures, ← c.item.ensures, c.if-not-item.false) refl
+    more (item_ok c.args.t.now) x c.loop-x.invariant (c.item.ensures ∙ item-here c.args.t.now x c.sessions-s.ensures c.items_start-from.ensures) c.if-not-item.false
 
 pub returns-then-not-item : goal.returns-then-not-item
 returns-then-not-item c =
