@@ -5,6 +5,8 @@ ghost use Rattle.std.specs.Prelude.{◌≡◌, ◌+◌, ◌≤◌, ◌<◌, eqb,
 ghost use Rattle.lists.specs.Lists.{all_of};
 ghost use Rattle.buffer.specs.Bytes.{slice, from_bytes, to_bytes, splice};
 
+// Two and eight bytes stand side by side: each width has from_le_bytes by name, and no trait of std has it.
+
 // The number of two bytes at `at`.
 pub fn get16(t: &[u8], at: usize) -> u64
     requires { at + 2 ≤ length t.now }

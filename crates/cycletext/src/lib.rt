@@ -19,7 +19,7 @@ use waits::{Wait, WaitGraph};
 // No text is longer, so that a buffer of this length needs no counting.
 const LONGEST: usize = 3045;
 
-// The answer of a call that writes a text.
+// The answer of a call that writes a text, as C reads it.
 #[repr(C)]
 #[derive(Clone, Copy)]
 pub struct Text {

@@ -124,7 +124,7 @@ fn deliver_to_item(
     Ok(Some(after))
 }
 
-// Delivers the entry behind the gap, the earliest of its route: the gap after. Where it is not allowed, only what it would be refused with is judged.
+// Delivers the entry behind the gap, the earliest of its route: the gap after. Where it is not allowed, only what it would be refused with is judged: a function for that alone would say the rules twice.
 pub fn deliver(
     gap: Gap,
     allowed: bool,

@@ -26,7 +26,7 @@ use refusal::Refusal;
 pub use step::Answer;
 use step::Verb;
 
-// The answer of a report.
+// The answer of a report, as C reads it.
 #[repr(C)]
 #[derive(Clone, Copy)]
 pub struct Cycle {
@@ -36,7 +36,8 @@ pub struct Cycle {
 
 // Table and mail are two parameters all the way: C lends them so, and a report and a text are lent the table alone.
 
-// Whether the numbers that start is given are within their bounds and the lengths are theirs.
+// Whether the numbers that start is given are within their bounds and the lengths are theirs. The six stand side by side as C hands them over;
+// once judged they are narrowed by `as`, since std has no From for that.
 #[tactic(auto, unfolding(crate::specs::Calls::sizes_fit))]
 fn sizes_fit(
     sessions: u64,
@@ -155,7 +156,7 @@ fn judge(
     Ok((verb, session, item))
 }
 
-// One step that may be refused.
+// One step that may be refused. Each such part of a call is a function of its own, so that it can pass refusals on: C wants another answer.
 #[tactic(auto, using(crate::proofs::Judging::steps))]
 fn try_step(
     verb: u64,
@@ -251,7 +252,7 @@ pub fn lockmgr_cycle_text(session: u64, table: &[u8], text: &mut [u8]) -> Text
     }
 }
 
-// The answer of a drain: how many deliveries it made, and why it ended.
+// The answer of a drain, as C reads it: how many deliveries it made, and why it ended.
 #[repr(C)]
 #[derive(Clone, Copy)]
 pub struct Drained {

@@ -61,6 +61,8 @@ fn entry_names(t: u8, mail: &[u8], k: usize) -> bool
     (m.peer == t) | (m.a == t) | (m.b == t)
 }
 
+// Three searches of one line each: a function for all three would be `all` again.
+
 // Whether no stored probe names session t.
 fn no_probe_names(t: u8, table: &[u8]) -> bool
     requires { IsSession t × Table.Formed table.now }

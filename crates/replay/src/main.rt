@@ -3,7 +3,7 @@
 
 use std::io;
 
-// Kept by hand, as in `statement`: no length may be a trait's constant, so one function for both would take the two rooms and a closure with two clauses, and promise nothing.
+// Kept by hand, as in `statement`: no length may be a trait's constant, so one function for both would take the two rooms and a closure with two clauses.
 fn main(rt: HostRuntime) -> io::Result<()> {
     let mut input = transcript::room();
     let n = program::read_full(&mut rt.stdin(), &mut input)?;

@@ -56,7 +56,7 @@ impl TryFrom<u64> for Verb {
     }
 }
 
-// The answer of a step. A refused step answers its number and zeros.
+// The answer of a step, as C reads it. A refused step answers its number and zeros.
 #[repr(C)]
 #[derive(Clone, Copy)]
 pub struct Answer {

@@ -11,7 +11,7 @@ ghost use Rattle.tally.specs.Steps.{step_of, is_rolled_back, Tallied};
 use session::Session;
 use step::Answer;
 
-// Cycles closed (01: rings), declarations made and sessions that reached stage 6.
+// Cycles closed (01: rings), declarations made and sessions that reached stage 6. 01 names a record that is lent to the step and on to `add`.
 #[derive(Clone, Copy)]
 pub struct Tally {
     pub closed: u64,
@@ -36,7 +36,7 @@ pub fn add(t: &mut Tally, a: Answer, rolled_back: bool)
     t.rolled_back += u64::from(rolled_back);
 }
 
-// A step: what a caller asks of the lock manager.
+// A step: what a caller asks of the lock manager, in bytes of the input, which may name no verb.
 #[derive(Clone, Copy)]
 pub struct Step {
     pub verb: u8,

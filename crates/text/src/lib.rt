@@ -6,7 +6,8 @@ ghost use Rattle.buffer.specs.Bytes.{splice};
 ghost use Rattle.text.specs.Text.{decimal, spaced, rest, line};
 
 // Writes v in decimal.
-// Kept by hand: `write!` may answer an error whatever the room, so that no contract could promise the digits.
+// Kept by hand: `write!` may answer a fmt::Error whatever the room, so that no contract could promise the digits. What writes is lent the buffer and a place:
+// a cursor over a lent buffer would promise the same and stand beside these functions.
 #[tactic(auto, using(crate::proofs::Laws::length_digit, crate::proofs::Laws::length_decimal_more))]
 pub fn put_decimal(out: &mut [u8], at: usize, v: u64) -> usize
     requires { at + length (decimal v) ≤ length out.old }
@@ -21,7 +22,7 @@ pub fn put_decimal(out: &mut [u8], at: usize, v: u64) -> usize
     next + 1
 }
 
-// How many digits v has.
+// How many digits v has, counted as they are written: by the logarithm a text in a short buffer took 3% longer.
 #[tactic(auto, using(crate::proofs::Laws::length_digit, crate::proofs::Laws::length_decimal_more, crate::proofs::Laws::length_most))]
 pub fn decimal_length(v: u64) -> usize
     ensures { result ≡ length (decimal v) }

@@ -39,7 +39,7 @@ const LONGEST_LINE: usize = 4 + 8 * 4 + 1;
 // The longest output: a line for each step, and the last one.
 pub const LONGEST: usize = LONGEST_LINE * (MAX_STEPS + 1);
 
-// Room for as much of an input as has to be read.
+// Room for as much of an input as has to be read: of each program by itself, as no length may be a trait's constant.
 pub fn room() -> [u8; ROOM]
     ensures { read_size ≡ length result }
 {
@@ -133,7 +133,7 @@ fn plain_ranks() -> [u8; MAX_SESSIONS]
     array::from_fn(|k| (k + 1) as u8)
 }
 
-// Starts a lock manager of s sessions and m items.
+// Starts a lock manager of s sessions and m items, and answers as the call does.
 fn begin(s: u8, m: u8, table: &mut [u8], mail: &mut [u8]) -> u8
     requires { s ≤ max_sessions }
     ensures { start_result result table.new mail.new ≡ start (config s m capacity (plain s)) table.old mail.old }

@@ -49,7 +49,7 @@ fn mark(t: &[u8], at: &mut [u8; MAX_SESSIONS], x: u8)
 }
 
 // For each session 1 to MAX_SESSIONS the item at which it waits, or 0: one pass over the item records.
-// Kept as numbers: 0 is none as in the records, and a place is one byte.
+// Kept as numbers, with 0 for none: the list of numbers is what is promised. The range is half-open, since `1..=` has two ends and was slower.
 pub fn places(t: &[u8]) -> [u8; MAX_SESSIONS]
     requires { Formed t.now }
     ensures { result ≡ places t.now }
@@ -89,7 +89,7 @@ impl<'a> WaitGraph<'a> {
         })
     }
 
-    // From session s to its item.
+    // 01 names two halves that call each other, with the steps left falling: from session s to its item.
     #[cycle(walk_from_item_walk_from_session)]
     fn walk_from_session(&self, me: u8, s: u8, steps: u8) -> Option<u8>
         requires { (1 ≤ s) × (s ≤ max_sessions) }
@@ -128,7 +128,7 @@ impl<'a> WaitGraph<'a> {
     }
 }
 
-// The length of the cycle on which session `me` lies, or 0.
+// The length of the cycle on which session `me` lies, or 0: the number that C gets.
 pub fn cycle_length(t: &[u8], me: u8) -> u8
     requires { Formed t.now × (1 ≤ me) × (me ≤ sessions_of t.now) }
     ensures { result ≡ cycle_length t.now me }

@@ -37,7 +37,7 @@ pub struct Record {
     pub rollbacks: u64,
 }
 
-// Room for as much of an input as has to be read.
+// Room for as much of an input as has to be read: of each program by itself, as no length may be a trait's constant.
 pub fn room() -> [u8; ROOM]
     ensures { read_size ≡ length result }
 {
