@@ -167,6 +167,7 @@ impl Item {
         }
     }
 
+    #[tactic(auto, unfolding(crate::specs::Rules::on_request))]
     fn on_request(self, ranks: &[u8], t: u8) -> ItemStep
         requires { Packed self }
         ensures { result ≡ step_of (on_request (senior ranks.now) t (unpacked self)) }
@@ -259,6 +260,7 @@ impl Item {
         }
     }
 
+    #[tactic(auto, unfolding(crate::specs::Rules::on_probe))]
     fn on_probe(self, ranks: &[u8], t: u8, i: u8, j: u8) -> ItemStep
         requires { Packed self }
         ensures { result ≡ step_of (on_probe (senior ranks.now) t i j (unpacked self)) }
@@ -283,6 +285,7 @@ impl Item {
         }
     }
 
+    #[tactic(auto, unfolding(crate::specs::Rules::on_clean))]
     fn on_clean(self, ranks: &[u8], t: u8, a: u8, b: u8) -> ItemStep
         requires { Packed self }
         ensures { result ≡ step_of (on_clean (senior ranks.now) t a b (unpacked self)) }
@@ -302,6 +305,7 @@ impl Item {
         }
     }
 
+    #[tactic(auto, unfolding(crate::specs::Rules::on_rebroadcast))]
     fn on_rebroadcast(self, ranks: &[u8]) -> ItemStep
         requires { Packed self }
         ensures { result ≡ step_of (on_rebroadcast (senior ranks.now) (unpacked self)) }

@@ -1,7 +1,7 @@
 -- `Item::on_clean` meets its contract: the clean, then the probes, then the resends to the others.
 use mathlib.Core.Path.{◌≡◌, refl}
 use native.Mathlib.Omega.{arith}
-use borrow.Author.Tests.{eq-eqb, ne_eqb}
+use borrow.Author.Tests.{ne_eqb}
 use lib.Dec.{eqb}
 use Rattle.lists.specs.Lists.{find_index}
 use Rattle.session.specs.Seniority.{senior}
@@ -10,10 +10,6 @@ use Rattle.item.specs.Rules.{without, on_clean}
 use Rattle.lists.proofs.Laws.{remove_at_le}
 use Rattle.item.proofs.Laws.{step_eq, queue-length, holds-queue, holds-waiting, probes-length, taken_out}
 use Rattle.item.proofs.Item.on_clean.Goals as goal
-
-pub returns-then-holder-eq0 : goal.returns-then-holder-eq0
-unfolding on_clean
-returns-then-holder-eq0 c = rw (eq-eqb _ _ c.if-holder-eq0.true) c.dropped.ensures
 
 pub resends-requires : goal.resends-requires
 unfolding without
