@@ -13,8 +13,8 @@ ghost use Rattle.yearly.specs.Printed.{sums, refusal, day_lines, longest, longes
 ghost use Rattle.yearly.specs.Parts.{Days, max_value};
 ghost use Rattle.yearly.specs.Claims.{read_size};
 
-use std::cmp::Ordering;
 use refusal::Refusal;
+use std::cmp::Ordering;
 
 const MAX_DAYS: usize = 366;
 
