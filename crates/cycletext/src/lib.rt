@@ -147,6 +147,6 @@ pub fn describe(me: u8, t: &[u8], out: &mut [u8]) -> Result<u16, Refusal>
     if out.len() < LONGEST && out.len() < lines_length(round) {
         return Err(Refusal::ShortBuffer);
     }
-    let length = put_lines(out, round);
-    Ok(length as u16)
+    let length = put_lines(out, round) as u16;
+    Ok(length)
 }

@@ -309,6 +309,7 @@ fn take_turn(
     match drain::deliver(gap, allowed, table, mail) {
         Ok(Some(after)) => Ok(after),
         Ok(None) => Err(Ending::Limited),
+        // room (9) is all that a delivery is refused for
         Err(_) => Err(Ending::Full),
     }
 }

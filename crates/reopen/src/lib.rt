@@ -19,6 +19,7 @@ use refusal::Refusal;
 use session::Session;
 
 // Whether the session's work is over: stage 3 with nothing held, or stage 6.
+#[tactic(auto, unfolding(crate::specs::Reopening::is_over))]
 fn is_over(s: Session) -> bool
     ensures { result ≡ is_over s }
 {
@@ -34,6 +35,7 @@ fn row_has(row: [u8; MAX_SESSIONS], t: u8) -> bool
 }
 
 // Whether a probe that the record stores names session t.
+#[tactic(auto, unfolding(crate::specs::Reopening::stored_names))]
 fn stored_names(t: u8, s: Session) -> bool
     requires { IsSession t }
     ensures { result ≡ stored_names t s }
@@ -89,6 +91,7 @@ fn no_entry_names(t: u8, mail: &[u8]) -> bool
 }
 
 // Whether session t may be reopened.
+#[tactic(auto, using(table::proofs::Laws::places), unfolding(crate::specs::Reopening::may_reopen))]
 fn may_reopen(t: u8, table: &[u8], mail: &[u8]) -> bool
     requires { Formed table.now mail.now × Table.HasSession table.now t }
     ensures { result ≡ may_reopen t table.now mail.now }
@@ -100,6 +103,7 @@ fn may_reopen(t: u8, table: &[u8], mail: &[u8]) -> bool
 }
 
 // Reopens session t, on buffers that were judged.
+#[tactic(auto, unfolding(refusal::specs::Refusal::first))]
 pub fn reopen(t: u8, table: &mut [u8], mail: &[u8]) -> Result<(), Refusal>
     requires { Formed table.old mail.now × Table.HasSession table.old t }
     ensures { reopened (outcome result) table.new ≡ unless_refused (first (reopen_causes t table.old mail.now)) t table.old }

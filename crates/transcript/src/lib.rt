@@ -47,6 +47,7 @@ pub fn room() -> [u8; ROOM]
 }
 
 // Whether the input is as the program takes it.
+#[tactic(auto, unfolding(crate::specs::Input::well_formed))]
 fn well_formed(input: &[u8]) -> bool
     ensures { result ≡ Input.well_formed input.now }
 {
@@ -84,6 +85,7 @@ impl<'a> Script<'a> {
     }
 
     // Step k, from 0.
+    #[tactic(auto, unfolding(crate::specs::Input::step_at))]
     fn step(&self, k: usize) -> Step
         requires { k < self.now.n }
         ensures { step_of result ≡ Input.step_at self.now.input.now k }

@@ -97,3 +97,6 @@ last_short r some few most =
 
 pub refusal_short : (n : ℕ) → n < 256 → length (line n []) ≤ 4
 refusal_short n h = line_short 2 n [] 0 (omega arith) spaced-none
+
+-- what the code that judges a list goes by
+pub ruleset causes_of = (not-sized, not-consistent, no_sessions, some-sessions)

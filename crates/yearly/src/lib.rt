@@ -53,6 +53,7 @@ fn value(input: &[u8], i: usize) -> u64
 }
 
 // Whether the number of days is within bounds and the length is that of so many days.
+#[tactic(auto, unfolding(crate::specs::Input::sized))]
 fn sized(input: &[u8]) -> bool
     ensures { result ≡ Input.sized input.now }
 {
@@ -128,6 +129,7 @@ impl<'a> DayList<'a> {
 }
 
 // Whether the list is refused.
+#[tactic(auto, using(crate::proofs::Laws::causes_of))]
 fn judge(input: &[u8]) -> Result<(), Refusal>
     ensures { outcome result ≡ refusal input.now }
 {

@@ -60,8 +60,8 @@ put_lines-length-requires c =
       | else-out-lt-LONGEST-via-else-out-lt-LONGEST b ↦ omega (arith, fits a.t.now c.requires.0 a.me c.requires.1, ap length w, b.if-out-lt-LONGEST.false)
     ]
 
-pub overflow_cast-result : goal.overflow_cast-result
-overflow_cast-result c =
+pub overflow_cast-length : goal.overflow_cast-length
+overflow_cast-length c =
     let a = c.args in
     let w = whole c.of-graph.ensures c.requires c.in-Some.ensures c.leader.ensures in
     omega (arith, c.put_lines-length.ensures.count, ap length w, fits a.t.now c.requires.0 a.me c.requires.1)
