@@ -75,6 +75,7 @@ fn thrice(a: u8, b: u8, c: u8) -> [u8; BLOCK_CELLS]
 }
 
 // What the bytes of a block are tested by: the highest of the routes, the highest of the bodies, and 1 where no entry starts.
+// `skips` is kept as a row of bytes, like the other two: the loop compares rows, and a flag would be one byte too.
 #[derive(Drop)]
 struct Bounds {
     tops: [u8; BLOCK_CELLS],
@@ -116,6 +117,7 @@ fn entry(m: &[u8], at: usize, to: usize, s: u8, x: u8) -> bool
 }
 
 // A number of entries, all of them well-formed: whole blocks are passed.
+// Its loop and that of `passed` are kept apart: their tests read different bytes, here those of both arrays, there the routes alone.
 fn formed(m: &[u8], at: usize, to: usize, n: usize, s: u8, x: u8) -> usize
     requires { (at + width * n ≤ length m.now) × (to + width * n ≤ length m.now) }
     ensures { (result ≤ n) × (every_below result (λ k. Entry.well_formed s x (entry_from m.now (at + width * k) (to + width * k))) ≡ true) }
@@ -161,6 +163,7 @@ fn off(m: &[u8], at: usize, route: Route) -> bool
 }
 
 // Whether the route at `at` differs from the one searched for: in its item, from depth 2 on in its session too, at depth 3 in its direction too; with no branch.
+// `depth` is kept as a number: it is compared by >= in the loop that is done by vectors. `off` stays beside it: that one has early exits, this one no branch.
 #[tactic(auto, unfolding(crate::specs::Cells::differs))]
 fn differs(m: &[u8], at: usize, depth: u8, route: Route) -> bool
     requires { at + width ≤ length m.now }

@@ -5,7 +5,7 @@ ghost use Rattle.std.specs.Prelude.{◌≡◌, not, ◌&&◌, ℕ, ◌+◌, ◌�
 ghost use Rattle.bitset.specs.Bitset.{full};
 ghost use Rattle.buffer.specs.Bytes.{slice};
 ghost use Rattle.lists.specs.Lists.{all_of, distinct, member};
-ghost use Rattle.message.specs.Limits.{max_sessions};
+ghost use Rattle.message.specs.Limits.{max_sessions, max_items};
 ghost use Rattle.session.specs.Record as SessionRecord;
 ghost use Rattle.session.specs.Seniority;
 ghost use Rattle.item.specs.Record as ItemRecord;
@@ -18,13 +18,32 @@ use session::Session;
 // The juniors of a session and the queue of an item are rows of MAX_SESSIONS bytes; what they are compared with is two rows.
 pub const TWO_ROWS: usize = 2 * MAX_SESSIONS;
 
-// A row of s, then a row of zeros.
-pub fn limits(s: u8) -> [u8; TWO_ROWS]
-    ensures { result ≡ limits_of s }
-{
-    let mut limits = [0u8; TWO_ROWS];
-    limits[..MAX_SESSIONS].fill(s);
-    limits
+// What the records of a table are tested by: how many sessions and items there are, the mask that has every item, and a row of the number of sessions with a row of zeros behind it.
+#[derive(Drop)]
+pub struct Limits {
+    pub sessions: u8,
+    pub items: u8,
+    pub top: u64,
+    pub rows: [u8; TWO_ROWS],
+    pub ghost few: { sessions ≤ max_sessions },
+    pub ghost whole: { top ≡ full items },
+    pub ghost filled: { rows ≡ limits_of sessions },
+}
+
+impl Limits {
+    pub fn of(sessions: u8, items: u8) -> Limits
+        requires { (sessions ≤ max_sessions) × (items ≤ max_items) }
+        ensures { (result.sessions ≡ sessions) × (result.items ≡ items) }
+    {
+        let mut rows = [0u8; TWO_ROWS];
+        rows[..MAX_SESSIONS].fill(sessions);
+        Limits {
+            sessions,
+            items,
+            top: bitset::full(items),
+            rows,
+        }
+    }
 }
 
 // The row at `at`.
@@ -35,22 +54,23 @@ fn row_at(t: &[u8], at: usize) -> &[u8]
     &t[at..at + MAX_SESSIONS]
 }
 
-// Whether of a row the first n bytes are at most s, and the others zero.
-fn row(l: &[u8], s: u8, n: usize, limits: &[u8; TWO_ROWS]) -> bool
-    requires { (length l.now ≡ max_sessions) × (n ≤ max_sessions) × (limits.now ≡ limits_of s) }
-    ensures { result ≡ all_of (λ b. leb b s) (take n l.now) && all_of (λ b. eqb b 0) (drop n l.now) }
+// Whether of a row the first n bytes are sessions or zero, and the others zero.
+fn row(l: &[u8], n: usize, limits: &Limits) -> bool
+    requires { (length l.now ≡ max_sessions) × (n ≤ max_sessions) }
+    ensures { result ≡ all_of (λ b. leb b limits.now.sessions) (take n l.now) && all_of (λ b. eqb b 0) (drop n l.now) }
 {
     let from = MAX_SESSIONS - n;
     l.iter()
-        .zip(&limits[from..from + MAX_SESSIONS])
+        .zip(&limits.rows[from..from + MAX_SESSIONS])
         .fold(true, |ok, (b, limit)| ok & (b <= limit))
 }
 
-// Whether the session record at `at` is well-formed, with s sessions and m items; `top` has every item.
-pub fn session(t: &[u8], at: usize, s: u8, m: u8, top: u64, limits: &[u8; TWO_ROWS]) -> bool
-    requires { (at + SessionRecord.size ≤ length t.now) × (s ≤ max_sessions) × (top ≡ full m) × (limits.now ≡ limits_of s) }
-    ensures { result ≡ SessionRecord.well_formed s m (SessionRecord.session_at t.now at) }
+// Whether the session record at `at` is well-formed.
+pub fn session(t: &[u8], at: usize, limits: &Limits) -> bool
+    requires { at + SessionRecord.size ≤ length t.now }
+    ensures { result ≡ SessionRecord.well_formed limits.now.sessions limits.now.items (SessionRecord.session_at t.now at) }
 {
+    let s = limits.sessions;
     let stage = t[at];
     let awaited = t[at + Session::AWAITED_PLACE];
     let held = buffer::get64(t, at + Session::HELD_PLACE);
@@ -58,10 +78,10 @@ pub fn session(t: &[u8], at: usize, s: u8, m: u8, top: u64, limits: &[u8; TWO_RO
     let awaits = (stage == Session::WAITING)
         | (stage == Session::CLEANING)
         | (stage == Session::WITHDRAWING);
-    let waits = awaits & ((awaited >= 1) & (awaited <= m));
+    let waits = awaits & ((awaited >= 1) & (awaited <= limits.items));
     let none = !awaits & (awaited == 0);
     let juniors = row_at(t, at + Session::JUNIORS_PLACE);
-    staged & (waits | none) & (held <= top) & row(juniors, s, usize::from(s), limits)
+    staged & (waits | none) & (held <= limits.top) & row(juniors, usize::from(s), limits)
 }
 
 // Whether of the sessions in a queue none is zero, none stands there twice and none is h.
@@ -95,16 +115,17 @@ pub fn ranks(l: &[u8]) -> bool
     used == bitset::full(n as u8)
 }
 
-// Whether the item record at `at` is well-formed, with s sessions.
-pub fn item(t: &[u8], at: usize, s: u8, limits: &[u8; TWO_ROWS]) -> bool
-    requires { (at + ItemRecord.size ≤ length t.now) × (s ≤ max_sessions) × (limits.now ≡ limits_of s) }
-    ensures { result ≡ ItemRecord.well_formed s (ItemRecord.item_at t.now at) }
+// Whether the item record at `at` is well-formed.
+pub fn item(t: &[u8], at: usize, limits: &Limits) -> bool
+    requires { at + ItemRecord.size ≤ length t.now }
+    ensures { result ≡ ItemRecord.well_formed limits.now.sessions (ItemRecord.item_at t.now at) }
 {
+    let s = limits.sessions;
     let h = t[at];
     let n = usize::from(t[at + Item::WAITING_PLACE]);
     if (h > s) || (n > MAX_SESSIONS) {
         return false;
     }
     let line = row_at(t, at + Item::QUEUE_PLACE);
-    row(line, s, n, limits) && queue(&line[..n], h)
+    row(line, n, limits) && queue(&line[..n], h)
 }

@@ -179,10 +179,10 @@ pub fn remove(m: &mut [u8], k: usize)
 }
 
 // Adds an entry to the n that a mailbox of capacity c holds.
-fn add(m: &mut [u8], c: usize, n: usize, route: Route, k: u8, a: u8, b: u8)
+fn add(m: &mut [u8], c: usize, n: usize, route: Route, msg: &Message)
     requires { (length m.old ≡ size c) × (c ≤ max_capacity) × (n < c) }
     ensures { (l : List Entry) → length l ≡ n → m.old ≡ mail_bytes c l
-        → m.new ≡ mail_bytes c (l ++ (record { direction = route.direction; session = route.session; item = route.item; kind = k; a = a; b = b } ∷ [])) }
+        → m.new ≡ mail_bytes c (l ++ (record { direction = route.direction; session = route.session; item = route.item; kind = msg.now.kind; a = msg.now.a; b = msg.now.b } ∷ [])) }
 {
     entry::put(
         m,
@@ -191,7 +191,7 @@ fn add(m: &mut [u8], c: usize, n: usize, route: Route, k: u8, a: u8, b: u8)
         route.session,
         route.item,
     );
-    entry::put(m, body_place(c, n), k, a, b);
+    entry::put(m, body_place(c, n), msg.kind, msg.a, msg.b);
     buffer::put16(m, COUNT_PLACE, (n + 1) as u64);
 }
 
@@ -224,7 +224,7 @@ pub fn post(m: &mut [u8], direction: u8, party: u8, out: &[Message])
     let count = count(m);
     for (i, msg) in out.iter().enumerate() {
         let route = route_between(direction, party, msg.peer);
-        add(m, c, count + i, route, msg.kind, msg.a, msg.b);
+        add(m, c, count + i, route, msg);
     }
 }
 

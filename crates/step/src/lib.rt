@@ -1,7 +1,7 @@
 // One step on buffers that were judged: a request, a release or a delivery.
 #![tactic(auto)]
 
-ghost use Rattle.std.specs.Prelude.{◌≡◌, ◌<◌, true, cond, not, ◌≤◌, eqb, length, get_or, IfSome};
+ghost use Rattle.std.specs.Prelude.{◌≡◌, ◌<◌, true, not, ◌≤◌, eqb, length, get_or, IfSome};
 ghost use Rattle.message.specs.Limits.{max_items};
 ghost use Rattle.message.specs.Outbox.{room};
 ghost use Rattle.session.specs.Rules as SessionRules;
@@ -289,17 +289,17 @@ fn answer_of(t: u8, sent: u8, event: Event, table: &[u8]) -> Answer
 {
     match event {
         Event::Nothing => Answer::accepted(sent, 0, 0, 0),
-        Event::Joined => Answer::accepted(sent, closes(t, table), 0, 0),
+        Event::Joined => Answer::accepted(sent, u8::from(closes(t, table)), 0, 0),
         Event::Declared(v, i) => Answer::accepted(sent, 0, v, i),
     }
 }
 
-// 1 if session t lies on a cycle, else 0.
-fn closes(t: u8, table: &[u8]) -> u8
+// Whether session t lies on a cycle.
+fn closes(t: u8, table: &[u8]) -> bool
     requires { Formed table.now × (1 ≤ t) × (t ≤ sessions_of table.now) }
-    ensures { result ≡ cond (not (eqb (cycle_length table.now t) 0)) 1 0 }
+    ensures { result ≡ not (eqb (cycle_length table.now t) 0) }
 {
-    u8::from(waits::cycle_length(table, t) != 0)
+    waits::cycle_length(table, t) != 0
 }
 
 // One step on buffers that were judged.

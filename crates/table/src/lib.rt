@@ -46,6 +46,7 @@ pub fn items(t: &[u8]) -> u8
     t[ITEMS_PLACE]
 }
 
+// S and M are two arguments of the places below and no struct: most places ask for S alone, and `size` and `clear` have them before there is a table.
 // Where the item records begin, behind s sessions.
 fn items_start(s: u8) -> usize
     ensures { result ≡ items_start s }
@@ -125,22 +126,22 @@ pub fn well_formed(t: &[u8]) -> bool
 {
     let s = sessions(t);
     let m = items(t);
-    let limits = form::limits(s);
-    let top = bitset::full(m);
+    let limits = form::Limits::of(s, m);
     for k in 0..usize::from(s) {
-        if !form::session(t, HEADER + SESSION_STRIDE * k, s, m, top, &limits) {
+        if !form::session(t, HEADER + SESSION_STRIDE * k, &limits) {
             return false;
         }
     }
     let from = items_start(s);
     for x in 0..usize::from(m) {
-        if !form::item(t, from + ITEM_STRIDE * x, s, &limits) {
+        if !form::item(t, from + ITEM_STRIDE * x, &limits) {
             return false;
         }
     }
     form::ranks(ranks(t))
 }
 
+// Sessions and items keep a load and a store each: each of the four has its own definition, and an item's place needs S.
 // That a record is there (HasSession, HasItem) is a clause and no invariant of a type, for the same reason as in mailbox: the bytes are lent.
 
 // The record of session k.

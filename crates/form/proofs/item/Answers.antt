@@ -17,9 +17,9 @@ returns-then-h-s c =
     let a = c.args in
     let t = a.t.now in
     elim c.then-h-s.branch [
-      | then-h-s-via-then-h-s w ↦ rw (lt-leb (get_or t a.at 0) a.s w.if-h-s.true) refl
+      | then-h-s-via-then-h-s w ↦ rw (lt-leb (get_or t a.at 0) a.limits.now.sessions w.if-h-s.true) refl
       | then-h-s-via-else-h-s+then-n-gt-MAX_SESSIONS w ↦
-          rw (le-leb (get_or t a.at 0) a.s w.if-h-s.false, lt-leb (get_or t (a.at + waiting_place) 0) max_sessions (rw (c.from-n.ensures) at w.if-n-gt-MAX_SESSIONS.true)) refl
+          rw (le-leb (get_or t a.at 0) a.limits.now.sessions w.if-h-s.false, lt-leb (get_or t (a.at + waiting_place) 0) max_sessions (rw (c.from-n.ensures) at w.if-n-gt-MAX_SESSIONS.true)) refl
     ]
 
 pub slice_bounds-queue-end : goal.slice_bounds-queue-end
@@ -27,20 +27,20 @@ slice_bounds-queue-end c = sym (length-take-le c.from-n.result c.row_at-line.res
 
 pub queue-requires : goal.queue-requires
 queue-requires c =
-    (omega arith, λ k l. omega (arith, taken_low c.args.s c.from-n.result c.row_at-line.result.now (sym c.row.ensures ∙ c.if-row.true) k l))
+    (omega arith, λ k l. omega (arith, taken_low c.args.limits.now.sessions c.from-n.result c.row_at-line.result.now (sym c.row.ensures ∙ c.if-row.true) k l))
 
 pub returns-then-row : goal.returns-then-row
 returns-then-row c =
     let a = c.args in
     let t = a.t.now in
     c.queue.ensures
-    ∙ sym (item_form t a.at a.s c.from-n.ensures c.row_at-line.ensures.0
-    ∙ rw (le-leb (get_or t a.at 0) a.s c.if-h-s.false, le-leb c.from-n.result max_sessions c.if-n-gt-MAX_SESSIONS.false, ← c.row.ensures, c.if-row.true) refl)
+    ∙ sym (item_form t a.at a.limits.now.sessions c.from-n.ensures c.row_at-line.ensures.0
+    ∙ rw (le-leb (get_or t a.at 0) a.limits.now.sessions c.if-h-s.false, le-leb c.from-n.result max_sessions c.if-n-gt-MAX_SESSIONS.false, ← c.row.ensures, c.if-row.true) refl)
 
 pub returns-else-row : goal.returns-else-row
 returns-else-row c =
     let a = c.args in
     let t = a.t.now in
     c.if-row.false
-    ∙ sym (item_form t a.at a.s c.from-n.ensures c.row_at-line.ensures.0
-    ∙ rw (le-leb (get_or t a.at 0) a.s c.if-h-s.false, le-leb c.from-n.result max_sessions c.if-n-gt-MAX_SESSIONS.false, ← c.row.ensures, c.if-row.false) refl)
+    ∙ sym (item_form t a.at a.limits.now.sessions c.from-n.ensures c.row_at-line.ensures.0
+    ∙ rw (le-leb (get_or t a.at 0) a.limits.now.sessions c.if-h-s.false, le-leb c.from-n.result max_sessions c.if-n-gt-MAX_SESSIONS.false, ← c.row.ensures, c.if-row.false) refl)

@@ -19,9 +19,9 @@ pub returns : goal.returns
 unfolding all_of
 returns c =
     let l : List ℕ = c.args.l.now in
-    let bounds : List ℕ = take max_sessions (drop (max_sessions - c.args.n) c.args.limits.now) in
+    let bounds : List ℕ = take max_sessions (drop (max_sessions - c.args.n) c.args.limits.now.rows) in
     fold_over (zips fronts fronts) (λ p. (p.0.now, p.1.now)) _ (λ ys b. b ≡ all_of ordered ys) _
     (λ ys b x r q e k. rw (all_append ordered ys ((x.0.now, x.1.now) ∷ []), ← e) (search (rules, tests)))
     c.zip.result (zip l bounds) true c.fold.result
     (YieldsList-from_zip (YieldsList-from_slice l (search rules)) (YieldsList-from_slice bounds (search rules))).runs refl c.fold.ensures.ran
-    ∙ rw (c.requires.2) (row_form c.args.s c.args.n l c.requires.0 c.requires.1)
+    ∙ rw (c.args.limits.now.filled) (row_form c.args.limits.now.sessions c.args.n l c.requires.0 c.requires.1)

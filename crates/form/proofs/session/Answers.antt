@@ -6,4 +6,4 @@ use Rattle.form.proofs.session.Goals as goal
 pub returns : goal.returns
 returns c =
     let a = c.args in
-    rw (c.row.ensures, c.row_at-juniors.ensures.0, c.from.ensures, c.get64-held.ensures, c.requires.2) (session_form a.s a.m (session_at a.t.now a.at))
+    rw (c.row.ensures, c.row_at-juniors.ensures.0, c.from.ensures, c.get64-held.ensures, a.limits.now.whole) (session_form a.limits.now.sessions a.limits.now.items (session_at a.t.now a.at))

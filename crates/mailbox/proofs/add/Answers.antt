@@ -9,6 +9,6 @@ pub returns : goal.returns
 returns c =
     λ l e f.
     let a = c.args in
-    let added : Entry = record { direction = a.route.direction; session = a.route.session; item = a.route.item; kind = a.k; a = a.a; b = a.b } in
+    let added : Entry = record { direction = a.route.direction; session = a.route.session; item = a.route.item; kind = a.msg.now.kind; a = a.msg.now.a; b = a.msg.now.b } in
     c.put16.ensures
     ∙ add_mail a.c a.n l added e (omega arith) f (rw c.route_place.ensures at c.put.ensures) (rw c.body_place.ensures at c.put-2.ensures)

@@ -20,18 +20,18 @@ loop-k-init c = refl
 pub session-requires : goal.session-requires
 session-requires c =
     let f = sized-facts c.args.t.now c.requires in
-    (omega (arith, c.sessions-s.ensures, c.from-k-end.ensures), omega (arith, c.sessions-s.ensures), c.full-top.ensures, c.limits-limits.ensures)
+    omega (arith, c.sessions-s.ensures, c.from-k-end.ensures)
 
 pub loop-k-preserved : goal.loop-k-preserved
 loop-k-preserved c =
     let k = c.loop-k.k in
-    more (session_ok c.args.t.now) k c.loop-k.invariant (c.session.ensures ∙ session-here c.args.t.now k c.sessions-s.ensures c.items-m.ensures) c.if-not-session.false
+    more (session_ok c.args.t.now) k c.loop-k.invariant (c.session.ensures ∙ session-here c.args.t.now k (c.of-limits.ensures.0 ∙ c.sessions-s.ensures) (c.of-limits.ensures.1 ∙ c.items-m.ensures)) c.if-not-session.false
 
 pub returns-then-not-session : goal.returns-then-not-session
 returns-then-not-session c =
     let t = c.args.t.now in
     let k = c.loop-k.k in
-    sym (sessions-false t (suc k) (omega arith) (omega (arith, c.sessions-s.ensures, c.from-k-end.ensures)) (sym (session-here t k c.sessions-s.ensures c.items-m.ensures) ∙ sym c.session.ensures ∙ c.if-not-session.true))
+    sym (sessions-false t (suc k) (omega arith) (omega (arith, c.sessions-s.ensures, c.from-k-end.ensures)) (sym (session-here t k (c.of-limits.ensures.0 ∙ c.sessions-s.ensures) (c.of-limits.ensures.1 ∙ c.items-m.ensures)) ∙ sym c.session.ensures ∙ c.if-not-session.true))
 
 pub loop-x-init : goal.loop-x-init
 unfolding every
@@ -40,18 +40,18 @@ loop-x-init c = refl
 pub item-requires : goal.item-requires
 item-requires c =
     let f = sized-facts c.args.t.now c.requires in
-    (omega (arith, c.items_start-from.ensures, c.sessions-s.ensures, c.items-m.ensures, c.from-x-end.ensures), omega (arith, c.sessions-s.ensures), c.limits-limits.ensures)
+    omega (arith, c.items_start-from.ensures, c.sessions-s.ensures, c.items-m.ensures, c.from-x-end.ensures)
 
 pub loop-x-preserved : goal.loop-x-preserved
 loop-x-preserved c =
     let x = c.loop-x.x in
-    more (item_ok c.args.t.now) x c.loop-x.invariant (c.item.ensures ∙ item-here c.args.t.now x c.sessions-s.ensures c.items_start-from.ensures) c.if-not-item.false
+    more (item_ok c.args.t.now) x c.loop-x.invariant (c.item.ensures ∙ item-here c.args.t.now x (c.of-limits.ensures.0 ∙ c.sessions-s.ensures) (rw (c.of-limits.ensures.0) c.items_start-from.ensures)) c.if-not-item.false
 
 pub returns-then-not-item : goal.returns-then-not-item
 returns-then-not-item c =
     let t = c.args.t.now in
     let x = c.loop-x.x in
-    sym (items-false t (suc x) (omega arith) (omega (arith, c.items-m.ensures, c.from-x-end.ensures)) (sym (item-here t x c.sessions-s.ensures c.items_start-from.ensures) ∙ sym c.item.ensures ∙ c.if-not-item.true))
+    sym (items-false t (suc x) (omega arith) (omega (arith, c.items-m.ensures, c.from-x-end.ensures)) (sym (item-here t x (c.of-limits.ensures.0 ∙ c.sessions-s.ensures) (rw (c.of-limits.ensures.0) c.items_start-from.ensures)) ∙ sym c.item.ensures ∙ c.if-not-item.true))
 
 pub returns : goal.returns
 returns c =
