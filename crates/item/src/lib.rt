@@ -103,7 +103,7 @@ impl Item {
         requires { (0 < self.waiting) × (self.waiting ≤ max_sessions) }
         ensures { (result ≡ next_holder (senior ranks.now) (unpacked self).queue) × (result < self.waiting) }
     {
-        Session::most_senior(ranks, self.queue, usize::from(self.waiting))
+        Session::most_senior(ranks, self.sessions())
     }
 
     // The record without the session at a place of its queue, if there is one.

@@ -1,10 +1,10 @@
 // The session record: its stages, who is senior, what it does on a call and on each message.
 #![tactic(auto)]
 
-ghost use Rattle.std.specs.Prelude.{◌≡◌, cond, List, [], ◌∷◌, ◌++◌, ◌+◌, ◌≤◌, ◌<◌, length, take};
+ghost use Rattle.std.specs.Prelude.{◌≡◌, cond, List, [], ◌∷◌, ◌++◌, ◌+◌, ◌≤◌, ◌<◌, length};
 ghost use Rattle.message.specs.declared.Message.{Message};
 ghost use Rattle.message.specs.Kind;
-ghost use Rattle.message.specs.Limits.{IsItem, max_sessions};
+ghost use Rattle.message.specs.Limits.{IsItem};
 ghost use Rattle.message.specs.Outbox.{plain};
 ghost use Rattle.session.specs.Seniority.{rank, senior};
 ghost use Rattle.session.specs.MostSenior.{most_senior};
@@ -76,14 +76,14 @@ impl Session {
         Session::rank(ranks, a) < Session::rank(ranks, b)
     }
 
-    // The place of the most senior of the first n sessions of a list, found in one pass.
-    pub fn most_senior(ranks: &[u8], list: [u8; MAX_SESSIONS], n: usize) -> usize
-        requires { (0 < n) × (n ≤ max_sessions) }
-        ensures { (result ≡ most_senior (senior ranks.now) (take n list)) × (result < n) }
+    // The place of the most senior session of a list, found in one pass.
+    pub fn most_senior(ranks: &[u8], list: &[u8]) -> usize
+        requires { 0 < length list.now }
+        ensures { (result ≡ most_senior (senior ranks.now) list.now) × (result < length list.now) }
     {
         let mut place = 0;
         let mut best = Session::rank(ranks, list[0]);
-        for (i, &t) in list[..n].iter().enumerate() {
+        for (i, &t) in list.iter().enumerate() {
             let rank = Session::rank(ranks, t);
             if rank < best {
                 place = i;

@@ -5,8 +5,8 @@ use mathlib.Core.List.{List}
 use Prim.Native.Nat.{ℕ, zero, suc, ◌+◌, max}
 use native.Mathlib.Omega.{arith}
 use borrow.Author.Tests.{lt-ltb, le-ltb}
-use lib.ListN.{length, get_or, take}
-use lib.Seq.{get_or-take, length-take-le, take-length}
+use lib.ListN.{length, get_or}
+use lib.Seq.{take-length}
 use Rattle.lists.proofs.Orders.{StrictWeak}
 use Rattle.session.specs.Seniority.{rank, senior}
 use Rattle.session.proofs.Seniority.{senior-weak}
@@ -30,13 +30,13 @@ module _ {senior : ℕ → ℕ → Bool} (order : StrictWeak senior) (q : List �
       let more : max 1 (suc i + 1) ≡ suc (suc i) = omega arith in rw (more) (leads-still order q (suc i) k (rw (one) at l) e)
 
 pub loop-i-init : goal.loop-i-init
-loop-i-init c = (leads_one (senior-weak _) _, rw (get_or-take _ c.args.list 0 0 c.requires.0) c.rank-best.ensures)
+loop-i-init c = (leads_one (senior-weak _) _, c.rank-best.ensures)
 
 pub loop-i-preserved : goal.loop-i-preserved
 unfolding senior
 loop-i-preserved c =
     let r = c.args.ranks.now in
-    let q = take c.args.n c.args.list in
+    let q = c.args.list.now in
     let l = c.loop-i in
     let here = c.rank-rank.ensures in
     let best = l.invariant.1 in
@@ -52,8 +52,7 @@ loop-i-preserved c =
 pub returns : goal.returns
 returns c =
     let l = c.loop-i in
-    let q = take c.args.n c.args.list in
-    let len : length q ≡ c.args.n = length-take-le c.args.n c.args.list (omega arith) in
-    let all : max 1 l.i ≡ length q = omega (arith, c.requires.0) in
+    let q = c.args.list.now in
+    let all : max 1 l.i ≡ length q = omega (arith, c.requires) in
     let found : Leads (senior c.args.ranks.now) q (length q) l.place = rw (← all) l.invariant.0 in
-    (sym (rw (take-length q) at (leads-place (senior-weak c.args.ranks.now) q (length q) l.place (omega arith) found)), rw (← len) found.inside)
+    (sym (rw (take-length q) at (leads-place (senior-weak c.args.ranks.now) q (length q) l.place (omega arith) found)), found.inside)

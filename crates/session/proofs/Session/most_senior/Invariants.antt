@@ -8,4 +8,4 @@ use Rattle.session.proofs.Session.most_senior.Given as goal
 
 abbrev pub invariant-loop-i : goal.invariant-loop-i
 invariant-loop-i l =
-    Leads (senior l.ranks) l.t-items (max 1 l.i) l.place × (l.best ≡ rank l.ranks (get_or l.t-items l.place 0))
+    Leads (senior l.ranks) l.list (max 1 l.i) l.place × (l.best ≡ rank l.ranks (get_or l.list l.place 0))
