@@ -155,16 +155,23 @@ impl Item {
         }
     }
 
+    // The record with what it sends, and nothing happened besides.
+    fn quiet(self, outbox: Outbox) -> ItemStep
+        ensures { result ≡ record { item = self; outbox = outbox; event = Nothing } }
+    {
+        ItemStep {
+            item: self,
+            outbox,
+            event: Event::Nothing,
+        }
+    }
+
     // The message is dropped.
     fn dropped(self) -> ItemStep
         requires { Packed self }
         ensures { result ≡ step_of (dropped (unpacked self)) }
     {
-        ItemStep {
-            item: self,
-            outbox: Outbox::new(),
-            event: Event::Nothing,
-        }
+        self.quiet(Outbox::new())
     }
 
     #[tactic(auto, unfolding(crate::specs::Rules::on_request))]
@@ -190,11 +197,7 @@ impl Item {
     {
         let outbox = Outbox::single(t, Message::GRANT, 0, 0);
         self.holder = t;
-        ItemStep {
-            item: self,
-            outbox,
-            event: Event::Nothing,
-        }
+        self.quiet(outbox)
     }
 
     // Session t joins the end of the queue.
@@ -239,11 +242,7 @@ impl Item {
         ensures { result ≡ step_of (after free [] Nothing) }
     {
         self.holder = 0;
-        ItemStep {
-            item: self,
-            outbox: Outbox::new(),
-            event: Event::Nothing,
-        }
+        self.quiet(Outbox::new())
     }
 
     // The next holder has left the queue: it is granted the item, and the others are heard again. None of them is senior to it, so no probe goes out.
@@ -253,11 +252,7 @@ impl Item {
     {
         let mut outbox = Outbox::single(self.holder, Message::GRANT, 0, 0);
         self.resends(&mut outbox);
-        ItemStep {
-            item: self,
-            outbox,
-            event: Event::Nothing,
-        }
+        self.quiet(outbox)
     }
 
     #[tactic(auto, unfolding(crate::specs::Rules::on_probe))]
@@ -278,11 +273,7 @@ impl Item {
             };
         }
         let outbox = Outbox::single(holder, Message::PROBE, i, j);
-        ItemStep {
-            item: self,
-            outbox,
-            event: Event::Nothing,
-        }
+        self.quiet(outbox)
     }
 
     #[tactic(auto, unfolding(crate::specs::Rules::on_clean))]
@@ -298,11 +289,7 @@ impl Item {
         let others = self.without(self.place(t));
         self.probes(ranks, &mut outbox);
         others.resends(&mut outbox);
-        ItemStep {
-            item: self,
-            outbox,
-            event: Event::Nothing,
-        }
+        self.quiet(outbox)
     }
 
     #[tactic(auto, unfolding(crate::specs::Rules::on_rebroadcast))]
@@ -316,11 +303,7 @@ impl Item {
         let mut outbox = Outbox::new();
         self.probes(ranks, &mut outbox);
         self.resends(&mut outbox);
-        ItemStep {
-            item: self,
-            outbox,
-            event: Event::Nothing,
-        }
+        self.quiet(outbox)
     }
 
     fn on_withdraw(self, t: u8) -> ItemStep
@@ -329,11 +312,7 @@ impl Item {
     {
         let outbox = Outbox::single(t, Message::WITHDRAWN, 0, 0);
         let item = self.without(self.place(t));
-        ItemStep {
-            item,
-            outbox,
-            event: Event::Nothing,
-        }
+        item.quiet(outbox)
     }
 
     // What an item does on a message, by its kind. Any other kind is dropped.
