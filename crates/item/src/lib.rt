@@ -17,6 +17,7 @@ use message::{MAX_SESSIONS, Message, Outbox};
 use session::Session;
 
 // An item record by value: the first `waiting` elements of `queue` wait, in order, and zeros follow.
+// `holder` is kept as a number: 0 is none, as in the record's bytes.
 #[derive(Clone, Copy)]
 pub struct Item {
     pub holder: u8,
@@ -52,6 +53,7 @@ impl Item {
     pub const SIZE: usize = Item::QUEUE_PLACE + MAX_SESSIONS;
 
     // The record whose bytes stand at `at`.
+    // Kept beside those of Session, as `store` is: each has its own definition and fields, and a trait would hold two bodies and two clauses.
     pub fn load(t: &[u8], at: usize) -> Item
         requires { at + size ≤ length t.now }
         ensures { result ≡ item_at t.now at }
