@@ -17,6 +17,7 @@ use message::{MAX_SESSIONS, Message, Outbox};
 use session::Session;
 
 // An item record by value: the first `waiting` elements of `queue` wait, in order, and zeros follow.
+// `holder` is kept as a number: 0 is none, as in the record's bytes.
 #[derive(Clone, Copy)]
 pub struct Item {
     pub holder: u8,
@@ -52,6 +53,7 @@ impl Item {
     pub const SIZE: usize = Item::QUEUE_PLACE + MAX_SESSIONS;
 
     // The record whose bytes stand at `at`.
+    // Kept beside those of Session, as `store` is: each has its own definition and fields, and a trait would hold two bodies and two clauses.
     pub fn load(t: &[u8], at: usize) -> Item
         requires { at + size ≤ length t.now }
         ensures { result ≡ item_at t.now at }
@@ -155,16 +157,23 @@ impl Item {
         }
     }
 
+    // The record with what it sends, and nothing happened besides.
+    fn quiet(self, outbox: Outbox) -> ItemStep
+        ensures { result ≡ record { item = self; outbox = outbox; event = Nothing } }
+    {
+        ItemStep {
+            item: self,
+            outbox,
+            event: Event::Nothing,
+        }
+    }
+
     // The message is dropped.
     fn dropped(self) -> ItemStep
         requires { Packed self }
         ensures { result ≡ step_of (dropped (unpacked self)) }
     {
-        ItemStep {
-            item: self,
-            outbox: Outbox::new(),
-            event: Event::Nothing,
-        }
+        self.quiet(Outbox::new())
     }
 
     #[tactic(auto, unfolding(crate::specs::Rules::on_request))]
@@ -190,11 +199,7 @@ impl Item {
     {
         let outbox = Outbox::single(t, Message::GRANT, 0, 0);
         self.holder = t;
-        ItemStep {
-            item: self,
-            outbox,
-            event: Event::Nothing,
-        }
+        self.quiet(outbox)
     }
 
     // Session t joins the end of the queue.
@@ -239,11 +244,7 @@ impl Item {
         ensures { result ≡ step_of (after free [] Nothing) }
     {
         self.holder = 0;
-        ItemStep {
-            item: self,
-            outbox: Outbox::new(),
-            event: Event::Nothing,
-        }
+        self.quiet(Outbox::new())
     }
 
     // The next holder has left the queue: it is granted the item, and the others are heard again. None of them is senior to it, so no probe goes out.
@@ -253,11 +254,7 @@ impl Item {
     {
         let mut outbox = Outbox::single(self.holder, Message::GRANT, 0, 0);
         self.resends(&mut outbox);
-        ItemStep {
-            item: self,
-            outbox,
-            event: Event::Nothing,
-        }
+        self.quiet(outbox)
     }
 
     #[tactic(auto, unfolding(crate::specs::Rules::on_probe))]
@@ -278,11 +275,7 @@ impl Item {
             };
         }
         let outbox = Outbox::single(holder, Message::PROBE, i, j);
-        ItemStep {
-            item: self,
-            outbox,
-            event: Event::Nothing,
-        }
+        self.quiet(outbox)
     }
 
     #[tactic(auto, unfolding(crate::specs::Rules::on_clean))]
@@ -298,11 +291,7 @@ impl Item {
         let others = self.without(self.place(t));
         self.probes(ranks, &mut outbox);
         others.resends(&mut outbox);
-        ItemStep {
-            item: self,
-            outbox,
-            event: Event::Nothing,
-        }
+        self.quiet(outbox)
     }
 
     #[tactic(auto, unfolding(crate::specs::Rules::on_rebroadcast))]
@@ -316,11 +305,7 @@ impl Item {
         let mut outbox = Outbox::new();
         self.probes(ranks, &mut outbox);
         self.resends(&mut outbox);
-        ItemStep {
-            item: self,
-            outbox,
-            event: Event::Nothing,
-        }
+        self.quiet(outbox)
     }
 
     fn on_withdraw(self, t: u8) -> ItemStep
@@ -329,11 +314,7 @@ impl Item {
     {
         let outbox = Outbox::single(t, Message::WITHDRAWN, 0, 0);
         let item = self.without(self.place(t));
-        ItemStep {
-            item,
-            outbox,
-            event: Event::Nothing,
-        }
+        item.quiet(outbox)
     }
 
     // What an item does on a message, by its kind. Any other kind is dropped.

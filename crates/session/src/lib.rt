@@ -15,6 +15,7 @@ use message::{MAX_SESSIONS, Message, Outbox};
 
 // A session record by value. `held` is a mask: bit k - 1 is item k. Element i - 1 of `juniors` is the junior of the probe stored for
 // initiator i, or 0 for none.
+// `awaited` and the juniors are kept as numbers: 0 is none, as in the record's bytes.
 #[derive(Clone, Copy)]
 pub struct Session {
     pub stage: u8,
@@ -24,6 +25,7 @@ pub struct Session {
 }
 
 // The record that follows, with what it sends.
+// Kept beside item::ItemStep, which has an event: one generic type for both would be these two fields and an Option that no session fills.
 #[derive(Drop)]
 pub struct SessionStep {
     pub session: Session,
@@ -138,6 +140,7 @@ impl Session {
     }
 
     // A message of one kind to each held item but `but`, by rising item number.
+    // `but` is kept as a number: 0 is no item, so that each of them gets one.
     fn to_held(kind: u8, but: u8, held: u64) -> Outbox
         ensures { result ≡ to_held kind but held }
     {
@@ -267,6 +270,7 @@ impl Session {
     }
 
     // What a victim sends on its way out: a withdraw to the awaited item and, once that is answered, a release to each held item.
+    // Kept with a flag, though each caller passes a constant: what goes out before the answer and what only after it stand side by side.
     fn leaving(self, answered: bool) -> Outbox
         ensures { result ≡ cond answered (to_held Kind.release 0 self.held) (plain self.awaited Kind.withdraw ∷ []) }
     {

@@ -31,5 +31,5 @@ returns c =
     let q = (unpacked i).queue in
     let others : (unpacked c.without-others.result).queue ≡ without a.t q =
     holds-queue c.without-others.result i.holder (without a.t q) (taken_out i c.requires a.t c.place.result c.without-others.result c.place.ensures c.without-others.ensures) in
-    rw (ne_eqb _ _ c.if-holder-eq0.false)
+    rw (c.quiet.ensures, ne_eqb _ _ c.if-holder-eq0.false)
     (step_eq _ _ _ (unpacked i) _ c.requires.zeros (rw (c.resends.ensures, c.probes.ensures, c.single-outbox.ensures, others) refl))
