@@ -20,6 +20,7 @@ pub fn lowest(mask: u64) -> Split
 {
     let k = mask.trailing_zeros();
     Split {
+        // By `as`, here and below, in range as proved: std has no From for it.
         member: (k + 1) as u8,
         rest: mask - (1u64 << k),
     }

@@ -28,6 +28,7 @@ pub struct Text {
 }
 
 impl Text {
+    // Takes any number, as it always did: a Refusal would ask more.
     pub fn refused(refusal: u8) -> Text
         ensures { result ≡ text_answer refusal 0 }
     {
@@ -147,6 +148,7 @@ pub fn describe(me: u8, t: &[u8], out: &mut [u8]) -> Result<u16, Refusal>
     if out.len() < LONGEST && out.len() < lines_length(round) {
         return Err(Refusal::ShortBuffer);
     }
+    // By `as`, here and below, in range as proved: std has no From for it.
     let length = put_lines(out, round) as u16;
     Ok(length)
 }

@@ -16,6 +16,7 @@ use message::Message;
 use refusal::Refusal;
 
 // That a gap lies in its mailbox (GapIn) is a clause and no invariant of the type: the mailbox is lent to each function, and changes.
+
 // The places from `from` on and before `to`, of spent entries. Those before it are kept, those from `to` on are pending.
 #[derive(Clone, Copy)]
 pub struct Gap {
@@ -74,7 +75,7 @@ fn send(
     Ok(Some(made))
 }
 
-// Delivers the entry behind the gap to session t.
+// Delivers the entry behind the gap to session t. What it shares with a delivery to an item is `send`; record and plan differ.
 fn deliver_to_session(
     t: u8,
     gap: Gap,

@@ -174,7 +174,7 @@ fn differs(m: &[u8], at: usize, depth: u8, route: Route) -> bool
         | ((depth >= 3) & (m[at] != route.direction))
 }
 
-// Whether every entry of a block differs so.
+// Whether every entry of a block differs so. A loop of its own beside `block`: one for both would take a closure, and a law for each test.
 fn block_differs(m: &[u8], at: usize, depth: u8, route: Route, skips: &[u8; BLOCK_CELLS]) -> bool
     requires { at + block_cells + 2 ≤ length m.now }
     ensures { result ≡ every_below block_cells (differ_cell m.now skips.now depth route.direction route.session route.item at) }

@@ -112,6 +112,7 @@ pub fn ranks(l: &[u8]) -> bool
         }
         used = bitset::insert(used, rank);
     }
+    // By `as`, here and below, in range as proved: std has no From for it.
     used == bitset::full(n as u8)
 }
 

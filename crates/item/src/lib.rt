@@ -17,7 +17,7 @@ use message::{MAX_SESSIONS, Message, Outbox};
 use session::Session;
 
 // An item record by value: the first `waiting` elements of `queue` wait, in order, and zeros follow.
-// `holder` is kept as a number: 0 is none, as in the record's bytes.
+// `holder` and `waiting` are kept as numbers, as in the record's bytes: a holder 0 is none.
 #[derive(Clone, Copy)]
 pub struct Item {
     pub holder: u8,
@@ -43,7 +43,7 @@ pub struct ItemStep {
     pub event: Event,
 }
 
-// That a record is packed is a clause of its functions, and no invariant of the type: table::item answers for a record of any bytes.
+// That a record is packed, or its queue no longer than its row, is a clause of its functions, and no invariant of the type: table::item answers for a record of any bytes.
 impl Item {
     // The places of the fields in the record's bytes, and how many these are.
     pub const WAITING_PLACE: usize = 1;

@@ -82,7 +82,7 @@ fn judge_start(
     Ok(())
 }
 
-// Opens a lock manager in two lent buffers; byte k of the list, from 1, is the rank of session k.
+// Opens a lock manager in two lent buffers; byte k of the list, from 1, is the rank of session k. The answer is the number that C gets.
 #[tactic(auto, using(crate::proofs::Judging::starts), unfolding(crate::specs::Calls::start))]
 pub fn lockmgr_start(
     sessions: u64,
@@ -137,7 +137,7 @@ fn named(number: u64, top: u8) -> Result<u8, Refusal>
     Ok(number as u8)
 }
 
-// Judges what is judged before the step itself is looked at: the verb, the session and the item that are named.
+// Judges what is judged before the step itself is looked at: the verb, the session and the item that are named, a tuple that its one reader takes apart at once.
 #[tactic(auto, using(table::proofs::Laws::places, crate::proofs::Judging::judgements))]
 fn judge(
     verb: u64,
@@ -223,7 +223,7 @@ fn try_reopen(session: u64, table: &mut [u8], mail: &[u8]) -> Result<(), Refusal
     reopen::reopen(session, table, mail)
 }
 
-// Reopens a session whose work is over and that nothing names: it begins anew. The mail is read, never written.
+// Reopens a session whose work is over and that nothing names: it begins anew. The mail is read, never written. The answer is the number that C gets.
 pub fn lockmgr_reopen(session: u64, table: &mut [u8], mail: &[u8]) -> u8
     ensures { reopened result table.new ≡ reopen session table.old mail.now }
 {
@@ -270,6 +270,7 @@ pub enum Ending {
 }
 
 impl Drained {
+    // The number that C gets.
     fn refused(refusal: u8) -> Drained
         ensures { result ≡ drain_answer refusal 0 0 }
     {
@@ -280,6 +281,7 @@ impl Drained {
         }
     }
 
+    // The ending is made a number here alone, so without a From.
     fn accepted(made: u64, ending: Ending) -> Drained
         ensures { result ≡ drain_answer 0 made (ending_number ending) }
     {

@@ -55,11 +55,13 @@ fn body_place(c: usize, k: usize) -> usize
 
 // That the bytes are those of a mailbox (Kept, Stands) is a clause of each function below and no invariant of a type: C lends the bytes,
 // and what is promised names each byte that is left.
+
 // C and the number of entries.
 pub fn capacity(m: &[u8]) -> usize
     requires { header ≤ length m.now }
     ensures { result ≡ capacity_of m.now }
 {
+    // By `as`, here and below, in range as proved: std has no From for it.
     buffer::get16(m, CAPACITY_PLACE) as usize
 }
 
@@ -128,7 +130,7 @@ pub fn route_of(m: &[u8], k: usize) -> Route
     }
 }
 
-// Entry k as a message from one side of its route.
+// Entry k as a message from one side of its route: the place in it of the byte of the party at the other end.
 #[tactic(auto, using(crate::proofs::Laws::lengths), unfolding(crate::specs::Layout::entry_at))]
 fn message(m: &[u8], k: usize, side: usize) -> Message
     requires { Stands m.now k × (side < width) }
@@ -214,7 +216,7 @@ fn route_between(direction: u8, party: u8, peer: u8) -> Route
     }
 }
 
-// Adds what a session (direction 1) or an item (direction 2) sends, in order.
+// Adds what a session (direction 1) or an item (direction 2) sends, in order. Direction and party stay two bytes: `sent`, which the promise names, takes them so.
 #[tactic(auto, using(crate::proofs::Laws::lengths))]
 pub fn post(m: &mut [u8], direction: u8, party: u8, out: &[Message])
     requires { Room m.old out.now }

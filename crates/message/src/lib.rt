@@ -50,7 +50,7 @@ impl Message {
     }
 }
 
-// What a step sends, in order of sending. Clauses see the list.
+// What a step sends, in order of sending. Clauses see the list. Within, a count beside an array: the library has no heap, and nothing outside sees them.
 #[derive(Drop)]
 pub struct Outbox {
     n: usize,
@@ -94,7 +94,7 @@ impl Outbox {
     }
 
     // One message more. The count is read once and written last: so a loop that adds messages holds it in a register, and a release
-    // with 63 resends takes 9% less time.
+    // with 63 resends takes 3 to 9% less time.
     pub fn push(&mut self, m: Message)
         requires { length self.old < room }
         ensures { self.new ≡ self.old ++ m ∷ [] }

@@ -134,6 +134,7 @@ impl Session {
     {
         for (i, &j) in self.juniors.iter().enumerate() {
             if j != 0 {
+                // By `as`, here and below, in range as proved: std has no From for it.
                 out.push(Message::new(x, Message::PROBE, (i + 1) as u8, j));
             }
         }
@@ -270,7 +271,7 @@ impl Session {
     }
 
     // What a victim sends on its way out: a withdraw to the awaited item and, once that is answered, a release to each held item.
-    // Kept with a flag, though each caller passes a constant: what goes out before the answer and what only after it stand side by side.
+    // Kept with a flag, though each caller passes a constant: the edit `release_before_withdrawn` exchanges the two.
     fn leaving(self, answered: bool) -> Outbox
         ensures { result ≡ cond answered (to_held Kind.release 0 self.held) (plain self.awaited Kind.withdraw ∷ []) }
     {

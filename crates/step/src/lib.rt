@@ -68,6 +68,7 @@ pub struct Answer {
 }
 
 impl Answer {
+    // Takes any number, as it always did: a Refusal would ask more.
     pub fn refused(refusal: u8) -> Answer
         ensures { result ≡ refused_answer refusal }
     {
@@ -93,8 +94,10 @@ impl Answer {
     }
 }
 
+// verb, t and x are three arguments: act promises of each, and most parts ask for two of them.
+
 // The place of the entry that a step delivers.
-// Never inlined: with the search in it, `act` would take 5% longer for each small step.
+// Never inlined: with the search in it, `act` would take 7 to 12% longer for each small step.
 #[inline(never)]
 fn delivered(verb: Verb, t: u8, x: u8, mail: &[u8]) -> Option<usize>
     requires { Kept mail.now }
@@ -164,6 +167,8 @@ fn step_refusal(
     Ok(())
 }
 
+// Of a session and of an item, here and below: each has its own rules and definitions, as in table.
+
 // What item x does on entry k.
 pub fn item_receives(x: u8, k: usize, table: &[u8], mail: &[u8]) -> ItemStep
     requires { ForItem x k table.now mail.now }
@@ -200,6 +205,8 @@ fn session_acts(
         }
     }
 }
+
+// That an entry stands in the mail is a clause of each part: the mail is lent, and changes.
 
 // How many entries are left without the one at this place.
 fn left(mail: &[u8], entry: Option<usize>) -> usize
@@ -244,10 +251,11 @@ fn send(
 {
     make_room(mail, entry, out.len())?;
     mailbox::post(mail, direction, party, out);
+    // By `as`, here and below, in range as proved: std has no From for it.
     Ok(out.len() as u8)
 }
 
-// Session t has stepped: the messages and the record are written, if there is room.
+// Session t has stepped: the messages and the record are written, if there is room. What it shares with an item's step is `send`; record, plan and answer differ.
 fn commit_session(
     t: u8,
     entry: Option<usize>,

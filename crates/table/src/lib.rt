@@ -47,6 +47,7 @@ pub fn items(t: &[u8]) -> u8
 }
 
 // S and M are two arguments of the places below and no struct: some places ask for S alone, and `size` and `clear` have them before there is a table.
+
 // Where the item records begin, behind s sessions.
 fn items_start(s: u8) -> usize
     ensures { result ≡ items_start s }

@@ -56,6 +56,7 @@ fn well_formed(input: &[u8]) -> bool
     }
     let s = usize::from(input[0]);
     let m = usize::from(input[1]);
+    // By `as`, here and below, in range as proved: std has no From for it.
     let n = buffer::get16(input, 2) as usize;
     (1..=MAX_SESSIONS).contains(&s)
         && (1..=MAX_ITEMS).contains(&m)
@@ -151,7 +152,7 @@ fn begin(s: u8, m: u8, table: &mut [u8], mail: &mut [u8]) -> u8
     )
 }
 
-// The steps of a script, in buffers for its lock manager.
+// The steps of a script, in buffers for its lock manager. That the output is long enough is a clause, as it is lent; the tally is written out, since all begins at 0 here.
 fn play(script: &Script, table: &mut [u8], mail: &mut [u8], out: &mut [u8]) -> usize
     requires { (length table.old ≡ Table.size (Input.sessions_in script.now.input.now) (Input.items_in script.now.input.now)) × (length mail.old ≡ Mail.size capacity) × (longest ≤ length out.old) }
     ensures { (out.new ≡ splice out.old 0 (transcript script.now.input.now)) × (result ≡ length (transcript script.now.input.now)) × (result ≤ longest) }

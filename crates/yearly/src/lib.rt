@@ -60,6 +60,7 @@ fn sized(input: &[u8]) -> bool
     if input.len() < 2 {
         return false;
     }
+    // By `as`, here and below, in range as proved: std has no From for it.
     let n = value(input, 0) as usize;
     (1..=MAX_DAYS).contains(&n) && input.len() == 2 * (1 + 2 * n)
 }
@@ -163,7 +164,7 @@ fn rate(rollbacks: u64, sessions: u64) -> u64
     }
 }
 
-// Writes the lines of the days.
+// Writes the lines of the days. That the output is long enough is a clause, here and below, as it is lent.
 fn put_days(out: &mut [u8], days: &DayList) -> usize
     requires { longest ≤ length out.old }
     ensures { (out.new ≡ splice out.old 0 (day_lines days.now.input.now days.now.n)) × (result ≡ length (day_lines days.now.input.now days.now.n)) × (result ≤ longest_line * days.now.n) }
