@@ -36,7 +36,7 @@ pub enum Event {
 }
 
 // The record that follows, with what it sends and what happened.
-#[derive(Drop)]
+#[derive(Clone, Copy)]
 pub struct ItemStep {
     pub item: Item,
     pub outbox: Outbox,

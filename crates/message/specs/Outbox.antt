@@ -1,5 +1,5 @@
--- The messages of a step: how many there may be, and one from its parts.
-use Rattle.std.specs.Prelude.{ℕ, ◌+◌, ◌*◌}
+-- The messages of a step: how many there may be, one from its parts, and the array that holds a list of them.
+use Rattle.std.specs.Prelude.{ℕ, ◌+◌, ◌*◌, ◌-◌, List, ◌++◌, length, replicate}
 use Rattle.message.specs.declared.Message.{Message}
 use Rattle.message.specs.Limits.{max_sessions}
 
@@ -13,3 +13,7 @@ message peer kind a b = record { peer = peer; kind = kind; a = a; b = b }
 -- a message of a kind that carries no sessions
 abbrev pub plain : ℕ → ℕ → Message
 plain peer kind = message peer kind 0 0
+
+-- the messages, then blanks
+unfoldable pub cells : List Message → List Message
+cells l = l ++ replicate (room - length l) (plain 0 0)

@@ -26,7 +26,7 @@ pub struct Session {
 
 // The record that follows, with what it sends.
 // Kept beside item::ItemStep, which has an event: one generic type for both would be these two fields and an Option that no session fills.
-#[derive(Drop)]
+#[derive(Clone, Copy)]
 pub struct SessionStep {
     pub session: Session,
     pub outbox: Outbox,
