@@ -94,7 +94,7 @@ module _ {r a : Around} (whole : a ≡ r) (xs : List Wait) (b : Around) (by : Yi
 
 module _ (t : List ℕ) (me : ℕ) where
   -- the session k waits on
-  abbrev ahead : ℕ → ℕ
+  abbrev pub ahead : ℕ → ℕ
   ahead k = reached (waits_for t) k me
 
   -- the sessions of the cycle
@@ -114,7 +114,7 @@ module _ {t : List ℕ} (f : Formed t) {me n : ℕ} (o : OnCycle t me) (long : n
   all-ahead : (k : ℕ) → k < n → get_or (all t me) k 0 ≡ ahead t me k
   all-ahead k h = around-at (waits_for t) (sessions_of t) me k (omega (arith, long))
 
-  best_one : Best t me 1 me
+  pub best_one : Best t me 1 me
   unfolding reached
   best_one = record { place = 0; there = sym (all-ahead 0 (omega (arith, long, o.some))); leads = leads_one (senior-weak (Table.ranks t)) (all t me) }
 

@@ -107,11 +107,11 @@ module _ (M : ℕ) (locks : ℕ → Lock) (me : ℕ) {n : ℕ} where
   item-spent e x = rw (e) refl
 
   module _ (f : n ≡ 0 → ⊥) where
-    session-step : (s : ℕ) → walk_from_session n M locks me s ≡ cond (eqb (waits_at M locks s) 0) 0 (walk_from_item (n - 1) M locks me (waits_at M locks s))
+    pub session-step : (s : ℕ) → walk_from_session n M locks me s ≡ cond (eqb (waits_at M locks s) 0) 0 (walk_from_item (n - 1) M locks me (waits_at M locks s))
     unfolding walk_from_session
     session-step s = ap (λ (k : ℕ). walk_from_session k M locks me s) (left n f)
 
-    item-step : (x : ℕ) → walk_from_item n M locks me x ≡ cond (eqb (locks x).holder me) 1 (one_more (walk_from_session (n - 1) M locks me (locks x).holder))
+    pub item-step : (x : ℕ) → walk_from_item n M locks me x ≡ cond (eqb (locks x).holder me) 1 (one_more (walk_from_session (n - 1) M locks me (locks x).holder))
     unfolding walk_from_session
     item-step x = ap (λ (k : ℕ). walk_from_item k M locks me x) (left n f)
 
