@@ -97,7 +97,7 @@ impl Answer {
 // verb, t and x are three arguments: act promises of each, and most parts ask for two of them.
 
 // The place of the entry that a step delivers.
-// Never inlined: with the search in it, `act` would take 7 to 12% longer for each small step.
+// Never inlined: with the search in it, `act` would take some 5% longer for the smallest steps.
 #[inline(never)]
 fn delivered(verb: Verb, t: u8, x: u8, mail: &[u8]) -> Option<usize>
     requires { Kept mail.now }
